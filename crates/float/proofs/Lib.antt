@@ -1,0 +1,9 @@
+pub mod Nans
+pub mod Patterns
+pub mod Grid
+pub mod Correct
+pub mod Unique
+pub mod Monotone
+pub mod Again
+pub mod Nearby
+pub mod Cases

@@ -1,0 +1,5 @@
+pub mod Squares
+pub mod Floors
+pub mod Halves
+pub mod Rooted
+pub mod Branches

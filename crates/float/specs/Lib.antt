@@ -1,0 +1,4 @@
+pub mod Root
+pub mod Whole
+pub mod Convert
+pub mod Near
