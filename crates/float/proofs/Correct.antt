@@ -15,14 +15,14 @@ use Rattle.float.specs.Root.{root, isqrt, sq, unsigned, CorrectRoot}
 use Rattle.float.proofs.Grid.{Grid, on-grid}
 use Rattle.float.proofs.sqrt.Squares.{sq-mono, sq-lt, small}
 use Rattle.float.proofs.sqrt.Floors.{Floor, even-root, isqrt-floor}
-use Rattle.float.proofs.sqrt.Rooted.{Shifted, shifted, shift, as-square, root-is, digits-ge, root-fits}
+use Rattle.float.proofs.sqrt.Rooted.{Shifted, shifted, wide, halfExponent, Lifted, lifted, lift, finer, moved, root-is, digits-ge, root-fits}
 
 -- ---- two values of the grid
 same-unit : (m i k : ℕ) → k ≤ i → m * 2 ^ i ≡ m * 2 ^ (i - k) * 2 ^ k
 same-unit m i k h = ap (λ (x : ℕ). m * 2 ^ x) (omega arith) ∙ ap (λ (x : ℕ). m * x) (pow-add 2 (i - k) k) ∙ sym (mul-assoc m (2 ^ (i - k)) (2 ^ k))
 
-finer : (m i j : ℕ) → m < 2 ^ 24 → i < suc j → m * 2 ^ i < 2 ^ 23 * 2 ^ suc j
-finer m i j h l =
+below-unit : (m i j : ℕ) → m < 2 ^ 24 → i < suc j → m * 2 ^ i < 2 ^ 23 * 2 ^ suc j
+below-unit m i j h l =
     lt-of-lt-of-le (mul-lt-mul-of-pos-right h (pow-pos i))
     (le-trans (mul-le-mul-left (2 ^ 24) (pow-mono {j = j} (omega arith)))
     (le-of-eq (mul-assoc (2 ^ 23) 2 (2 ^ j) ∙ ap (λ (x : ℕ). 2 ^ 23 * x) (mul-comm 2 (2 ^ j) ∙ sym (pow-suc 2 j)))))
@@ -34,7 +34,7 @@ next-up m i q j h a l = go (decLe (suc j) i)
     go (yes g) =
         let e = same-unit m i (suc j) g in
         le-trans (mul-le-mul-right (2 ^ suc j) (lt-of-mul-lt-mul-right (2 ^ suc j) (lt-of-lt-of-le l (le-of-eq e)))) (le-of-eq (sym e))
-    go (no g) = absurd (not-le-of-lt l (le-trans (le-of-lt (finer m i j h (lt-of-not-le g))) (mul-le-mul-right (2 ^ suc j) a)))
+    go (no g) = absurd (not-le-of-lt l (le-trans (le-of-lt (below-unit m i j h (lt-of-not-le g))) (mul-le-mul-right (2 ^ suc j) a)))
 
 next-down : (m i q j : ℕ) → m < 2 ^ 24 → 2 ^ 23 ≤ q → m * 2 ^ i < suc q * 2 ^ suc j → m * 2 ^ i ≤ q * 2 ^ suc j
 next-down m i q j h a l = go (decLe (suc j) i)
@@ -44,7 +44,7 @@ next-down m i q j h a l = go (decLe (suc j) i)
         let e = same-unit m i (suc j) g in
         let o : m * 2 ^ (i - suc j) < suc q = lt-of-mul-lt-mul-right (2 ^ suc j) (lt-of-le-of-lt (le-of-eq (sym e)) l) in
         le-trans (le-of-eq e) (mul-le-mul-right (2 ^ suc j) (omega arith))
-    go (no g) = le-trans (le-of-lt (finer m i j h (lt-of-not-le g))) (mul-le-mul-right (2 ^ suc j) a)
+    go (no g) = le-trans (le-of-lt (below-unit m i j h (lt-of-not-le g))) (mul-le-mul-right (2 ^ suc j) a)
 
 -- ---- in units of 2 ^ -149: r is (s / 2 + s % 2) * 2 ^ suc j, y is m * 2 ^ i, and the root is that of n * (2 ^ j * 2 ^ j)
 twice : (s j : ℕ) → s * 2 * j * (s * 2 * j) ≡ s * s * (j * j) * 4
@@ -176,29 +176,30 @@ root-correct x tx px =
     let i = gx .i in
     let m-pos : 0 < m = first-pos m (2 ^ i) (value-pos x (m * 2 ^ i) l px (pow-pos 149) (gx .value)) in
     let i-lt : i < 277 = gx .least in
-    let k = shift m (i + 149) in
-    let w = shifted m (i + 149) m-pos (lt-of-lt-of-le (gx .small) (lit≤ tt)) in
-    let k-le : k ≤ 50 = w .most in
-    let j = (i + 149 - k) / 2 in
-    let n = m * 2 ^ k in
+    let up = lifted m m-pos (gx .small) in
+    let z-le : lift m ≤ 23 = up .most in
+    let w = m * 2 ^ lift m in
+    let t = i + (149 - lift m) in
+    let h = shifted w t (up .lo) (up .hi) (omega arith) in
+    let n = wide w t in
+    let j = halfExponent t in
     let s = isqrt n in
     let fs : Floor n s = isqrt-floor n in
     let N = m * 2 ^ i in
-    let even : k + (j + j) ≡ i + 149 = omega arith in
-    let e : N * l ≡ n * (2 ^ j * 2 ^ j) = as-square m i k j even in
-    let lo : 2 ^ 24 ≤ s = digits-ge n s (w .lo) fs in
-    let hi : s < 2 ^ 25 = small s n (fs .0) (w .hi) in
+    let e : N * l ≡ n * (2 ^ j * 2 ^ j) = moved m i (lift m) (omega arith) ∙ h .square in
+    let lo : 2 ^ 24 ≤ s = digits-ge n s (h .lo) fs in
+    let hi : s < 2 ^ 25 = small s n (fs .0) (h .hi) in
     let q = s / 2 + s % 2 in
     let A = q * 2 ^ suc j in
     let r = root binary32 x in
     let hu : HasValue (units binary32 false q (suc j)) false A l = units-in q (suc j) (omega arith) (omega arith) in
-    let hr : HasValue r false A l = subst (λ (z : Float). HasValue z false A l) (sym (root-is n j s N e (w .lo) (w .hi) (w .even) fs x (gx .value))) hu in
+    let hr : HasValue r false A l = subst (λ (z : Float). HasValue z false A l) (sym (root-is n j s (h .lo) (h .hi) (h .even) fs x (finer x N (n * (2 ^ j * 2 ^ j)) e (gx .value)))) hu in
     record {
       held = root-fits x tx;
       finite = has→unsigned r A l hr;
       nearest = λ y ty uy.
           let gy = unsigned-grid y ty uy in
           let Y = gy .q * 2 ^ (gy .i) in
-          let both = nearer (num r) (den r) (num y) (den y) (num x) (den x) A Y N (n * (2 ^ j * 2 ^ j)) l (pow-pos 149) (den-pos r) (den-pos y) (den-pos x) (value→cross r A l hr) (value→cross y Y l (gy .value)) (value→cross x N l (gx .value)) e (above n j s (gy .q) (gy .i) lo (w .even) fs (gy .small)) (below n j s (gy .q) (gy .i) lo (w .even) fs (gy .small)) in
+          let both = nearer (num r) (den r) (num y) (den y) (num x) (den x) A Y N (n * (2 ^ j * 2 ^ j)) l (pow-pos 149) (den-pos r) (den-pos y) (den-pos x) (value→cross r A l hr) (value→cross y Y l (gy .value)) (value→cross x N l (gx .value)) e (above n j s (gy .q) (gy .i) lo (h .even) fs (gy .small)) (below n j s (gy .q) (gy .i) lo (h .even) fs (gy .small)) in
           (λ h. both .0 (lt→cross r y A Y l hr (gy .value) h), λ h. both .1 (lt→cross y r Y A l (gy .value) hr h));
     }

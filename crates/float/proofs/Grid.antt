@@ -20,7 +20,7 @@ pub record Grid (s : Bool) (y : Float) : Type 0 where
   pub lead : (0 < q) ⊎ (i ≡ 0)
   pub value : HasValue y s (q * 2 ^ i) (2 ^ 149)
 
-pow-lt-back : (a b : ℕ) → 2 ^ a < 2 ^ b → a < b
+pub pow-lt-back : (a b : ℕ) → 2 ^ a < 2 ^ b → a < b
 pow-lt-back a b h = lt-of-not-le (λ (g : b ≤ a). not-le-of-lt h (pow-mono g))
 
 pow-le-back : (a b : ℕ) → 2 ^ a ≤ 2 ^ b → a ≤ b

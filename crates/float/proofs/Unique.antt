@@ -15,7 +15,7 @@ use Rattle.float.proofs.Patterns.{toBits-of}
 use Rattle.float.proofs.Correct.{unsigned-grid, root-correct}
 use Rattle.float.proofs.Grid.{Grid}
 
-cross→lt : (x y : Float) → T (unsigned x) → T (unsigned y) → num x * den y < num y * den x → T (lt x y)
+pub cross→lt : (x y : Float) → T (unsigned x) → T (unsigned y) → num x * den y < num y * den x → T (lt x y)
 unfolding lt
 cross→lt nan y p q h = absurd p
 cross→lt (inf s) y p q h = absurd p

@@ -1,6 +1,7 @@
 // f32 as the physics uses it: root, roundings, conversions and quantizing. Each function has a value
 // for every argument, and equals its definition in `specs/`.
 mod convert;
+mod segments;
 mod sqrt;
 mod whole;
 

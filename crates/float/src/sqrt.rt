@@ -1,9 +1,13 @@
-// The correctly rounded root: a guess by floats, of which nothing is said, is made exact over whole numbers.
+// The correctly rounded root, over whole numbers: a guess, of which nothing is said, is made exact.
+use crate::segments::c0;
+use crate::segments::c1;
+use crate::segments::c2;
+use crate::segments::c3;
 ghost use mathlib.Core.Path.{_≡_};
-ghost use mathlib.Core.Bool.{not, false};
+ghost use mathlib.Core.Bool.{false};
 ghost use Prim.Native.Nat.{ℕ, _+_, _*_, _≤_, _<_, _^_};
 ghost use lib.Dec.{T};
-ghost use lib.Ieee.{Float, binary32, fits, isNan, ofBits};
+ghost use lib.Ieee.{Float, binary32, fits, ofBits};
 ghost use lib.Ieee.Exact.{HasValue};
 ghost use Rattle.float.specs.Root.{root};
 
@@ -14,7 +18,7 @@ pub fn root(x: f32) -> f32
     if x > 0.0 {
         let b = f32::to_bits(x);
         if b < 0x7f80_0000 {
-            f32::from_bits(root_bits(b, guess(x)))
+            f32::from_bits(root_bits(b))
         } else {
             x
         }
@@ -26,44 +30,46 @@ pub fn root(x: f32) -> f32
 }
 
 // The pattern of the root of the positive value with the pattern b.
-fn root_bits(b: u32, g: u64) -> u32
+fn root_bits(b: u32) -> u32
     requires { ⌜ (0 < b) × (b < 2139095040) ⌝ }
     ensures { λ r. ⌜ (r < 2139095040) × (ofBits binary32 r ≡ root binary32 (ofBits binary32 b)) ⌝ }
 {
     let e = b / 0x80_0000;
     let f = b % 0x80_0000;
+    let mut w = f + 0x80_0000;
+    let mut t = e + 148;
     if e == 0 {
-        root_parts(f, 0, g)
-    } else {
-        root_parts(f + 0x80_0000, e - 1, g)
+        let z = u32::leading_zeros(f) - 8;
+        w = f << z;
+        t = 149 - z;
     }
+    root_parts(w, t)
 }
 
-// The pattern of the root of m * 2^(i - 149): m is brought to 49 or 50 digits, so that its root has 25.
-fn root_parts(m: u32, i: u32, g: u64) -> u32
-    requires { ⌜ (0 < m) × (m < 2 ^ 24) × (i < 254) ⌝ }
-    ensures { λ r. ⌜ (r < 2139095040) × ((x : Float) → T (fits binary32 x) → HasValue x false (m * 2 ^ i) (2 ^ 149) → ofBits binary32 r ≡ root binary32 x) ⌝ }
+// The pattern of the root of w * 2^(t - 298), for a w of 24 digits: with 49 or 50 it has a root of 25, and t is even.
+fn root_parts(w: u32, t: u32) -> u32
+    requires { ⌜ (2 ^ 23 ≤ w) × (w < 2 ^ 24) × (126 ≤ t) × (t < 403) ⌝ }
+    ensures { λ r. ⌜ (r < 2139095040) × ((x : Float) → T (fits binary32 x) → HasValue x false (w * 2 ^ t) (2 ^ 298) → ofBits binary32 r ≡ root binary32 x) ⌝ }
 {
-    let t = i + 149;
-    let z = u32::leading_zeros(m) + 17;
-    let sh = z + (z + t) % 2;
-    let n = (m as u64) << sh;
-    let j = (t - sh) / 2;
-    let s = isqrt(n, g);
-    let q = ((s + 1) / 2) as u32;
-    (j + 1) * 0x80_0000 + q
+    let p = (t + 1) % 2;
+    let n = (w as u64) << (25 + p);
+    let s = isqrt(n, guess(w % 0x80_0000 + t % 2 * 0x80_0000));
+    let j = (t - 25 - p) / 2;
+    (j + 1) * 0x80_0000 + ((s + 1) / 2) as u32
 }
 
 // The largest s with s * s <= n, from any guess at it.
 fn isqrt(n: u64, guess: u64) -> u64
-    requires { ⌜ n < 2 ^ 50 ⌝ }
+    requires { ⌜ (n < 2 ^ 50) × (guess < 2 ^ 25) ⌝ }
     ensures { λ s. ⌜ (s * s ≤ n) × (n < (s + 1) * (s + 1)) ⌝ }
 {
-    if guess < 0x200_0000 {
-        raised(n, lowered(n, guess))
-    } else {
-        raised(n, lowered(n, 0x1ff_ffff))
+    let q = guess * guess;
+    if q <= n {
+        if n - q <= 2 * guess {
+            return guess;
+        }
     }
+    raised(n, lowered(n, guess))
 }
 
 // The largest number up to s whose square is at most n.
@@ -90,26 +96,20 @@ fn raised(n: u64, s: u64) -> u64
     r
 }
 
-// A guess at the first 25 binary digits of x's root: Newton's method from the halved exponent.
-fn guess(x: f32) -> u64
-    requires { ⌜ T (not (isNan x)) ⌝ }
+// A guess at the root of w * 2^(25 + p), for a w of 24 digits, by the digits below the first and 1 - p above them.
+fn guess(v: u32) -> u64
+    ensures { λ r. ⌜ r < 2 ^ 25 ⌝ }
 {
-    let a = x as f64;
-    let h = a * 0.5;
-    let y = f64::from_bits(0x5fe6_eb50_c7b5_37a9 - (f64::to_bits(a) % 0x8000_0000_0000_0000) / 2);
-    digits(a * newton(h, newton(h, newton(h, y))))
+    let k = (v / 0x8_0000 % 32) as u64;
+    let d = (v % 0x8_0000) as u64;
+    let bend = c2(k) - scaled(c3(k), d);
+    (c0(k) + scaled(c1(k), d) - scaled(bend, scaled(d, d))) / 128 % 0x200_0000
 }
 
-// A step of Newton's method towards 1 / √(2h).
-fn newton(h: f64, y: f64) -> f64 {
-    y * (1.5 - h * y * y)
-}
-
-// The first 25 binary digits of r.
-fn digits(r: f64) -> u64 {
-    if r > 0.0 {
-        (f64::to_bits(r) % 0x10_0000_0000_0000 + 0x10_0000_0000_0000) / 0x1000_0000
-    } else {
-        0
-    }
+// a times b / 2^19, cut.
+fn scaled(a: u64, b: u64) -> u64
+    requires { ⌜ (a < 2 ^ 32) × (b < 2 ^ 19) ⌝ }
+    ensures { λ r. ⌜ r ≤ a ⌝ }
+{
+    a * b / 0x8_0000
 }

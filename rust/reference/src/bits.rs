@@ -5,9 +5,8 @@ const CANONICAL_NAN: u32 = 0x7fc0_0000;
 
 pub trait Bits: Copy {
     fn from_pattern(pattern: u32) -> Self;
+    /// Every NaN has the same pattern here.
     fn to_pattern(self) -> u32;
-    /// As `to_pattern`, with one pattern for all NaNs.
-    fn to_canonical(self) -> u32;
 }
 
 impl Bits for f32 {
@@ -18,11 +17,6 @@ impl Bits for f32 {
 
     #[inline]
     fn to_pattern(self) -> u32 {
-        self.to_bits()
-    }
-
-    #[inline]
-    fn to_canonical(self) -> u32 {
         if self.is_nan() {
             CANONICAL_NAN
         } else {
@@ -41,15 +35,10 @@ impl Bits for i32 {
     fn to_pattern(self) -> u32 {
         self as u32
     }
-
-    #[inline]
-    fn to_canonical(self) -> u32 {
-        self as u32
-    }
 }
 
 /// Calls `function` on the value that `pattern` stands for.
 #[inline]
 pub fn on_bits<A: Bits, R: Bits>(function: impl Fn(A) -> R, pattern: u32) -> u32 {
-    function(A::from_pattern(pattern)).to_canonical()
+    function(A::from_pattern(pattern)).to_pattern()
 }

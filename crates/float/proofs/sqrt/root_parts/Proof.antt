@@ -1,60 +1,57 @@
 -- `float::sqrt::root_parts` meets its contract. Assumes nothing.
-use mathlib.Core.Path.{_≡_, sym, ap, _∙_, subst}
-use Prim.Native.Nat.{ℕ, suc, _+_, _-_, _*_, _/_, _%_, _^_, _≤_, _<_}
+use mathlib.Core.Path.{_≡_, sym, subst}
+use Prim.Native.Nat.{ℕ, suc, _+_, _*_, _%_, _^_, _≤_, _<_}
 use native.Mathlib.Numerals.{add-one}
 use native.Mathlib.Omega.{arith}
 use borrow.Author.Needs.{needs}
-use lib.Count.{leadingZeros, leading-le}
-use lib.Ieee.{binary32, ofBits}
 use Rattle.float.proofs.sqrt.Squares.{small}
 use Rattle.float.proofs.sqrt.Floors.{Floor}
-use Rattle.float.proofs.sqrt.Rooted.{Shifted, shifted, shift, root-pattern}
+use Rattle.float.proofs.sqrt.Rooted.{wide, Shifted, shifted, root-pattern}
 use Rattle.float.proofs.sqrt.root_parts.Statement.{statement}
 use Rattle.float.proofs.sqrt.root_parts.Tie as tie
 
-facts : (c : tie.Start) → Shifted (c .args .m) (c .args .i + 149)
-facts c = shifted (c .args .m) (c .args .i + 149) (c .pre .0) (c .fits .m .fits)
+facts : (c : tie.Start) → Shifted (c .args .w) (c .args .t)
+facts c = shifted (c .args .w) (c .args .t) (c .pre .0) (c .pre .1) (omega arith)
 
--- the root's whole part, of the number itself
-floor : (c : tie.After-isqrt) → Floor (c .before .args .m * 2 ^ shift (c .before .args .m) (c .before .args .i + 149)) (c .isqrt .result)
+floor : (c : tie.After-isqrt) → Floor (wide (c .before .before .args .w) (c .before .before .args .t)) (c .isqrt .result)
 floor c =
-    let w = facts (c .before) in
+    let w = facts (c .before .before) in
     let s = c .isqrt .result in
-    let n = c .before .args .m * 2 ^ shift (c .before .args .m) (c .before .args .i + 149) in
-    (subst (λ (n : ℕ). s * s ≤ n) (w .whole) (c .isqrt .ensures .0), subst (λ (n : ℕ). n < suc s * suc s) (w .whole) (subst (λ (k : ℕ). n % 2 ^ 64 < k * k) (add-one s) (c .isqrt .ensures .1)))
+    let n = wide (c .before .before .args .w) (c .before .before .args .t) in
+    (subst (λ (k : ℕ). s * s ≤ k) (w .whole) (c .isqrt .ensures .0), subst (λ (k : ℕ). k < suc s * suc s) (w .whole) (subst (λ (k : ℕ). n % 2 ^ 64 < k * k) (add-one s) (c .isqrt .ensures .1)))
 
 bound : (c : tie.After-isqrt) → c .isqrt .result < 2 ^ 25
-bound c = small (c .isqrt .result) _ (floor c .0) (facts (c .before) .hi)
+bound c = small (c .isqrt .result) _ (floor c .0) (facts (c .before .before) .hi)
 
-add-t : tie.Need-add-t
-add-t c = search needs
+add-p : tie.Need-add-p
+add-p c = search needs
 
-add-z : tie.Need-add-z
-add-z c = omega (arith, leading-le 32 (c .args .m))
-
-add-sh : tie.Need-add-sh
-add-sh c = omega (arith, leading-le 32 (c .args .m))
-
-add-sh-2 : tie.Need-add-sh-2
-add-sh-2 c = omega (arith, leading-le 32 (c .args .m))
+add-n : tie.Need-add-n
+add-n c = search needs
 
 cast-n : tie.Need-cast-n
-cast-n c = omega (arith, leading-le 32 (c .args .m))
+cast-n c = search needs
 
 shl-n : tie.Need-shl-n
-shl-n c = omega (arith, leading-le 32 (c .args .m))
+shl-n c = search needs
 
-sub-j : tie.Need-sub-j
-sub-j c = omega (arith, leading-le 32 (c .args .m))
+mul-guess : tie.Need-mul-guess
+mul-guess c = search needs
+
+add-guess : tie.Need-add-guess
+add-guess c = search needs
+
+guess-requires : tie.Need-guess-requires
+guess-requires c κs = search needs
 
 isqrt-requires : tie.Need-isqrt-requires
-isqrt-requires c κs = subst (λ (n : ℕ). n < 2 ^ 50) (sym (facts c .whole)) (facts c .hi)
+isqrt-requires c κs = (subst (λ (n : ℕ). n < 2 ^ 50) (sym (facts (c .before) .whole)) (facts (c .before) .hi), c .guess .ensures)
 
-add-q : tie.Need-add-q
-add-q c = omega (arith, bound c)
+sub-j : tie.Need-sub-j
+sub-j c = search needs
 
-cast-q : tie.Need-cast-q
-cast-q c = omega (arith, bound c)
+sub-j-2 : tie.Need-sub-j-2
+sub-j-2 c = search needs
 
 add-result : tie.Need-add-result
 add-result c = search needs
@@ -65,38 +62,32 @@ mul-result c = search needs
 add-result-2 : tie.Need-add-result-2
 add-result-2 c = omega (arith, bound c)
 
-pattern : (j s : ℕ) → suc j * 8388608 + (s / 2 + s % 2) ≡ (j + 1) * 8388608 + (s + 1) / 2
-pattern j s = omega arith
+cast-result : tie.Need-cast-result
+cast-result c = omega (arith, bound c)
+
+add-result-3 : tie.Need-add-result-3
+add-result-3 c = omega (arith, bound c)
 
 returns : tie.Need-returns
-returns c = (
-  omega (arith, bound c),
-  λ x f v.
-      let m = c .before .args .m in
-      let i = c .before .args .i in
-      let s = c .isqrt .result in
-      let j = (i + 149 - shift m (i + 149)) / 2 in
-      let most : shift m (i + 149) ≤ 50 = facts (c .before) .most in
-      let p = c .before .pre in
-      let e : shift m (i + 149) + (j + j) ≡ i + 149 = omega arith in
-      ap (ofBits binary32) (sym (pattern j s)) ∙ root-pattern m i j s (p .0) (c .before .fits .m .fits) (p .2) e (floor c) x f v,
-)
+returns c = let s = c .before .before in (omega (arith, bound c), root-pattern (s .args .w) (s .args .t) (c .isqrt .result) (s .pre .0) (s .pre .1) (s .pre .2) (s .pre .3) (floor c))
 
 pub root-parts-spec : {M : Type 1} → statement M
 root-parts-spec =
     tie.close
     (tie.spec
-    add-t
-    add-z
-    add-sh
-    add-sh-2
+    add-p
+    add-n
     cast-n
     shl-n
-    sub-j
+    mul-guess
+    add-guess
+    guess-requires
     isqrt-requires
-    add-q
-    cast-q
+    sub-j
+    sub-j-2
     add-result
     mul-result
     add-result-2
+    cast-result
+    add-result-3
     returns)
