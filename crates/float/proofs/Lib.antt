@@ -4,6 +4,8 @@ pub mod Grid
 pub mod Correct
 pub mod Unique
 pub mod Monotone
+pub mod Wholes
+pub mod Scaled
 pub mod Again
 pub mod Nearby
 pub mod Cases

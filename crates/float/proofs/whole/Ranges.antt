@@ -34,7 +34,7 @@ pub signed-in : (s : Bool) (r : ℕ) → r < 2 ^ 31 → signed 31 s r ≡ cond s
 signed-in true r h = ap (λ (k : ℕ). negℤ (pos k)) (under-end r (2 ^ 31) h)
 signed-in false r h = ap pos (under-last r (2 ^ 31) h)
 
-signed-out : (s : Bool) (r : ℕ) → 2 ^ 31 ≤ r → signed 31 s r ≡ cond s (negℤ (pos (2 ^ 31))) (pos (2 ^ 31 - 1))
+pub signed-out : (s : Bool) (r : ℕ) → 2 ^ 31 ≤ r → signed 31 s r ≡ cond s (negℤ (pos (2 ^ 31))) (pos (2 ^ 31 - 1))
 signed-out true r h = ap (λ (k : ℕ). negℤ (pos k)) (over-end r (2 ^ 31) h)
 signed-out false r h = ap pos (over-end r (2 ^ 31 - 1) (omega arith))
 
@@ -44,7 +44,7 @@ at-value u nan s n h = absurd h
 at-value u (inf t) s n h = absurd h
 at-value u (fin t m g) s n h = ap (λ (b : Bool). signed 31 b (cut u (m * up g) (down g))) (h .0) ∙ ap (signed 31 s) (cut-same u (m * up g) (down g) n (2 ^ 149) (down-pos g) (pow-pos 149) (h .1))
 
-far : (u n l : ℕ) → 0 < l → 2 ^ 31 * l ≤ n → 2 ^ 31 ≤ cut u n l
+pub far : (u n l : ℕ) → 0 < l → 2 ^ 31 * l ≤ n → 2 ^ 31 ≤ cut u n l
 far u n l L h = le-div-iff-mul-le (mul-pos L (lit< tt)) .1 (le-trans (le-of-eq (sym (mul-assoc (2 ^ 31) l 2))) (le-trans (mul-le-mul-right 2 h) (le-add-right (n * 2) (u * l))))
 
 -- ---- by the pattern p of the value
