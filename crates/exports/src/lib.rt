@@ -1,7 +1,7 @@
-// The C interface: each function is the one of `float` with its name.
+// The C interface: each function is the one of `root` or `float` with its name.
 ghost use mathlib.Core.Path.{_≡_};
 ghost use lib.Ieee.{binary32};
-ghost use Rattle.float.specs.Root.{root};
+ghost use Rattle.root.specs.Root.{root};
 ghost use Rattle.float.specs.Whole.{roundToI32, truncToI32};
 ghost use Rattle.float.specs.Convert.{i32ToF32, hundredthsToF32, quantize, to256ths, from256ths, quantize256ths};
 
@@ -9,7 +9,7 @@ ghost use Rattle.float.specs.Convert.{i32ToF32, hundredthsToF32, quantize, to25
 pub extern "C" fn ponguriena_root(x: f32) -> f32
     ensures { λ r. ⌜ r ≡ root binary32 x ⌝ }
 {
-    float::root(x)
+    root::root(x)
 }
 
 #[no_mangle]

@@ -14,7 +14,7 @@ use lib.Ieee.Fits.{mul-fits}
 use Rattle.float.specs.Whole.{cut, signed, wholeOf, roundToI32}
 use Rattle.float.specs.Convert.{c256, i32ToF32, quantize, to256ths, from256ths, quantize256ths}
 use Rattle.float.specs.Near.{withSign}
-use Rattle.float.proofs.Grid.{Grid, on-grid}
+use Rattle.binary32.proofs.Grid.{Grid, on-grid}
 use Rattle.float.proofs.Wholes.{Digits, few-digits, rounded-digits, digits-back, top-back, bottom-back}
 use Rattle.float.proofs.Scaled.{from256ths-back}
 use Rattle.float.proofs.whole.Ranges.{at-value, signed-in, signed-out, far}

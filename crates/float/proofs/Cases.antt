@@ -1,14 +1,11 @@
--- Proved cases of document 01 that speak of floats alone, as one joint fact, by computation. Assumes nothing.
+-- Proved cases 2 to 6 of document 01, as far as they speak of floats alone, as one joint fact, by computation. Assumes nothing.
 use mathlib.Core.Path.{_≡_, refl}
 use lib.IntN.{pos, negsuc}
-use lib.Ieee.{nan, binary32, ofBits, toBits, round, mul, div, ofInt}
-use Rattle.float.specs.Root.{root, rootOf, isqrt}
+use lib.Ieee.{nan, binary32, ofBits, mul, div, ofInt}
 use Rattle.float.specs.Whole.{wholeOf, roundToI32}
 use Rattle.float.specs.Convert.{i32ToF32, quantize, to256ths, from256ths, quantize256ths}
 
 pub record Cases : Type 0 where
-  -- (1) root of 0x00000001
-  pub least-root : toBits binary32 (root binary32 (ofBits binary32 0x0000_0001)) ≡ 0x1a35_04f3
   -- (2) -0.5, 2.5 and 0x3EFFFFFF
   pub minus-half : roundToI32 (ofBits binary32 0xbf00_0000) ≡ negsuc 0
   pub two-and-a-half : roundToI32 (ofBits binary32 0x4020_0000) ≡ pos 3
@@ -24,5 +21,5 @@ pub record Cases : Type 0 where
   pub not-a-number : quantize nan ≡ ofBits binary32 0
 
 pub cases : Cases
-unfolding root rootOf isqrt toBits ofBits round wholeOf i32ToF32 ofInt quantize quantize256ths to256ths from256ths mul div
-cases = record { least-root = refl; minus-half = refl; two-and-a-half = refl; below-half = refl; top = refl; tie-up = refl; tie-down = refl; seventeen-and-a-half = refl; not-a-number = refl }
+unfolding ofBits wholeOf i32ToF32 ofInt quantize quantize256ths to256ths from256ths mul div
+cases = record { minus-half = refl; two-and-a-half = refl; below-half = refl; top = refl; tie-up = refl; tie-down = refl; seventeen-and-a-half = refl; not-a-number = refl }

@@ -1,9 +1,3 @@
-pub mod Nans
-pub mod Patterns
-pub mod Grid
-pub mod Correct
-pub mod Unique
-pub mod Monotone
 pub mod Wholes
 pub mod Scaled
 pub mod Again

@@ -12,7 +12,7 @@ use lib.Ieee.Fits.{down-pos}
 use Rattle.float.specs.Whole.{cut, signed, wholeOf, roundToI32}
 use Rattle.float.specs.Convert.{c256, to256ths}
 use Rattle.float.specs.Near.{Below, withSign, WithinHalf}
-use Rattle.float.proofs.Grid.{Grid, on-grid, units-lt, exponent-lt}
+use Rattle.binary32.proofs.Grid.{Grid, on-grid, units-lt, exponent-lt}
 use Rattle.float.proofs.Scaled.{eight-more, mul256}
 use Rattle.float.proofs.whole.Cut.{cut-same}
 use Rattle.float.proofs.whole.Ranges.{at-value, signed-in}

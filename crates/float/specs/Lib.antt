@@ -1,4 +1,3 @@
-pub mod Root
 pub mod Whole
 pub mod Convert
 pub mod Near

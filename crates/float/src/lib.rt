@@ -1,8 +1,6 @@
-// f32 as the physics uses it: root, roundings, conversions and quantizing. Each function has a value
-// for every argument, and equals its definition in `specs/`.
+// f32 as the physics uses it: roundings, conversions and quantizing. Each function has a value for every
+// argument, and equals its definition in `specs/`.
 mod convert;
-mod segments;
-mod sqrt;
 mod whole;
 
 pub use convert::from_256ths;
@@ -11,6 +9,5 @@ pub use convert::i32_to_f32;
 pub use convert::quantize;
 pub use convert::quantize_256ths;
 pub use convert::to_256ths;
-pub use sqrt::root;
 pub use whole::round_to_i32;
 pub use whole::trunc_to_i32;

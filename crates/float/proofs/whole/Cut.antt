@@ -7,7 +7,7 @@ use lib.Dec.{lit<, lit≤}
 use lib.Pow.{pow-pos, pow-add, pow-mono, shl-lt}
 use lib.Ieee.Nearest.{div-same}
 use Rattle.float.specs.Whole.{cut}
-use Rattle.float.proofs.Patterns.{unitsOf}
+use Rattle.binary32.proofs.Patterns.{unitsOf}
 
 -- ---- by the exponent's field
 pub cut-low : (u e t : ℕ) → u < 2 → t < 8388608 → e < 126 → cut u (unitsOf e t) (2 ^ 149) ≡ 0

@@ -17,8 +17,8 @@ use borrow.Author.Tests.{lt-leb}
 use mir.Syntax.{w32}
 use mir.Val.{SFits, Fits}
 use Rattle.float.specs.Whole.{cut, signed, wholeOf}
-use Rattle.float.proofs.Nans.{unequal-nan}
-use Rattle.float.proofs.Patterns.{unitsOf, sign, body, fields-of, fields-value, pattern-value}
+use Rattle.binary32.proofs.Nans.{unequal-nan}
+use Rattle.binary32.proofs.Patterns.{unitsOf, sign, body, fields-of, fields-value, pattern-value}
 use Rattle.float.proofs.whole.Cut.{cut-same, cut-zero}
 
 under-end : (r c : ℕ) → r < c → min r c ≡ r

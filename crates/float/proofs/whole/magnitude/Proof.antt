@@ -9,7 +9,7 @@ use lib.Dec.{lit≤}
 use lib.Ieee.{binary32, ofBits}
 use lib.Ieee.Exact.{HasValue}
 use Rattle.float.specs.Whole.{cut}
-use Rattle.float.proofs.Patterns.{unitsOf, pattern-value, same-units}
+use Rattle.binary32.proofs.Patterns.{unitsOf, pattern-value, same-units}
 use Rattle.float.proofs.whole.Cut.{cut-low, cut-middle, cut-high, high-lt}
 use Rattle.float.proofs.whole.magnitude.Statement.{statement}
 use Rattle.float.proofs.whole.magnitude.Tie as tie

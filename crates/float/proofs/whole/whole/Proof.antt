@@ -11,7 +11,7 @@ use lib.Ieee.{binary32, fits, toBits}
 use mir.Syntax.{w32}
 use mir.Val.{SFits, toZ, ofZ}
 use mir.Facts.{toZ-pos, toZ-ofZ}
-use Rattle.float.proofs.Nans.{equal-no-nan}
+use Rattle.binary32.proofs.Nans.{equal-no-nan}
 use Rattle.float.proofs.whole.Ranges.{in-range, out-of-range, at-nan, minus, neg-fits}
 use Rattle.float.proofs.whole.whole.Statement.{statement}
 use Rattle.float.proofs.whole.whole.Tie as tie

@@ -1,0 +1,3 @@
+pub mod Nans
+pub mod Patterns
+pub mod Grid

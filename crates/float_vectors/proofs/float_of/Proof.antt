@@ -1,0 +1,18 @@
+-- `float_vectors::float_of` is safe. Assumes nothing.
+use borrow.Author.Needs.{needs}
+use lib.Ieee.{binary32}
+use Rattle.binary32.proofs.Nans.{body-no-nan}
+use Rattle.float_vectors.proofs.float_of.Statement.{statement}
+use Rattle.float_vectors.proofs.float_of.Tie as tie
+
+float-from-bits-result : tie.Need-float-from-bits-result
+float-from-bits-result c = body-no-nan binary32 (c .before .args .pattern) (c .if1 .taken)
+
+returns : tie.Need-returns
+returns c = search needs
+
+returns-2 : tie.Need-returns-2
+returns-2 c = search needs
+
+pub float-of-spec : {M : Type 1} → statement M
+float-of-spec = tie.close (tie.spec float-from-bits-result returns returns-2)

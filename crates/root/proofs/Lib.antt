@@ -1,0 +1,9 @@
+pub mod Squares
+pub mod Floors
+pub mod Halves
+pub mod Rooted
+pub mod Branches
+pub mod Correct
+pub mod Unique
+pub mod Monotone
+pub mod Cases
