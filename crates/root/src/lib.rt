@@ -1,6 +1,4 @@
 // The correctly rounded root, over whole numbers: a guess, of which nothing is said, is made exact.
-mod segments;
-
 use segments::c0;
 use segments::c1;
 use segments::c2;

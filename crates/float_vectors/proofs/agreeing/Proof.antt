@@ -1,4 +1,4 @@
--- `float_vectors::agreeing` is safe and ends. Assumes nothing.
+-- `float_vectors::agreeing` meets its contract. Assumes nothing.
 use Prim.Native.Nat.{_-_, _*_, _/_, _≤_}
 use mathlib.Core.Path.{_≡_}
 use mathlib.Core.Logic.{⊎-elim}
@@ -9,10 +9,10 @@ use Rattle.float_vectors.proofs.agreeing.Statement.{statement}
 use Rattle.float_vectors.proofs.agreeing.Tie as tie
 
 abbrev Inv-loop : tie.InvT-loop
-Inv-loop text which good₀ i₀ i-end good i = (i ≤ i-end) × (good ≤ i) × (i-end ≡ length text / 18)
+Inv-loop text good₀ i₀ i-end good i = (i ≤ i-end) × (good ≤ i) × (i-end ≡ length text / 20)
 
 abbrev μ-loop : tie.MeasureT-loop
-μ-loop text which good₀ i₀ i-end good i = i-end - i
+μ-loop text good₀ i₀ i-end good i = i-end - i
 
 loop-holds : tie.Need-loop-holds Inv-loop μ-loop
 loop-holds c = omega arith
@@ -20,38 +20,26 @@ loop-holds c = omega arith
 mul-start : tie.Need-mul-start Inv-loop μ-loop
 mul-start c = omega arith
 
-sub-word : tie.Need-sub-word Inv-loop μ-loop
-sub-word c = omega arith
+add-end : tie.Need-add-end Inv-loop μ-loop
+add-end c = omega arith
 
-part-word-start : tie.Need-part-word-start Inv-loop μ-loop
-part-word-start c = search needs
+sub-line : tie.Need-sub-line Inv-loop μ-loop
+sub-line c = omega arith
 
-part-word-end : tie.Need-part-word-end Inv-loop μ-loop
-part-word-end c = search needs
+part-line-start : tie.Need-part-line-start Inv-loop μ-loop
+part-line-start c = search needs
 
-word-requires : tie.Need-word-requires Inv-loop μ-loop
-word-requires c κs = tt
+part-line-end : tie.Need-part-line-end Inv-loop μ-loop
+part-line-end c = search needs
 
-add-word : tie.Need-add-word Inv-loop μ-loop
-add-word c = omega arith
-
-sub-word-2 : tie.Need-sub-word-2 Inv-loop μ-loop
-sub-word-2 c = omega arith
-
-part-word-start-2 : tie.Need-part-word-start-2 Inv-loop μ-loop
-part-word-start-2 c = search needs
-
-part-word-end-2 : tie.Need-part-word-end-2 Inv-loop μ-loop
-part-word-end-2 c = search needs
-
-word-requires-2 : tie.Need-word-requires-2 Inv-loop μ-loop
-word-requires-2 c κs = tt
-
-agrees-requires : tie.Need-agrees-requires Inv-loop μ-loop
-agrees-requires c κs = tt
+line-agrees-requires : tie.Need-line-agrees-requires Inv-loop μ-loop
+line-agrees-requires c κs = tt
 
 add-good : tie.Need-add-good Inv-loop μ-loop
 add-good c = omega arith
+
+write-all-requires : tie.Need-write-all-requires Inv-loop μ-loop
+write-all-requires c κs = tt
 
 add-i : tie.Need-add-i Inv-loop μ-loop
 add-i c = omega arith
@@ -63,7 +51,7 @@ loop-again : tie.Need-loop-again Inv-loop μ-loop
 loop-again c = ⊎-elim (λ w. omega arith) (λ w. omega arith) (c .if1 .came)
 
 returns : tie.Need-returns Inv-loop μ-loop
-returns c = tt
+returns c = omega arith
 
 pub agreeing-spec : {M : Type 1} → statement M
 agreeing-spec =
@@ -73,17 +61,13 @@ agreeing-spec =
     μ-loop
     loop-holds
     mul-start
-    sub-word
-    part-word-start
-    part-word-end
-    word-requires
-    add-word
-    sub-word-2
-    part-word-start-2
-    part-word-end-2
-    word-requires-2
-    agrees-requires
+    add-end
+    sub-line
+    part-line-start
+    part-line-end
+    line-agrees-requires
     add-good
+    write-all-requires
     add-i
     loop-less
     loop-again
