@@ -37,3 +37,8 @@ module _ {S S' R R' : Type 0} (f : ℕ → S → Turn S R) (g : ℕ → S' → T
   unfolding run
   run-alike k zero i s t p = p
   run-alike k (suc n) i s t p = next-alike n i (f i s) (g i t) (run-alike k n (suc i)) (k i s t p)
+
+pub fold-kept : {S : Type 0} (f : ℕ → S → S) (P : S → Type 0) → ((i : ℕ) (s : S) → P s → P (f i s)) → (n i : ℕ) (s : S) → P s → P (fold f n i s)
+unfolding fold
+fold-kept f P k zero i s p = p
+fold-kept f P k (suc n) i s p = fold-kept f P k n (suc i) (f i s) (k i s p)

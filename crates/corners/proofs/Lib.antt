@@ -1,0 +1,6 @@
+pub mod Sign
+pub mod Reach
+pub mod Gap
+pub mod Crossing
+pub mod Corner
+pub mod Quantized
