@@ -1,3 +1,1 @@
 pub mod Maps
-pub mod Corners
-pub mod Clear

@@ -6,7 +6,7 @@ use Prim.Native.Nat.{ℕ, _*_, _≤_}
 use lib.Dec.{T, leb, eqb, leb→le, eqb→eq}
 use lib.ListN.{length}
 use lib.Ieee.Fits.{and-l, and-r}
-use Rattle.tiles.specs.declared.map.Sides.{Sides}
+use Rattle.tiles.specs.declared.Sides.{Sides}
 use Rattle.tiles.specs.Map.{isSide, isMap}
 
 pub is-side : (n : ℕ) → T (isSide n) → (1 ≤ n) × (n ≤ 1024)

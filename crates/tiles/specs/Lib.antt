@@ -1,3 +1,1 @@
 pub mod Map
-pub mod Box
-pub mod Line

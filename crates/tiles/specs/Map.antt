@@ -7,7 +7,7 @@ use lib.ListN.{length, getD}
 use lib.IntN.{ℤ, pos, negsuc}
 use Rattle.vector.specs.declared.vec2.{vec2}
 use Rattle.corners.specs.Tile.{tileAt}
-use Rattle.tiles.specs.declared.map.Sides.{Sides}
+use Rattle.tiles.specs.declared.Sides.{Sides}
 use Rattle.tiles.specs.declared.point.Tile.{Tile}
 use Rattle.tiles.specs.declared.point.Tile.the-variants.{Open, Normal, Unhookable}
 

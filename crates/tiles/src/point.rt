@@ -1,6 +1,6 @@
 // Which tile a point is on.
-use crate::map::Sides;
-use crate::map::count;
+use crate::Sides;
+use crate::count;
 use vector::vec2;
 ghost use mathlib.Core.Path.{_≡_};
 ghost use Prim.Native.Nat.{_<_};
