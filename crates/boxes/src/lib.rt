@@ -1,9 +1,9 @@
 // A box on the map, and its walk.
 use tiles::MOST_TURNS;
 use tiles::Sides;
+use tiles::Tile;
 use tiles::count;
 use tiles::is_map;
-use tiles::Tile;
 use tiles::tile_at;
 use tiles::tile_in;
 use vector::vec2;

@@ -1,4 +1,8 @@
-// The C interface: each function is the one of `root` or `float` with its name.
+// The C interface: each function is the one of the crates below with its name.
+mod walks;
+
+pub use walks::ponguriena_check_line;
+pub use walks::ponguriena_move_box;
 ghost use mathlib.Core.Path.{_≡_};
 ghost use lib.Ieee.{binary32};
 ghost use Rattle.root.specs.Root.{root};

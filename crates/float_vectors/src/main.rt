@@ -2,7 +2,13 @@
 // a function's number, an argument's pattern and the answer's, in 8 hexadecimal digits each; rust/record prints them.
 use libc::STDIN_FILENO;
 use libc::STDOUT_FILENO;
-ghost use Prim.Native.Nat.{_≤_, _<_, _/_};
+use vectors::float_of;
+use vectors::hex;
+use vectors::int_of;
+use vectors::is_float;
+use vectors::is_int;
+use vectors::word;
+ghost use Prim.Native.Nat.{_≤_, _/_};
 ghost use lib.ListN.{length};
 
 // The length of a line, and where the argument and the answer begin in it.
@@ -85,60 +91,4 @@ fn agrees(which: u32, argument: u32, answer: u32) -> bool {
         7 => is_float(float::from_256ths(int_of(argument)), answer),
         _ => is_float(float::quantize_256ths(float_of(argument)), answer),
     }
-}
-
-// The first 8 digits as a number.
-fn word(text: &[u8]) -> u32 {
-    let mut value: u32 = 0;
-    for i in 0..8usize {
-        if i < text.len() {
-            value = value % 0x1000_0000 * 16 + hex(text[i]);
-        }
-    }
-    value
-}
-
-fn hex(byte: u8) -> u32
-    ensures { λ r. ⌜ r < 16 ⌝ }
-{
-    if 48 <= byte {
-        if byte < 58 {
-            return (byte - 48) as u32;
-        }
-    }
-    if 97 <= byte {
-        if byte < 103 {
-            return (byte - 87) as u32;
-        }
-    }
-    0
-}
-
-// Any not-a-number counts as any other, so its pattern is not kept.
-fn float_of(pattern: u32) -> f32 {
-    if pattern % 0x8000_0000 <= 0x7f80_0000 {
-        f32::from_bits(pattern)
-    } else {
-        0.0 / 0.0
-    }
-}
-
-fn int_of(pattern: u32) -> i32 {
-    if pattern < 0x8000_0000 {
-        pattern as i32
-    } else {
-        (pattern as i64 - 0x1_0000_0000) as i32
-    }
-}
-
-fn is_float(x: f32, pattern: u32) -> bool {
-    if x != x {
-        0x7f80_0000 < pattern % 0x8000_0000
-    } else {
-        f32::to_bits(x) == pattern
-    }
-}
-
-fn is_int(n: i32, pattern: u32) -> bool {
-    n == int_of(pattern)
 }

@@ -1,10 +1,10 @@
 // The line walk: the first solid tile from one point to another.
 use tiles::MOST_TURNS;
 use tiles::Sides;
-use tiles::count;
-use tiles::is_map;
 use tiles::Tile;
 use tiles::check_point;
+use tiles::count;
+use tiles::is_map;
 use vector::vec2;
 ghost use mathlib.Core.Path.{_≡_};
 ghost use lib.Dec.{T};

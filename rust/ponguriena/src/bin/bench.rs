@@ -1,12 +1,10 @@
 //! Time per call, in throughput, of the port and of the reference.
 
 use reference::Xorshift;
-use std::hint::black_box;
-use std::time::Instant;
+use timing::{print_heading, print_row};
 
 const INPUTS: usize = 4096;
 const PASSES: usize = 32;
-const ROUNDS: usize = 200;
 
 /// The inputs called `game` lie between minus this and this.
 const GAME_LIMIT: f32 = 20000.0;
@@ -19,6 +17,7 @@ macro_rules! row {
         print_row(
             stringify!($name),
             $kind,
+            PASSES,
             $inputs,
             ponguriena::$name,
             reference::$name,
@@ -27,10 +26,7 @@ macro_rules! row {
 }
 
 fn main() {
-    println!(
-        "{:<16} {:<6} {:>9} {:>9} {:>9}",
-        "name", "inputs", "port ns", "Rust ns", "ratio"
-    );
+    print_heading();
     let mut random = Xorshift::default();
     let floats = inputs(|| random.within(GAME_LIMIT));
     let roots = inputs(|| random.within(GAME_LIMIT).abs());
@@ -52,35 +48,4 @@ fn print_rows(kind: &str, floats: &[f32], roots: &[f32], integers: &[i32]) {
     row!(trunc_to_i32, kind, floats);
     row!(i32_to_f32, kind, integers);
     row!(quantize_256ths, kind, floats);
-}
-
-fn print_row<A: Copy, R>(
-    name: &str,
-    kind: &str,
-    inputs: &[A],
-    port: impl Fn(A) -> R,
-    reference: impl Fn(A) -> R,
-) {
-    let mut port_time = f64::INFINITY;
-    let mut reference_time = f64::INFINITY;
-    // In turn, so that a change of the clock rate meets both.
-    for _ in 0..ROUNDS {
-        port_time = port_time.min(time_per_call(&port, inputs));
-        reference_time = reference_time.min(time_per_call(&reference, inputs));
-    }
-    let ratio = port_time / reference_time;
-    println!("{name:<16} {kind:<6} {port_time:>9.2} {reference_time:>9.2} {ratio:>9.2}");
-}
-
-/// Nanoseconds, with the cost of the loop itself, which is the same for both.
-fn time_per_call<A: Copy, R>(function: impl Fn(A) -> R, inputs: &[A]) -> f64 {
-    let start = Instant::now();
-    for _ in 0..PASSES {
-        for &input in inputs {
-            // Single calls are compared: without black_box the compiler may
-            // work on several inputs with one vector instruction.
-            black_box(function(input));
-        }
-    }
-    start.elapsed().as_nanos() as f64 / (PASSES * inputs.len()) as f64
 }

@@ -1,8 +1,8 @@
--- `float_vectors::is_float` is safe. Assumes nothing.
+-- `vectors::is_float` is safe. Assumes nothing.
 use borrow.Author.Needs.{needs}
 use Rattle.binary32.proofs.Nans.{equal-no-nan}
-use Rattle.float_vectors.proofs.is_float.Statement.{statement}
-use Rattle.float_vectors.proofs.is_float.Tie as tie
+use Rattle.vectors.proofs.is_float.Statement.{statement}
+use Rattle.vectors.proofs.is_float.Tie as tie
 
 float-to-bits-result : tie.Need-float-to-bits-result
 float-to-bits-result c = equal-no-nan (c .before .args .x) (c .if1 .left)

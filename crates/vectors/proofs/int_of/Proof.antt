@@ -1,4 +1,4 @@
--- `float_vectors::int_of` is safe. Assumes nothing.
+-- `vectors::int_of` is safe. Assumes nothing.
 use mathlib.Core.Path.{_≡_, sym, ap, _∙_, subst}
 use mathlib.Core.Bool.{Bool, cond}
 use Prim.Native.Nat.{ℕ, suc, _-_, _^_, _≤_, _<_}
@@ -11,8 +11,8 @@ use lib.IntN.{ℤ, pos, negsuc, _-ℤ_}
 use mir.Syntax.{w32, w64}
 use mir.Val.{SFits, toZ, ofZ}
 use mir.Facts.{toZ-pos, toZ-ofZ, sfits-widen}
-use Rattle.float_vectors.proofs.int_of.Statement.{statement}
-use Rattle.float_vectors.proofs.int_of.Tie as tie
+use Rattle.vectors.proofs.int_of.Statement.{statement}
+use Rattle.vectors.proofs.int_of.Tie as tie
 
 -- p - 2 ^ 32, for the upper half of the patterns
 wrapped : (p : ℕ) → p < 2 ^ 32 → toZ w64 p -ℤ pos 4294967296 ≡ negsuc (4294967296 - suc p)

@@ -1,9 +1,9 @@
--- `float_vectors::float_of` is safe. Assumes nothing.
+-- `vectors::float_of` is safe. Assumes nothing.
 use borrow.Author.Needs.{needs}
 use lib.Ieee.{binary32}
 use Rattle.binary32.proofs.Nans.{body-no-nan}
-use Rattle.float_vectors.proofs.float_of.Statement.{statement}
-use Rattle.float_vectors.proofs.float_of.Tie as tie
+use Rattle.vectors.proofs.float_of.Statement.{statement}
+use Rattle.vectors.proofs.float_of.Tie as tie
 
 float-from-bits-result : tie.Need-float-from-bits-result
 float-from-bits-result c = body-no-nan binary32 (c .before .args .pattern) (c .if1 .taken)

@@ -1,9 +1,9 @@
--- `float_vectors::word` is safe and ends. Assumes nothing.
+-- `vectors::word` is safe and ends. Assumes nothing.
 use Prim.Native.Nat.{_-_, _≤_}
 use native.Mathlib.Omega.{arith}
 use borrow.Author.Needs.{needs}
-use Rattle.float_vectors.proofs.word.Statement.{statement}
-use Rattle.float_vectors.proofs.word.Tie as tie
+use Rattle.vectors.proofs.word.Statement.{statement}
+use Rattle.vectors.proofs.word.Tie as tie
 
 abbrev Inv-loop : tie.InvT-loop
 Inv-loop text value₀ i₀ value i = i ≤ 8

@@ -1,0 +1,58 @@
+// Reading recorded vectors: a pattern is 8 hexadecimal digits, and any not-a-number counts as any other.
+ghost use Prim.Native.Nat.{_<_};
+
+// The first 8 digits as a number.
+pub fn word(text: &[u8]) -> u32 {
+    let mut value: u32 = 0;
+    for i in 0..8usize {
+        if i < text.len() {
+            value = value % 0x1000_0000 * 16 + hex(text[i]);
+        }
+    }
+    value
+}
+
+pub fn hex(byte: u8) -> u32
+    ensures { λ r. ⌜ r < 16 ⌝ }
+{
+    if 48 <= byte {
+        if byte < 58 {
+            return (byte - 48) as u32;
+        }
+    }
+    if 97 <= byte {
+        if byte < 103 {
+            return (byte - 87) as u32;
+        }
+    }
+    0
+}
+
+// Any not-a-number counts as any other, so its pattern is not kept.
+pub fn float_of(pattern: u32) -> f32 {
+    if pattern % 0x8000_0000 <= 0x7f80_0000 {
+        f32::from_bits(pattern)
+    } else {
+        0.0 / 0.0
+    }
+}
+
+pub fn int_of(pattern: u32) -> i32 {
+    if pattern < 0x8000_0000 {
+        pattern as i32
+    } else {
+        (pattern as i64 - 0x1_0000_0000) as i32
+    }
+}
+
+pub fn is_float(x: f32, pattern: u32) -> bool {
+    if x != x {
+        0x7f80_0000 < pattern % 0x8000_0000
+    } else {
+        f32::to_bits(x) == pattern
+    }
+}
+
+pub fn is_int(n: i32, pattern: u32) -> bool {
+    n == int_of(pattern)
+}

@@ -1,0 +1,103 @@
+//! The walks of a line and of a box over a tile map. `world` of libtw2 says in
+//! Rust what each of them means, document 01 when it is refused.
+
+unsafe extern "C" {
+    // `tiles` must point to `tiles_length` bytes.
+    fn ponguriena_check_line(
+        width: u32,
+        height: u32,
+        tiles: *const u8,
+        tiles_length: usize,
+        from_x: f32,
+        from_y: f32,
+        to_x: f32,
+        to_y: f32,
+        point_x: &mut f32,
+        point_y: &mut f32,
+        tile: &mut u32,
+    ) -> u32;
+    fn ponguriena_move_box(
+        width: u32,
+        height: u32,
+        tiles: *const u8,
+        tiles_length: usize,
+        pos_x: &mut f32,
+        pos_y: &mut f32,
+        vel_x: &mut f32,
+        vel_y: &mut f32,
+        box_x: f32,
+        box_y: f32,
+    ) -> u32;
+}
+
+const NOT_REFUSED: u32 = 0;
+const NOTHING: u32 = 0;
+
+/// Row by row; a map whose sides do not fit its tiles is refused.
+#[derive(Clone, Copy)]
+pub struct Map<'a> {
+    pub width: u32,
+    pub height: u32,
+    pub tiles: &'a [u8],
+}
+
+/// The first point of the line that is solid, with its tile: 1 Normal, 3 Unhookable.
+/// The error is the number of the refusal: 1 map at fault, 9 too many turns.
+#[inline]
+pub fn check_line(map: Map, from: [f32; 2], to: [f32; 2]) -> Result<Option<([f32; 2], u32)>, u32> {
+    let [mut point_x, mut point_y] = [0.0; 2];
+    let mut tile = NOTHING;
+    // SAFETY: the pointer and the length are those of one slice.
+    let refusal = unsafe {
+        ponguriena_check_line(
+            map.width,
+            map.height,
+            map.tiles.as_ptr(),
+            map.tiles.len(),
+            from[0],
+            from[1],
+            to[0],
+            to[1],
+            &mut point_x,
+            &mut point_y,
+            &mut tile,
+        )
+    };
+    match (refusal, tile) {
+        (NOT_REFUSED, NOTHING) => Ok(None),
+        (NOT_REFUSED, _) => Ok(Some(([point_x, point_y], tile))),
+        _ => Err(refusal),
+    }
+}
+
+/// The position and the velocity after the move of a box of the size `box_`.
+/// The error is the number of the refusal: 1 map at fault, 9 too many turns.
+#[inline]
+pub fn move_box(
+    map: Map,
+    pos: [f32; 2],
+    vel: [f32; 2],
+    box_: [f32; 2],
+) -> Result<([f32; 2], [f32; 2]), u32> {
+    let [mut pos_x, mut pos_y] = pos;
+    let [mut vel_x, mut vel_y] = vel;
+    // SAFETY: the pointer and the length are those of one slice.
+    let refusal = unsafe {
+        ponguriena_move_box(
+            map.width,
+            map.height,
+            map.tiles.as_ptr(),
+            map.tiles.len(),
+            &mut pos_x,
+            &mut pos_y,
+            &mut vel_x,
+            &mut vel_y,
+            box_[0],
+            box_[1],
+        )
+    };
+    match refusal {
+        NOT_REFUSED => Ok(([pos_x, pos_y], [vel_x, vel_y])),
+        _ => Err(refusal),
+    }
+}

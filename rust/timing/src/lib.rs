@@ -1,0 +1,46 @@
+//! Time per call, in throughput, of the port and of the Rust it is compared with.
+
+use std::hint::black_box;
+use std::time::Instant;
+
+const ROUNDS: usize = 200;
+
+pub fn print_heading() {
+    println!(
+        "{:<16} {:<9} {:>9} {:>9} {:>9}",
+        "name", "inputs", "port ns", "Rust ns", "ratio"
+    );
+}
+
+/// Every round makes so many passes over the inputs; the fastest round counts.
+pub fn print_row<A: Copy, R>(
+    name: &str,
+    kind: &str,
+    passes: usize,
+    inputs: &[A],
+    mut port: impl FnMut(A) -> R,
+    mut reference: impl FnMut(A) -> R,
+) {
+    let mut port_time = f64::INFINITY;
+    let mut reference_time = f64::INFINITY;
+    // In turn, so that a change of the clock rate meets both.
+    for _ in 0..ROUNDS {
+        port_time = port_time.min(time_per_call(&mut port, passes, inputs));
+        reference_time = reference_time.min(time_per_call(&mut reference, passes, inputs));
+    }
+    let ratio = port_time / reference_time;
+    println!("{name:<16} {kind:<9} {port_time:>9.2} {reference_time:>9.2} {ratio:>9.2}");
+}
+
+/// Nanoseconds, with the cost of the loop itself, which is the same for both.
+fn time_per_call<A: Copy, R>(mut function: impl FnMut(A) -> R, passes: usize, inputs: &[A]) -> f64 {
+    let start = Instant::now();
+    for _ in 0..passes {
+        for &input in inputs {
+            // Single calls are compared: without black_box the compiler may
+            // work on several inputs with one vector instruction.
+            black_box(function(input));
+        }
+    }
+    start.elapsed().as_nanos() as f64 / (passes * inputs.len()) as f64
+}

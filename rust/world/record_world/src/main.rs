@@ -1,0 +1,32 @@
+//! Prints test vectors for the program `tiles_vectors`: calls of `check_line` and
+//! `move_box` with the answers of libtw2. All lines have the same length.
+
+mod boxes;
+mod case;
+mod draw;
+mod lines;
+mod maps;
+#[cfg(test)]
+mod tests;
+
+use case::Case;
+use reference::Xorshift;
+use std::collections::HashSet;
+
+fn main() {
+    let mut seen = HashSet::new();
+    for case in all_cases() {
+        let text = case.text();
+        if seen.insert(text.clone()) {
+            println!("{text}");
+        }
+    }
+}
+
+fn all_cases() -> Vec<Case> {
+    let mut random = Xorshift::default();
+    let maps = maps::all_maps(&mut random);
+    let mut cases = lines::line_cases(&maps, &mut random);
+    cases.extend(boxes::box_cases(&maps, &mut random));
+    cases
+}

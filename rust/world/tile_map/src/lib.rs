@@ -1,0 +1,77 @@
+//! A tile map by the point rule of document 01.
+
+use original::{Collision, CollisionType, vec2};
+use reference::round_to_i32;
+
+const TILE: i32 = 32;
+
+const NORMAL: u8 = 1;
+const UNHOOKABLE: u8 = 3;
+
+#[derive(Clone)]
+pub struct Map {
+    pub width: usize,
+    pub height: usize,
+    pub tiles: Vec<u8>,
+}
+
+impl Map {
+    pub fn new(width: usize, height: usize, tiles: Vec<u8>) -> Map {
+        assert!(tiles.len() == width * height);
+        Map {
+            width,
+            height,
+            tiles,
+        }
+    }
+
+    /// One text for each row, one hex digit for each tile.
+    pub fn from_rows(rows: &[&str]) -> Map {
+        let digits = rows.iter().flat_map(|row| row.chars());
+        let tiles = digits.map(|digit| digit.to_digit(16).expect("a hex digit") as u8);
+        Map::new(rows[0].len(), rows.len(), tiles.collect())
+    }
+
+    /// The middles of the solid tiles.
+    pub fn solid_middles(&self) -> Vec<vec2> {
+        let solid = |index: &usize| collision_type(self.tiles[*index]).is_some();
+        (0..self.tiles.len())
+            .filter(solid)
+            .map(|index| self.middle(index))
+            .collect()
+    }
+
+    fn middle(&self, index: usize) -> vec2 {
+        let along = |number: usize| number as f32 * TILE as f32 + TILE as f32 / 2.0;
+        vec2::new(along(index % self.width), along(index / self.width))
+    }
+
+    /// Width and height as the points count them.
+    pub fn extent(&self) -> vec2 {
+        vec2::new(self.width as f32, self.height as f32) * TILE as f32
+    }
+}
+
+impl Collision for Map {
+    #[inline]
+    fn check_point(&mut self, pos: vec2) -> Option<CollisionType> {
+        let column = tile_number(pos.x, self.width);
+        let row = tile_number(pos.y, self.height);
+        collision_type(self.tiles[row * self.width + column])
+    }
+}
+
+#[inline]
+fn tile_number(coordinate: f32, side: usize) -> usize {
+    let number = round_to_i32(coordinate).div_euclid(TILE);
+    number.clamp(0, side as i32 - 1) as usize
+}
+
+#[inline]
+fn collision_type(tile: u8) -> Option<CollisionType> {
+    match tile {
+        NORMAL => Some(CollisionType::Normal),
+        UNHOOKABLE => Some(CollisionType::Unhookable),
+        _ => None,
+    }
+}
