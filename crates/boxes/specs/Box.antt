@@ -6,7 +6,7 @@ use mathlib.Core.List.{List}
 use lib.Dec.{leb}
 use lib.IntN.{pos}
 use lib.Ieee.{Float, binary32, div, neg, lt, ofBits}
-use Rattle.float.specs.Whole.{roundToI32}
+use Rattle.whole.specs.Whole.{roundToI32}
 use Rattle.float.specs.Convert.{i32ToF32, quantize}
 use Rattle.vector.specs.Number.{c0, c1}
 use Rattle.vector.specs.Vec2.{vnew, vadd, vsub, vmul, vlength}

@@ -101,7 +101,7 @@ fn box_turns(dist: f32) -> u64
     ensures { λ r. ⌜ r ≡ boxTurns dist ⌝ }
 {
     if dist > 0.00001 {
-        return count(float::round_to_i32(dist)) + 1;
+        return count(whole::round_to_i32(dist)) + 1;
     }
     0
 }

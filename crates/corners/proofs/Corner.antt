@@ -9,7 +9,7 @@ use lib.Dec.{T, ltb, ltb→lt, nltb→le, lit<, lit≤}
 use lib.IntN.{ℤ, pos}
 use lib.Ieee.{Float, nan, inf, fin, binary32, up, down, round, sum, add, fits}
 use lib.Ieee.Fits.{down-pos}
-use Rattle.float.specs.Whole.{wholeOf, roundToI32}
+use Rattle.whole.specs.Whole.{wholeOf, roundToI32}
 use Rattle.corners.proofs.Sign.{round-sign}
 use Rattle.corners.proofs.Reach.{Past, value-past, negative-past, round-past}
 use Rattle.corners.proofs.Gap.{grain, gap}

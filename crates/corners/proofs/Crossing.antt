@@ -10,7 +10,7 @@ use lib.Dec.{lit≤, lit<}
 use lib.Pow.{pow-add, pow-pos, pow-mono, shl-lt}
 use lib.Ieee.{binary32, round}
 use lib.Ieee.Exact.{round-exact}
-use Rattle.float.specs.Whole.{roundToI32}
+use Rattle.whole.specs.Whole.{roundToI32}
 use Rattle.corners.proofs.Reach.{Past, value-past, round-past}
 
 -- g of the 2 ^ t-ths, which are a float

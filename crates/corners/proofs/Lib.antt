@@ -4,3 +4,4 @@ pub mod Gap
 pub mod Crossing
 pub mod Corner
 pub mod Quantized
+pub mod Cases

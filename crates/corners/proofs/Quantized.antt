@@ -7,7 +7,7 @@ use lib.Dec.{T}
 use lib.IntN.{ℤ}
 use lib.Ieee.{Float, binary32, ofBits, neg, add, sub, fits}
 use lib.Ieee.Fits.{ofInt-fits}
-use Rattle.float.specs.Whole.{roundToI32}
+use Rattle.whole.specs.Whole.{roundToI32}
 use Rattle.float.specs.Convert.{i32ToF32, quantize}
 use Rattle.float.proofs.Again.{round-again}
 use Rattle.corners.specs.Tile.{c14, tileAt}

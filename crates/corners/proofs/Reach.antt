@@ -13,7 +13,7 @@ use lib.Ieee.Fits.{down-pos, and-l}
 use lib.Ieee.Nearest.{div-mono}
 use lib.Ieee.Order.{round-mono}
 use mir.Facts.{or-yes}
-use Rattle.float.specs.Whole.{cut, wholeOf, roundToI32}
+use Rattle.whole.specs.Whole.{cut, wholeOf, roundToI32}
 use Rattle.corners.specs.Tile.{tileOf}
 use Rattle.corners.proofs.Sign.{HasSign, round-sign}
 

@@ -3,7 +3,7 @@ use Prim.Native.Nat.{ℕ, _-_, min}
 use lib.IntN.{ℤ, pos, negsuc}
 use lib.Signed.{shrZ}
 use lib.Ieee.{Float, binary32, ofBits}
-use Rattle.float.specs.Whole.{roundToI32}
+use Rattle.whole.specs.Whole.{roundToI32}
 
 -- 14.0, half a character's box
 abbrev pub c14 : Float

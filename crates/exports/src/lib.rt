@@ -6,7 +6,7 @@ pub use walks::ponguriena_move_box;
 ghost use mathlib.Core.Path.{_≡_};
 ghost use lib.Ieee.{binary32};
 ghost use Rattle.root.specs.Root.{root};
-ghost use Rattle.float.specs.Whole.{roundToI32, truncToI32};
+ghost use Rattle.whole.specs.Whole.{roundToI32, truncToI32};
 ghost use Rattle.float.specs.Convert.{i32ToF32, hundredthsToF32, quantize, to256ths, from256ths, quantize256ths};
 
 #[no_mangle]
@@ -20,14 +20,14 @@ pub extern "C" fn ponguriena_root(x: f32) -> f32
 pub extern "C" fn ponguriena_round_to_i32(x: f32) -> i32
     ensures { λ r. ⌜ r ≡ roundToI32 x ⌝ }
 {
-    float::round_to_i32(x)
+    whole::round_to_i32(x)
 }
 
 #[no_mangle]
 pub extern "C" fn ponguriena_trunc_to_i32(x: f32) -> i32
     ensures { λ r. ⌜ r ≡ truncToI32 x ⌝ }
 {
-    float::trunc_to_i32(x)
+    whole::trunc_to_i32(x)
 }
 
 #[no_mangle]

@@ -11,13 +11,13 @@ use lib.IntN.{ℤ, pos, negsuc, negℤ, natAbs}
 use lib.Pow.{pow-pos, pow-mono}
 use lib.Ieee.{Float, nan, inf, fin, binary32, fits, ofInt, mul, div, ofBits}
 use lib.Ieee.Fits.{mul-fits}
-use Rattle.float.specs.Whole.{cut, signed, wholeOf, roundToI32}
+use Rattle.whole.specs.Whole.{cut, signed, wholeOf, roundToI32}
 use Rattle.float.specs.Convert.{c256, i32ToF32, quantize, to256ths, from256ths, quantize256ths}
 use Rattle.float.specs.Near.{withSign}
 use Rattle.binary32.proofs.Grid.{Grid, on-grid}
 use Rattle.float.proofs.Wholes.{Digits, few-digits, rounded-digits, digits-back, top-back, bottom-back}
 use Rattle.float.proofs.Scaled.{from256ths-back}
-use Rattle.float.proofs.whole.Ranges.{at-value, signed-in, signed-out, far}
+use Rattle.whole.proofs.Ranges.{at-value, signed-in, signed-out, far}
 
 -- what rounding can make: a whole number that is exact as a float, or an end of the range
 data Rounded (z : ℤ) : Type 0 where

@@ -2,7 +2,7 @@
 use mathlib.Core.Path.{_≡_, refl}
 use lib.IntN.{pos, negsuc}
 use lib.Ieee.{nan, binary32, ofBits, mul, div, ofInt}
-use Rattle.float.specs.Whole.{wholeOf, roundToI32}
+use Rattle.whole.specs.Whole.{wholeOf, roundToI32}
 use Rattle.float.specs.Convert.{i32ToF32, quantize, to256ths, from256ths, quantize256ths}
 
 pub record Cases : Type 0 where

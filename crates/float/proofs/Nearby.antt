@@ -9,13 +9,13 @@ use lib.IntN.{ℤ, pos, negsuc, negℤ, natAbs, subℕ, _-ℤ_, _*ℤ_}
 use lib.Pow.{pow-pos}
 use lib.Ieee.{Float, nan, inf, fin, binary32, up, down, fits, mul}
 use lib.Ieee.Fits.{down-pos}
-use Rattle.float.specs.Whole.{cut, signed, wholeOf, roundToI32}
+use Rattle.whole.specs.Whole.{cut, signed, wholeOf, roundToI32}
 use Rattle.float.specs.Convert.{c256, to256ths}
 use Rattle.float.specs.Near.{Below, withSign, WithinHalf}
 use Rattle.binary32.proofs.Grid.{Grid, on-grid, units-lt, exponent-lt}
 use Rattle.float.proofs.Scaled.{eight-more, mul256}
-use Rattle.float.proofs.whole.Cut.{cut-same}
-use Rattle.float.proofs.whole.Ranges.{at-value, signed-in}
+use Rattle.whole.proofs.Cut.{cut-same}
+use Rattle.whole.proofs.Ranges.{at-value, signed-in}
 
 -- ---- a / c and the whole number that it is cut to after a half
 over : (a c q r : ℕ) → q * (c * 2) + r ≡ a * 2 + 1 * c → r < c * 2 → (q * (c * 2) ≤ a * 2 + c) × (a * 2 ≤ q * (c * 2) + c)

@@ -10,11 +10,11 @@ use lib.Pow.{pow-pos, pow-add, pow-mono, shl-lt}
 use lib.Ieee.{Float, nan, inf, fin, binary32, up, down, round, mul, div, unlike, ofBits}
 use lib.Ieee.Exact.{HasValue, round-exact}
 use lib.Ieee.Fits.{down-pos}
-use Rattle.float.specs.Whole.{cut, signed}
+use Rattle.whole.specs.Whole.{cut, signed}
 use Rattle.float.specs.Convert.{c256, i32ToF32, to256ths, from256ths}
 use Rattle.float.proofs.Wholes.{Digits, sgn, own-sign, i32-exact}
-use Rattle.float.proofs.whole.Cut.{cut-whole}
-use Rattle.float.proofs.whole.Ranges.{at-value, signed-in}
+use Rattle.whole.proofs.Cut.{cut-whole}
+use Rattle.whole.proofs.Ranges.{at-value, signed-in}
 
 -- from one fraction to another of the same size
 rescale : (x : Float) (s : Bool) (w l num den : ℕ) → 0 < l → num * l ≡ w * den → HasValue x s w l → HasValue x s num den

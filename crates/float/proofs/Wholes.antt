@@ -12,11 +12,11 @@ use lib.Pow.{pow-pos, pow-add, pow-mono, shl-lt}
 use lib.Ieee.{Float, nan, inf, fin, binary32, up, down, round, ofInt}
 use lib.Ieee.Exact.{HasValue, round-exact}
 use lib.Ieee.Fits.{down-pos}
-use Rattle.float.specs.Whole.{cut, signed, wholeOf}
+use Rattle.whole.specs.Whole.{cut, signed, wholeOf}
 use Rattle.float.specs.Convert.{i32ToF32}
 use Rattle.float.specs.Near.{withSign}
-use Rattle.float.proofs.whole.Cut.{cut-same, cut-whole}
-use Rattle.float.proofs.whole.Ranges.{signed-in}
+use Rattle.whole.proofs.Cut.{cut-same, cut-whole}
+use Rattle.whole.proofs.Ranges.{signed-in}
 
 -- z is q * 2 ^ j, with q below 2 ^ 24
 pub record Digits (z : ℕ) : Type 0 where

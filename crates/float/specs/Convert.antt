@@ -2,7 +2,7 @@
 use mathlib.Core.Bool.{false}
 use lib.IntN.{ℤ, pos}
 use lib.Ieee.{Float, fin, binary32, ofInt, ofBits, mul, div}
-use Rattle.float.specs.Whole.{roundToI32}
+use Rattle.whole.specs.Whole.{roundToI32}
 
 -- 100.0 and 256.0
 abbrev pub c100 : Float

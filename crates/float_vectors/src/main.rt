@@ -82,8 +82,8 @@ fn line_agrees(line: &[u8]) -> bool {
 fn agrees(which: u32, argument: u32, answer: u32) -> bool {
     match which {
         0 => is_float(root::root(float_of(argument)), answer),
-        1 => is_int(float::round_to_i32(float_of(argument)), answer),
-        2 => is_int(float::trunc_to_i32(float_of(argument)), answer),
+        1 => is_int(whole::round_to_i32(float_of(argument)), answer),
+        2 => is_int(whole::trunc_to_i32(float_of(argument)), answer),
         3 => is_float(float::i32_to_f32(int_of(argument)), answer),
         4 => is_float(float::hundredths_to_f32(int_of(argument)), answer),
         5 => is_float(float::quantize(float_of(argument)), answer),

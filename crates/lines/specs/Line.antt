@@ -5,7 +5,7 @@ use mathlib.Core.List.{List}
 use lib.Dec.{leb}
 use lib.IntN.{ℤ, pos, negsuc}
 use lib.Ieee.{Float, binary32, add, div}
-use Rattle.float.specs.Whole.{truncToI32}
+use Rattle.whole.specs.Whole.{truncToI32}
 use Rattle.float.specs.Convert.{i32ToF32}
 use Rattle.vector.specs.Number.{c1}
 use Rattle.vector.specs.Vec2.{vdistance, vmix}

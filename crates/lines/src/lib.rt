@@ -46,7 +46,7 @@ pub fn walk_line(sides: Sides, tiles: &[u8], from: vec2, to: vec2) -> LineCheck
 fn line_turns(dist: f32) -> u64
     ensures { λ r. ⌜ r ≡ lineTurns dist ⌝ }
 {
-    count(float::trunc_to_i32(dist + 1.0))
+    count(whole::trunc_to_i32(dist + 1.0))
 }
 
 fn line_hit(sides: Sides, tiles: &[u8], from: vec2, to: vec2, dist: f32, turns: u32) -> LineCheck

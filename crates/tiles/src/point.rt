@@ -42,7 +42,7 @@ pub fn tile_at(x: f32, side: u32) -> u32
     requires { ⌜ 0 < side ⌝ }
     ensures { λ r. ⌜ (r ≡ tileAt side x) × (r < side) ⌝ }
 {
-    let t = count(float::round_to_i32(x)) / 32;
+    let t = count(whole::round_to_i32(x)) / 32;
     if t < side as u64 {
         return t as u32;
     }

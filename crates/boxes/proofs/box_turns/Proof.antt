@@ -4,7 +4,7 @@ use Prim.Native.Nat.{ℕ, _+_, _-_}
 use mir.Syntax.{w32}
 use mir.Facts.{toZ-ofZ}
 use Rattle.tiles.specs.Map.{count}
-use Rattle.float.specs.Whole.{wholeOf}
+use Rattle.whole.specs.Whole.{wholeOf}
 use Rattle.boxes.specs.Box.{boxTurns}
 use borrow.Author.Needs.{needs}
 use Rattle.boxes.proofs.box_turns.Statement.{statement}

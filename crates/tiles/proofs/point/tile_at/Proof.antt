@@ -6,7 +6,7 @@ use lib.IntN.{ℤ, pos, negsuc}
 use mir.Syntax.{w32}
 use mir.Facts.{toZ-ofZ}
 use lib.Ieee.{Float}
-use Rattle.float.specs.Whole.{roundToI32}
+use Rattle.whole.specs.Whole.{roundToI32}
 use Rattle.corners.specs.Tile.{tileOf, tileAt}
 use Rattle.tiles.specs.Map.{count}
 use borrow.Author.Needs.{needs}
