@@ -1,29 +1,18 @@
--- `check_box` and `move_box` of lib.rs. Definitions only.
-use Prim.Native.Nat.{ℕ, _+_}
+-- `check_box` of lib.rs. Definitions only.
+use Prim.Native.Nat.{ℕ}
 use mathlib.Core.Path.{_≡_}
-use mathlib.Core.Bool.{Bool, false, cond, _||_}
+use mathlib.Core.Bool.{Bool, false, _||_}
 use mathlib.Core.List.{List}
-use lib.Dec.{leb}
-use lib.IntN.{pos}
-use lib.Ieee.{Float, binary32, div, neg, lt, ofBits}
-use Rattle.whole.specs.Whole.{roundToI32}
-use Rattle.float.specs.Convert.{i32ToF32, quantize}
-use Rattle.vector.specs.Number.{c0, c1}
-use Rattle.vector.specs.Vec2.{vnew, vadd, vsub, vmul, vlength}
+use lib.Ieee.{Float, binary32, neg, ofBits}
+use Rattle.float.specs.Convert.{quantize}
+use Rattle.vector.specs.Vec2.{vnew, vadd, vsub, vmul}
 use Rattle.vector.specs.declared.vec2.{vec2}
-use Rattle.turns.specs.Turns.{fold}
-use Rattle.tiles.specs.Map.{isMap, mostTurns, count, tileIn, checkPoint, solid}
+use Rattle.tiles.specs.Map.{tileIn, checkPoint, solid}
 use Rattle.tiles.specs.declared.Sides.{Sides}
-use Rattle.boxes.specs.declared.Body.{Body}
-use Rattle.boxes.specs.declared.BoxMove.{BoxMove}
-use Rattle.boxes.specs.declared.BoxMove.the-variants.{BadMap, TooFar, To}
 
--- 0.5 and 0.00001
+-- 0.5
 abbrev pub half : Float
 half = ofBits binary32 0x3f00_0000
-
-abbrev pub leastDist : Float
-leastDist = ofBits binary32 0x3727_c5ac
 
 -- whether one of the four corners of a box is on a solid tile
 unfoldable pub checkBox : Sides → List ℕ → vec2 → vec2 → Bool
@@ -50,43 +39,3 @@ vquantize p = vnew (quantize (p .x)) (quantize (p .y))
 -- the same by the columns and rows that the corners are in
 unfoldable pub solidCorners : Sides → List ℕ → ℕ → ℕ → ℕ → ℕ → Bool
 solidCorners s ts left right top bottom = solid (tileIn s ts right bottom) || solid (tileIn s ts left top) || solid (tileIn s ts right top) || solid (tileIn s ts left bottom)
-
--- the turns of a box that moves by dist: round(dist) + 1, only if dist > 0.00001
-unfoldable pub boxTurns : Float → ℕ
-boxTurns dist = cond (lt leastDist dist) (count (roundToI32 dist) + 1) 0
-
-abbrev pub bodyOf : Float → Float → Float → Float → Body
-bodyOf x y velX velY = record { pos = vnew x y; vel = vnew velX velY }
-
--- what a turn leaves that meets something solid at new: a coordinate that is in the way stays, and its speed is lost; where neither is, both
-unfoldable pub blocked : Sides → List ℕ → Body → vec2 → vec2 → Body
-blocked s ts b new box =
-    let hitY = checkBox s ts (vnew (b .pos .x) (new .y)) box in
-    let hitX = checkBox s ts (vnew (new .x) (b .pos .y)) box in
-    cond (hitY || hitX)
-    (bodyOf (cond hitX (b .pos .x) (new .x)) (cond hitY (b .pos .y) (new .y)) (cond hitX c0 (b .vel .x)) (cond hitY c0 (b .vel .y)))
-    (bodyOf (b .pos .x) (b .pos .y) c0 c0)
-
-unfoldable pub boxTurn : Sides → List ℕ → Float → vec2 → Body → Body
-boxTurn s ts fraction box b =
-    let new = vadd (b .pos) (vmul (b .vel) fraction) in
-    cond (checkBox s ts new box) (blocked s ts b new box) (record { pos = new; vel = b .vel })
-
-unfoldable pub boxTurnsTaken : Sides → List ℕ → Body → vec2 → ℕ → Body
-boxTurnsTaken s ts b box n = fold (λ i. boxTurn s ts (div binary32 c1 (i32ToF32 (pos n))) box) n 0 b
-
--- the walk on a map that is one: 9 where it is too far
-unfoldable pub walkBox : Sides → List ℕ → vec2 → vec2 → vec2 → BoxMove
-walkBox s ts at vel box =
-    let turns = boxTurns (vlength vel) in
-    cond (leb turns mostTurns) (To (boxTurnsTaken s ts (record { pos = at; vel = vel }) box turns)) TooFar
-
--- refused with 1 where the map is none, before the walk is measured
-unfoldable pub moveBox : Sides → List ℕ → vec2 → vec2 → vec2 → BoxMove
-moveBox s ts at vel box = cond (isMap s ts) (walkBox s ts at vel box) BadMap
-
--- document 01's number of an answer
-abbrev pub boxNumber : BoxMove → ℕ
-boxNumber BadMap = 1
-boxNumber TooFar = 9
-boxNumber (To b) = 0

@@ -6,9 +6,9 @@ use Rattle.vector.specs.Vec2.{vnew}
 use Rattle.tiles.specs.declared.Sides.{Sides}
 use Rattle.tiles.specs.declared.point.Tile.{Tile}
 use Rattle.tiles.specs.declared.point.Tile.the-variants.{Open, Normal, Unhookable}
-use Rattle.boxes.specs.declared.Body.{Body}
-use Rattle.boxes.specs.declared.BoxMove.{BoxMove}
-use Rattle.boxes.specs.declared.BoxMove.the-variants as moved
+use Rattle.moves.specs.declared.Body.{Body}
+use Rattle.moves.specs.declared.BoxMove.{BoxMove}
+use Rattle.moves.specs.declared.BoxMove.the-variants as moved
 use Rattle.lines.specs.declared.LineCheck.{LineCheck}
 use Rattle.lines.specs.declared.LineCheck.the-variants as checked
 

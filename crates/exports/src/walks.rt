@@ -1,12 +1,12 @@
 // The walks of a line and of a box. Their answers are a refusal's number, or 0 with the values written through the references.
-use boxes::BoxMove;
+use moves::BoxMove;
 use lines::LineCheck;
 use tiles::Sides;
 use tiles::Tile;
 use vector::vec2;
 ghost use mathlib.Core.Path.{_≡_};
 ghost use Rattle.vector.specs.Vec2.{vnew};
-ghost use Rattle.boxes.specs.Box.{moveBox, boxNumber};
+ghost use Rattle.moves.specs.Move.{moveBox, boxNumber};
 ghost use Rattle.lines.specs.Line.{checkLine, lineNumber};
 ghost use Rattle.exports.specs.Walks.{sidesOf, bodyOr, pointOr, byteOf, tileOr};
 
@@ -26,7 +26,7 @@ pub extern "C" fn ponguriena_move_box(
     ensures { λ _. ⌜ bodyOr (now («pos_x» .entry)) (now («pos_y» .entry)) (now («vel_x» .entry)) (now («vel_y» .entry)) (moveBox (sidesOf width height) (now (tiles .entry)) (vnew (now («pos_x» .entry)) (now («pos_y» .entry))) (vnew (now («vel_x» .entry)) (now («vel_y» .entry))) (vnew «box_x» «box_y»)) ≡ record { pos = vnew (now («pos_x» .exit)) (now («pos_y» .exit)); vel = vnew (now («vel_x» .exit)) (now («vel_y» .exit)) } ⌝ }
 {
     let sides = Sides { width, height };
-    let moved = boxes::move_box(
+    let moved = moves::move_box(
         sides,
         tiles,
         vec2::new(*pos_x, *pos_y),

@@ -1,6 +1,6 @@
 // Runs the recorded answers of the Rust for `check_line` and `move_box`, prints the lines that are answered otherwise, and tells how
 // many agree. rust/world/record_world prints the lines: l or m, the map's sides and 64 tiles, 6 arguments, 5 answers.
-use boxes::BoxMove;
+use moves::BoxMove;
 use libc::STDIN_FILENO;
 use libc::STDOUT_FILENO;
 use lines::LineCheck;
@@ -146,7 +146,7 @@ fn line_case(sides: Sides, tiles: &[u8], patterns: &[u8]) -> bool {
 
 fn box_case(sides: Sides, tiles: &[u8], patterns: &[u8]) -> bool {
     let number = nth(patterns, 6);
-    let moved = boxes::move_box(
+    let moved = moves::move_box(
         sides,
         tiles,
         point(patterns, 0),

@@ -1,7 +1,7 @@
 -- `exports::walks::ponguriena_move_box` meets its contract. Assumes nothing.
 use mathlib.Core.Path.{_≡_, refl, sym, _∙_}
 use Rattle.vector.specs.Vec2.{vnew}
-use Rattle.boxes.specs.Box.{moveBox}
+use Rattle.moves.specs.Move.{moveBox}
 use Rattle.exports.specs.Walks.{sidesOf}
 use borrow.Author.Needs.{needs}
 use Rattle.exports.proofs.walks.ponguriena_move_box.Statement.{statement}

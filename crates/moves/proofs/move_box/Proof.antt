@@ -1,10 +1,10 @@
 -- `boxes::move_box` meets its contract. Assumes nothing.
 use mathlib.Core.Path.{sym, _∙_, subst}
 use lib.Dec.{T}
-use Rattle.boxes.specs.Box.{moveBox}
+use Rattle.moves.specs.Move.{moveBox}
 use borrow.Author.Needs.{needs}
-use Rattle.boxes.proofs.move_box.Statement.{statement}
-use Rattle.boxes.proofs.move_box.Tie as tie
+use Rattle.moves.proofs.move_box.Statement.{statement}
+use Rattle.moves.proofs.move_box.Tie as tie
 
 is-map-requires : tie.Need-is-map-requires
 is-map-requires c κs = search needs

@@ -1,7 +1,7 @@
 -- `boxes::body_of` meets its contract. Assumes nothing.
 use borrow.Author.Needs.{needs}
-use Rattle.boxes.proofs.body_of.Statement.{statement}
-use Rattle.boxes.proofs.body_of.Tie as tie
+use Rattle.moves.proofs.body_of.Statement.{statement}
+use Rattle.moves.proofs.body_of.Tie as tie
 
 new-requires : tie.Need-new-requires
 new-requires c κs = search needs

@@ -1,9 +1,9 @@
 -- `boxes::walk_box` meets its contract. Assumes nothing.
 use borrow.Author.Tests.{lt-leb, le-leb}
-use Rattle.boxes.specs.Box.{walkBox}
+use Rattle.moves.specs.Move.{walkBox}
 use borrow.Author.Needs.{needs}
-use Rattle.boxes.proofs.walk_box.Statement.{statement}
-use Rattle.boxes.proofs.walk_box.Tie as tie
+use Rattle.moves.proofs.walk_box.Statement.{statement}
+use Rattle.moves.proofs.walk_box.Tie as tie
 
 length-requires : tie.Need-length-requires
 length-requires c κs = search needs

@@ -5,10 +5,10 @@ use mir.Syntax.{w32}
 use mir.Facts.{toZ-ofZ}
 use Rattle.tiles.specs.Map.{count}
 use Rattle.whole.specs.Whole.{wholeOf}
-use Rattle.boxes.specs.Box.{boxTurns}
+use Rattle.moves.specs.Move.{boxTurns}
 use borrow.Author.Needs.{needs}
-use Rattle.boxes.proofs.box_turns.Statement.{statement}
-use Rattle.boxes.proofs.box_turns.Tie as tie
+use Rattle.moves.proofs.box_turns.Statement.{statement}
+use Rattle.moves.proofs.box_turns.Tie as tie
 
 round-to-i32-requires : tie.Need-round-to-i32-requires
 round-to-i32-requires c κs = search needs

@@ -1,30 +1,24 @@
--- A clear box stays clear through its walk, whatever its velocity, and through quantizing. Assumes nothing.
-use mathlib.Core.Path.{_≡_, refl, sym, ap, _∙_, subst}
-use mathlib.Core.Bool.{Bool, true, false, cond, _||_, true≢false}
+-- A clear box stays clear through its walk, whatever its velocity. Assumes nothing.
+use mathlib.Core.Path.{_≡_, refl, subst}
+use mathlib.Core.Bool.{Bool, true, false, cond, _||_}
 use mathlib.Core.List.{List}
-use Prim.Native.Nat.{ℕ, _≤_}
+use Prim.Native.Nat.{ℕ}
 use native.Mathlib.Omega.{arith}
-use lib.Dec.{T, leb}
+use lib.Dec.{leb}
 use lib.IntN.{pos}
-use lib.Ieee.{Float, binary32, add, sub, div, fits}
-use Rattle.float.specs.Convert.{i32ToF32, quantize}
+use lib.Ieee.{Float, binary32, div}
+use Rattle.float.specs.Convert.{i32ToF32}
 use Rattle.vector.specs.declared.vec2.{vec2}
 use Rattle.vector.specs.Number.{c0, c1}
 use Rattle.vector.specs.Vec2.{vnew, vadd, vmul, vlength}
-use Rattle.corners.specs.Tile.{c14, tileAt}
-use Rattle.corners.proofs.Quantized.{quantized-plus, quantized-minus}
-use Rattle.turns.specs.Turns.{fold}
 use Rattle.turns.proofs.Kept.{fold-kept}
 use Rattle.tiles.specs.declared.Sides.{Sides}
-use Rattle.boxes.specs.declared.Body.{Body}
-use Rattle.boxes.specs.declared.BoxMove.{BoxMove}
-use Rattle.boxes.specs.declared.BoxMove.the-variants.{BadMap, TooFar, To}
-use Rattle.tiles.specs.Map.{isMap, mostTurns, checkPoint}
-use Rattle.boxes.specs.Box.{checkBox, Clear, characterBox, vquantize, bodyOf, boxTurns, blocked, boxTurn, boxTurnsTaken, walkBox, moveBox}
-use Rattle.boxes.proofs.Corners.{corners, character-corners}
-use Rattle.tiles.proofs.Maps.{IsMap, is-map}
+use Rattle.tiles.specs.Map.{mostTurns}
+use Rattle.boxes.specs.Box.{checkBox, Clear}
+use Rattle.moves.specs.declared.Body.{Body}
+use Rattle.moves.specs.declared.BoxMove.the-variants.{TooFar, To}
+use Rattle.moves.specs.Move.{bodyOf, boxTurns, blocked, boxTurn, boxTurnsTaken, walkBox}
 
--- ---- through a walk
 module _ (s : Sides) (ts : List ℕ) (box : vec2) where
   blocked-clear : (b : Body) (new : vec2) → Clear s ts (b .pos) box → Clear s ts (blocked s ts b new box .pos) box
   unfolding blocked
@@ -56,12 +50,3 @@ module _ (s : Sides) (ts : List ℕ) (box : vec2) where
       go : (t : Bool) → cond t (To (boxTurnsTaken s ts (record { pos = at; vel = vel }) box (boxTurns (vlength vel)))) TooFar ≡ To b → Clear s ts (b .pos) box
       go true q = let p : boxTurnsTaken s ts (record { pos = at; vel = vel }) box (boxTurns (vlength vel)) ≡ b = cc in subst (λ (c : Body). Clear s ts (c .pos) box) p (turns-clear (record { pos = at; vel = vel }) (boxTurns (vlength vel)) h)
       go false q = let z : _≡_ {A = ℕ} 0 1 = cc in absurd (omega arith)
-
--- ---- through quantizing
-pub quantized-clear : (s : Sides) (ts : List ℕ) (p : vec2) → T (isMap s ts) → T (fits binary32 (p .x)) → T (fits binary32 (p .y)) → checkBox s ts (vquantize p) characterBox ≡ checkBox s ts p characterBox
-unfolding vquantize checkPoint
-quantized-clear s ts p m fx fy =
-    let f = is-map s ts m in
-    let same : corners s ts (quantize (p .x)) (quantize (p .y)) c14 c14 ≡ corners s ts (p .x) (p .y) c14 c14 =
-    simp (← quantized-plus (s .width) (p .x) (f .narrow) fx, ← quantized-minus (s .width) (p .x) (f .narrow) fx, ← quantized-plus (s .height) (p .y) (f .low) fy, ← quantized-minus (s .height) (p .y) (f .low) fy) in
-    character-corners s ts (vnew (quantize (p .x)) (quantize (p .y))) ∙ same ∙ sym (character-corners s ts p)

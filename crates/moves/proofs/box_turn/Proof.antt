@@ -1,8 +1,8 @@
 -- `boxes::box_turn` meets its contract. Assumes nothing.
-use Rattle.boxes.specs.Box.{boxTurn}
+use Rattle.moves.specs.Move.{boxTurn}
 use borrow.Author.Needs.{needs}
-use Rattle.boxes.proofs.box_turn.Statement.{statement}
-use Rattle.boxes.proofs.box_turn.Tie as tie
+use Rattle.moves.proofs.box_turn.Statement.{statement}
+use Rattle.moves.proofs.box_turn.Tie as tie
 
 mul-requires : tie.Need-mul-requires
 mul-requires c κs = search needs

@@ -7,9 +7,9 @@ use lib.Ieee.{inFloat}
 use Rattle.float.specs.Convert.{i32ToF32}
 use Rattle.turns.specs.Turns.{more, fold}
 use Rattle.turns.proofs.Loop.{Left, always, fold-first, fold-end, turn-on}
-use Rattle.boxes.specs.Box.{boxTurn, boxTurnsTaken}
-use Rattle.boxes.proofs.box_turns_taken.Statement.{statement}
-use Rattle.boxes.proofs.box_turns_taken.Tie as tie
+use Rattle.moves.specs.Move.{boxTurn, boxTurnsTaken}
+use Rattle.moves.proofs.box_turns_taken.Statement.{statement}
+use Rattle.moves.proofs.box_turns_taken.Tie as tie
 
 abbrev Inv-loop : tie.InvT-loop
 Inv-loop sides tiles box- turns fraction b₀ counter₀ b counter = Left (always (λ i. boxTurn sides tiles fraction box-)) turns counter b (more (fold (λ i. boxTurn sides tiles fraction box-) turns 0 b₀))

@@ -7,12 +7,12 @@ use Rattle.vector.specs.Number.{c0}
 use Rattle.vector.specs.Vec2.{vnew}
 use Rattle.vector.specs.declared.vec2.{vec2}
 use Rattle.tiles.specs.declared.Sides.{Sides}
-use Rattle.boxes.specs.declared.Body.{Body}
-use Rattle.boxes.specs.Box.{checkBox, bodyOf, blocked}
-use Rattle.boxes.specs.Box.{blocked}
+use Rattle.moves.specs.declared.Body.{Body}
+use Rattle.boxes.specs.Box.{checkBox}
+use Rattle.moves.specs.Move.{bodyOf, blocked}
 use borrow.Author.Needs.{needs}
-use Rattle.boxes.proofs.blocked.Statement.{statement}
-use Rattle.boxes.proofs.blocked.Tie as tie
+use Rattle.moves.proofs.blocked.Statement.{statement}
+use Rattle.moves.proofs.blocked.Tie as tie
 
 -- what `blocked` gives, by its two tests
 outcome : Body → vec2 → Bool → Bool → Body
