@@ -1,6 +1,6 @@
 // The walks of a line and of a box. Their answers are a refusal's number, or 0 with the values written through the references.
-use moves::BoxMove;
 use lines::LineCheck;
+use moves::BoxMove;
 use tiles::Sides;
 use tiles::Tile;
 use vector::vec2;

@@ -7,7 +7,7 @@ use lib.IntN.{ℤ, pos, negsuc}
 use lib.Ieee.{Float, binary32, add, div}
 use Rattle.whole.specs.Whole.{truncToI32}
 use Rattle.float.specs.Convert.{i32ToF32}
-use Rattle.vector.specs.Number.{c1}
+use Rattle.number.specs.Number.{c1}
 use Rattle.vector.specs.Vec2.{vdistance, vmix}
 use Rattle.vector.specs.declared.vec2.{vec2}
 use Rattle.turns.specs.Turns.{Turn, more, stop, run}

@@ -7,7 +7,7 @@ use lib.IntN.{pos}
 use lib.Ieee.{Float, binary32, div, lt, ofBits}
 use Rattle.whole.specs.Whole.{roundToI32}
 use Rattle.float.specs.Convert.{i32ToF32}
-use Rattle.vector.specs.Number.{c0, c1}
+use Rattle.number.specs.Number.{c0, c1}
 use Rattle.vector.specs.Vec2.{vnew, vadd, vmul, vlength}
 use Rattle.vector.specs.declared.vec2.{vec2}
 use Rattle.turns.specs.Turns.{fold}

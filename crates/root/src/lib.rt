@@ -46,7 +46,7 @@ fn root_bits(b: u32) -> u32
     root_parts(w, t)
 }
 
-// The pattern of the root of w * 2^(t - 298), for a w of 24 digits: with 49 or 50 it has a root of 25, and t is even.
+// The pattern of the root of w * 2^(t - 298), for a w of 24 digits. Shifted to 49 or 50, so that an even power is left, it has a root of 25.
 fn root_parts(w: u32, t: u32) -> u32
     requires { ⌜ (2 ^ 23 ≤ w) × (w < 2 ^ 24) × (126 ≤ t) × (t < 403) ⌝ }
     ensures { λ r. ⌜ (r < 2139095040) × ((x : Float) → T (fits binary32 x) → HasValue x false (w * 2 ^ t) (2 ^ 298) → ofBits binary32 r ≡ root binary32 x) ⌝ }

@@ -1,9 +1,9 @@
 // Runs the recorded answers of the Rust for `check_line` and `move_box`, prints the lines that are answered otherwise, and tells how
 // many agree. rust/world/record_world prints the lines: l or m, the map's sides and 64 tiles, 6 arguments, 5 answers.
-use moves::BoxMove;
 use libc::STDIN_FILENO;
 use libc::STDOUT_FILENO;
 use lines::LineCheck;
+use moves::BoxMove;
 use tiles::Sides;
 use tiles::Tile;
 use vector::vec2;

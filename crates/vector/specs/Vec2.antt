@@ -2,7 +2,7 @@
 use lib.Ieee.{Float, binary32, add, sub, mul, div}
 use Rattle.root.specs.Root.{root}
 use Rattle.vector.specs.declared.vec2.{vec2}
-use Rattle.vector.specs.Number.{c0, c1, clamp}
+use Rattle.number.specs.Number.{c0, c1, clamp}
 
 abbrev pub vnew : Float → Float → vec2
 vnew x y = record { x = x; y = y }

@@ -1,8 +1,5 @@
-// Pairs of f32, and what lib.rs does to single numbers beside them. Each operation rounds once, in the Rust's order.
-mod number;
-
-pub use number::clamp;
-pub use number::saturated_add;
+// Pairs of f32. Each operation rounds once, in the Rust's order.
+use number::clamp;
 ghost use mathlib.Core.Path.{_≡_};
 ghost use Rattle.vector.specs.Vec2.{vnew, vadd, vsub, vmul, vdiv, vlength, vnormalize, vdistance, vdot, vmix, closestPointOnLine};
 

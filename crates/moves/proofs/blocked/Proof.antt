@@ -3,7 +3,7 @@ use mathlib.Core.Path.{_≡_, sym, ap, _∙_}
 use mathlib.Core.Bool.{Bool, true, false, cond, _||_}
 use mathlib.Core.List.{List}
 use Prim.Native.Nat.{ℕ}
-use Rattle.vector.specs.Number.{c0}
+use Rattle.number.specs.Number.{c0}
 use Rattle.vector.specs.Vec2.{vnew}
 use Rattle.vector.specs.declared.vec2.{vec2}
 use Rattle.tiles.specs.declared.Sides.{Sides}

@@ -1,7 +1,7 @@
--- `vector::number::clamp` meets its contract. Assumes nothing.
-use Rattle.vector.specs.Number.{clamp}
-use Rattle.vector.proofs.number.clamp.Statement.{statement}
-use Rattle.vector.proofs.number.clamp.Tie as tie
+-- `number::clamp` meets its contract. Assumes nothing.
+use Rattle.number.specs.Number.{clamp}
+use Rattle.number.proofs.clamp.Statement.{statement}
+use Rattle.number.proofs.clamp.Tie as tie
 
 returns : tie.Need-returns
 unfolding clamp

@@ -1,9 +1,9 @@
--- `vector::number::saturated_add` meets its contract. Assumes nothing.
+-- `number::saturated_add` meets its contract. Assumes nothing.
 use mathlib.Core.Logic.{⊎-elim}
-use Rattle.vector.specs.Number.{saturatedAdd}
+use Rattle.number.specs.Number.{saturatedAdd}
 use borrow.Author.Needs.{needs}
-use Rattle.vector.proofs.number.saturated_add.Statement.{statement}
-use Rattle.vector.proofs.number.saturated_add.Tie as tie
+use Rattle.number.proofs.saturated_add.Statement.{statement}
+use Rattle.number.proofs.saturated_add.Tie as tie
 
 returns : tie.Need-returns
 unfolding saturatedAdd

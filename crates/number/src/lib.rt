@@ -1,6 +1,6 @@
 // Bounds of single numbers.
 ghost use mathlib.Core.Path.{_≡_};
-ghost use Rattle.vector.specs.Number.{clamp, saturatedAdd};
+ghost use Rattle.number.specs.Number.{clamp, saturatedAdd};
 
 pub fn clamp(value: f32, min: f32, max: f32) -> f32
     ensures { λ r. ⌜ r ≡ clamp value min max ⌝ }

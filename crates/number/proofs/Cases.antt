@@ -1,7 +1,7 @@
 -- Proved case 7 of document 01: 7 plus 1 between -5 and 5 stays 7, and plus -1 it is 5. Assumes nothing.
 use mathlib.Core.Path.{_≡_, refl}
 use lib.Ieee.{binary32, ofBits, add, lt}
-use Rattle.vector.specs.Number.{clamp, saturatedAdd}
+use Rattle.number.specs.Number.{clamp, saturatedAdd}
 
 pub record Cases : Type 0 where
   pub stays : saturatedAdd (ofBits binary32 0xc0a0_0000) (ofBits binary32 0x40a0_0000) (ofBits binary32 0x40e0_0000) (ofBits binary32 0x3f80_0000) ≡ ofBits binary32 0x40e0_0000
