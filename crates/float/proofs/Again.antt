@@ -20,7 +20,7 @@ use Rattle.float.proofs.Scaled.{from256ths-back}
 use Rattle.whole.proofs.Ranges.{at-value, signed-in, signed-out, far}
 
 -- what rounding can make: a whole number that is exact as a float, or an end of the range
-data Rounded (z : ℤ) : Type 0 where
+pub data Rounded (z : ℤ) : Type 0 where
   digits : Digits (natAbs z) → natAbs z < 2 ^ 31 → Rounded z
   top : z ≡ pos 2147483647 → Rounded z
   bottom : z ≡ negsuc 2147483647 → Rounded z
@@ -50,45 +50,50 @@ rounded-units s q i z h l e = go (decLe i 180) (decLe (2 ^ 31) (cut 1 (q * 2 ^ i
     go (no a) (no b) (inl p) = absurd (b (far 1 (q * 2 ^ i) (2 ^ 149) (pow-pos 149) (beyond q i p (lt-of-not-le a))))
     go (no a) (no b) (inr z) = absurd (a (le-trans (le-of-eq z) zero-le))
 
-rounded : (x : Float) → T (fits binary32 x) → Rounded (roundToI32 x)
+pub rounded : (x : Float) → T (fits binary32 x) → Rounded (roundToI32 x)
 unfolding wholeOf
 rounded nan t = digits (few-digits 0 zero-le) (lit< tt)
 rounded (inf s) t = at-end s (cond s (negℤ (pos (2 ^ 31))) (pos (2 ^ 31 - 1))) refl
 rounded (fin s m g) t = let y = on-grid s m g t in rounded-units s (y .q) (y .i) (wholeOf 31 1 (fin s m g)) (y .small) (y .lead) (at-value 1 (fin s m g) s (y .q * 2 ^ (y .i)) (y .value))
 
 -- ---- whole numbers
+pub rounded-back : (u : ℕ) (z : ℤ) → u < 2 → Rounded z → wholeOf 31 u (i32ToF32 z) ≡ z
+rounded-back u z U (digits d h) = digits-back u z U d h
+rounded-back u z U (top e) = subst (λ (k : ℤ). wholeOf 31 u (i32ToF32 k) ≡ k) (sym e) (top-back u U)
+rounded-back u z U (bottom e) = subst (λ (k : ℤ). wholeOf 31 u (i32ToF32 k) ≡ k) (sym e) (bottom-back u U)
+
 pub round-again : (x : Float) → T (fits binary32 x) → roundToI32 (i32ToF32 (roundToI32 x)) ≡ roundToI32 x
-round-again x t = go (roundToI32 x) (rounded x t)
-  where
-    go : (z : ℤ) → Rounded z → roundToI32 (i32ToF32 z) ≡ z
-    go z (digits d h) = digits-back 1 z (lit< tt) d h
-    go z (top e) = subst (λ (k : ℤ). roundToI32 (i32ToF32 k) ≡ k) (sym e) (top-back 1 (lit< tt))
-    go z (bottom e) = subst (λ (k : ℤ). roundToI32 (i32ToF32 k) ≡ k) (sym e) (bottom-back 1 (lit< tt))
+round-again x t = rounded-back 1 (roundToI32 x) (lit< tt) (rounded x t)
 
 pub quantize-again : (x : Float) → T (fits binary32 x) → quantize (quantize x) ≡ quantize x
 unfolding quantize
 quantize-again x t = ap i32ToF32 (round-again x t)
 
 -- ---- 256ths
-top-256ths : to256ths (from256ths (pos 2147483647)) ≡ pos 2147483647
-unfolding to256ths from256ths i32ToF32 ofBits wholeOf ofInt mul div
-top-256ths = refl
+top-256ths : (u : ℕ) → u < 2 → wholeOf 31 u (mul binary32 (from256ths (pos 2147483647)) c256) ≡ pos 2147483647
+unfolding from256ths i32ToF32 ofBits wholeOf ofInt mul div
+top-256ths zero U = refl
+top-256ths (suc zero) U = refl
+top-256ths (suc (suc u)) U = absurd (omega (arith, U))
 
-bottom-256ths : to256ths (from256ths (negsuc 2147483647)) ≡ negsuc 2147483647
-unfolding to256ths from256ths i32ToF32 ofBits wholeOf ofInt mul div
-bottom-256ths = refl
+bottom-256ths : (u : ℕ) → u < 2 → wholeOf 31 u (mul binary32 (from256ths (negsuc 2147483647)) c256) ≡ negsuc 2147483647
+unfolding from256ths i32ToF32 ofBits wholeOf ofInt mul div
+bottom-256ths zero U = refl
+bottom-256ths (suc zero) U = refl
+bottom-256ths (suc (suc u)) U = absurd (omega (arith, U))
+
+pub rounded-256ths-back : (u : ℕ) (z : ℤ) → u < 2 → Rounded z → wholeOf 31 u (mul binary32 (from256ths z) c256) ≡ z
+rounded-256ths-back u z U (digits d h) = from256ths-back z d h u U
+rounded-256ths-back u z U (top e) = subst (λ (k : ℤ). wholeOf 31 u (mul binary32 (from256ths k) c256) ≡ k) (sym e) (top-256ths u U)
+rounded-256ths-back u z U (bottom e) = subst (λ (k : ℤ). wholeOf 31 u (mul binary32 (from256ths k) c256) ≡ k) (sym e) (bottom-256ths u U)
 
 rounded-256ths : (v : Float) → Rounded (to256ths v)
 unfolding to256ths
 rounded-256ths v = rounded (mul binary32 v c256) (mul-fits binary32 v c256)
 
 pub 256ths-again : (v : Float) → to256ths (from256ths (to256ths v)) ≡ to256ths v
-256ths-again v = go (to256ths v) (rounded-256ths v)
-  where
-    go : (z : ℤ) → Rounded z → to256ths (from256ths z) ≡ z
-    go z (digits d h) = from256ths-back z d h
-    go z (top e) = subst (λ (k : ℤ). to256ths (from256ths k) ≡ k) (sym e) top-256ths
-    go z (bottom e) = subst (λ (k : ℤ). to256ths (from256ths k) ≡ k) (sym e) bottom-256ths
+unfolding to256ths
+256ths-again v = rounded-256ths-back 1 (to256ths v) (lit< tt) (rounded-256ths v)
 
 pub quantize256ths-again : (v : Float) → quantize256ths (quantize256ths v) ≡ quantize256ths v
 unfolding quantize256ths

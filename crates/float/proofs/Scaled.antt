@@ -10,14 +10,14 @@ use lib.Pow.{pow-pos, pow-add, pow-mono, shl-lt}
 use lib.Ieee.{Float, nan, inf, fin, binary32, up, down, round, mul, div, unlike, ofBits}
 use lib.Ieee.Exact.{HasValue, round-exact}
 use lib.Ieee.Fits.{down-pos}
-use Rattle.whole.specs.Whole.{cut, signed}
-use Rattle.float.specs.Convert.{c256, i32ToF32, to256ths, from256ths}
+use Rattle.whole.specs.Whole.{cut, signed, wholeOf}
+use Rattle.float.specs.Convert.{c256, i32ToF32, from256ths}
 use Rattle.float.proofs.Wholes.{Digits, sgn, own-sign, i32-exact}
 use Rattle.whole.proofs.Cut.{cut-whole}
 use Rattle.whole.proofs.Ranges.{at-value, signed-in}
 
 -- from one fraction to another of the same size
-rescale : (x : Float) (s : Bool) (w l num den : ℕ) → 0 < l → num * l ≡ w * den → HasValue x s w l → HasValue x s num den
+pub rescale : (x : Float) (s : Bool) (w l num den : ℕ) → 0 < l → num * l ≡ w * den → HasValue x s w l → HasValue x s num den
 rescale nan s w l num den p h v = v
 rescale (inf t) s w l num den p h v = v
 rescale (fin t m e) s w l num den p h v = (
@@ -79,15 +79,15 @@ module _ (z : ℤ) (d : Digits (natAbs z)) (b : natAbs z < 2 ^ 31) where
   unfolding from256ths
   from256ths-units = div256 (i32ToF32 z) (sgn z) (d .q) (d .j) (subst (λ (n : ℕ). HasValue (i32ToF32 z) (sgn z) n 1) (d .is) (i32-exact z d)) (d .small) (omega (arith, d .least))
 
-  pub from256ths-back : to256ths (from256ths z) ≡ z
-  unfolding to256ths
-  from256ths-back =
+  -- by either rounding
+  pub from256ths-back : (u : ℕ) → u < 2 → wholeOf 31 u (mul binary32 (from256ths z) c256) ≡ z
+  from256ths-back u U =
       let k : d .j + 141 ≤ 244 = omega (arith, d .least) in
       let v = mul256 (from256ths z) (sgn z) (d .q) (d .j + 141) from256ths-units (d .small) k in
       let e : d .j + 141 + 8 ≡ d .j + 149 = omega arith in
       let n : d .q * 2 ^ (d .j + 141 + 8) ≡ natAbs z * 2 ^ 149 = ap (λ (x : ℕ). d .q * 2 ^ x) e ∙ ap (λ (x : ℕ). d .q * x) (pow-add 2 (d .j) 149) ∙ sym (mul-assoc (d .q) (2 ^ d .j) (2 ^ 149)) ∙ ap (λ (x : ℕ). x * 2 ^ 149) (sym (d .is)) in
-      at-value 1 (mul binary32 (from256ths z) c256) (sgn z) (d .q * 2 ^ (d .j + 141 + 8)) v
-      ∙ ap (λ (x : ℕ). signed 31 (sgn z) (cut 1 x (2 ^ 149))) n
-      ∙ ap (signed 31 (sgn z)) (cut-whole 1 (natAbs z) (2 ^ 149) (lit< tt) (pow-pos 149))
+      at-value u (mul binary32 (from256ths z) c256) (sgn z) (d .q * 2 ^ (d .j + 141 + 8)) v
+      ∙ ap (λ (x : ℕ). signed 31 (sgn z) (cut u x (2 ^ 149))) n
+      ∙ ap (signed 31 (sgn z)) (cut-whole u (natAbs z) (2 ^ 149) U (pow-pos 149))
       ∙ signed-in (sgn z) (natAbs z) b
       ∙ own-sign z

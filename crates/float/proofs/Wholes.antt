@@ -60,16 +60,16 @@ pub own-sign : (z : ℤ) → withSign (sgn z) (natAbs z) ≡ z
 own-sign (pos n) = refl
 own-sign (negsuc n) = refl
 
-exact : (s : Bool) (z : ℕ) → Digits z → HasValue (round binary32 s z 1) s z 1
-exact s z d =
+pub digits-exact : (s : Bool) (z : ℕ) → Digits z → HasValue (round binary32 s z 1) s z 1
+digits-exact s z d =
     let k : 24 + (d .j + 149) ≤ 276 = omega (arith, d .least) in
     round-exact binary32 s z 1 (d .q) (d .j + 149) (lit< tt) (d .small) (lt-of-lt-of-le (shl-lt 24 (d .j + 149) (d .small)) (le-trans (pow-mono k) (lit≤ tt)))
     (ap (λ (x : ℕ). x * 2 ^ 149) (d .is) ∙ mul-assoc (d .q) (2 ^ d .j) (2 ^ 149) ∙ ap (λ (x : ℕ). d .q * x) (sym (pow-add 2 (d .j) 149)) ∙ sym (mul-one (d .q * 2 ^ (d .j + 149))))
 
 pub i32-exact : (z : ℤ) → Digits (natAbs z) → HasValue (i32ToF32 z) (sgn z) (natAbs z) 1
 unfolding i32ToF32 ofInt
-i32-exact (pos n) d = exact false n d
-i32-exact (negsuc n) d = exact true (suc n) d
+i32-exact (pos n) d = digits-exact false n d
+i32-exact (negsuc n) d = digits-exact true (suc n) d
 
 -- ---- and back
 pub whole-stays : (u : ℕ) (x : Float) (s : Bool) (z : ℕ) → u < 2 → z < 2 ^ 31 → HasValue x s z 1 → wholeOf 31 u x ≡ withSign s z

@@ -7,6 +7,7 @@ use native.Mathlib.Nat.{le-trans, le-of-eq, lt-of-lt-of-le, mul-assoc, mul-le-mu
 use native.Mathlib.Omega.{arith}
 use lib.Dec.{T, leb, eqb, lit<, lit≤}
 use lib.IntN.{ℤ, pos, negsuc, negℤ, _-ℤ_, +ℤ-idl}
+use lib.Signed.{mag}
 use lib.Pow.{pow-pos, pow-add, pow-mono}
 use lib.Ieee.{Float, nan, inf, fin, binary32, up, down, ofFields, ofBits, toBits, fits, isNan, ne, toSigned}
 use lib.Ieee.Exact.{HasValue}
@@ -46,6 +47,22 @@ at-value u (fin t m g) s n h = ap (λ (b : Bool). signed 31 b (cut u (m * up g) 
 
 pub far : (u n l : ℕ) → 0 < l → 2 ^ 31 * l ≤ n → 2 ^ 31 ≤ cut u n l
 far u n l L h = le-div-iff-mul-le (mul-pos L (lit< tt)) .1 (le-trans (le-of-eq (sym (mul-assoc (2 ^ 31) l 2))) (le-trans (mul-le-mul-right 2 h) (le-add-right (n * 2) (u * l))))
+
+-- ---- every answer is an i32
+neg-in : (r : ℕ) → r ≤ 2 ^ 31 → mag (negℤ (pos r)) < 2 ^ 31
+neg-in zero h = lit< tt
+neg-in (suc r) h = h
+
+signed-mag : (s : Bool) (r : ℕ) → mag (signed 31 s r) < 2 ^ 31
+signed-mag true r = neg-in (min r (2 ^ 31)) (omega arith)
+signed-mag false r = omega arith
+
+pub whole-in : (u : ℕ) (x : Float) → mag (wholeOf 31 u x) < 2 ^ 31
+unfolding wholeOf
+whole-in u nan = lit< tt
+whole-in u (inf true) = lit< tt
+whole-in u (inf false) = lit< tt
+whole-in u (fin s m e) = signed-mag s (cut u (m * up e) (down e))
 
 -- ---- by the pattern p of the value
 
