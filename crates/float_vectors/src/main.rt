@@ -1,10 +1,10 @@
 // Runs the recorded vectors of its input, prints those that the functions answer otherwise, and tells how many agree. A line is
 // a function's number, an argument's pattern and the answer's, in 8 hexadecimal digits each; rust/record prints them.
+use casts::cast_signed;
 use libc::STDIN_FILENO;
 use libc::STDOUT_FILENO;
 use vectors::float_of;
 use vectors::hex;
-use vectors::int_of;
 use vectors::is_float;
 use vectors::is_int;
 use vectors::word;
@@ -84,11 +84,11 @@ fn agrees(which: u32, argument: u32, answer: u32) -> bool {
         0 => is_float(root::root(float_of(argument)), answer),
         1 => is_int(whole::round_to_i32(float_of(argument)), answer),
         2 => is_int(whole::trunc_to_i32(float_of(argument)), answer),
-        3 => is_float(float::i32_to_f32(int_of(argument)), answer),
-        4 => is_float(float::hundredths_to_f32(int_of(argument)), answer),
+        3 => is_float(float::i32_to_f32(cast_signed(argument)), answer),
+        4 => is_float(float::hundredths_to_f32(cast_signed(argument)), answer),
         5 => is_float(float::quantize(float_of(argument)), answer),
         6 => is_int(float::to_256ths(float_of(argument)), answer),
-        7 => is_float(float::from_256ths(int_of(argument)), answer),
+        7 => is_float(float::from_256ths(cast_signed(argument)), answer),
         _ => is_float(float::quantize_256ths(float_of(argument)), answer),
     }
 }

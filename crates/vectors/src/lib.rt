@@ -1,4 +1,5 @@
 // Reading recorded vectors: a pattern is 8 hexadecimal digits, and any not-a-number counts as any other.
+use casts::cast_signed;
 ghost use Prim.Native.Nat.{_<_};
 
 // The first 8 digits as a number.
@@ -37,14 +38,6 @@ pub fn float_of(pattern: u32) -> f32 {
     }
 }
 
-pub fn int_of(pattern: u32) -> i32 {
-    if pattern < 0x8000_0000 {
-        pattern as i32
-    } else {
-        (pattern as i64 - 0x1_0000_0000) as i32
-    }
-}
-
 pub fn is_float(x: f32, pattern: u32) -> bool {
     if x != x {
         0x7f80_0000 < pattern % 0x8000_0000
@@ -54,5 +47,5 @@ pub fn is_float(x: f32, pattern: u32) -> bool {
 }
 
 pub fn is_int(n: i32, pattern: u32) -> bool {
-    n == int_of(pattern)
+    n == cast_signed(pattern)
 }
