@@ -9,7 +9,7 @@ use mir.Syntax.{w32}
 use mir.Val.{SFits, toZ, ofZ}
 use mir.Facts.{toZ-ofZ}
 use Rattle.vector.specs.declared.vec2.{vec2}
-use Rattle.hook.specs.declared.Tick.{Tick}
+use Rattle.snap_obj.specs.declared.Tick.{Tick}
 use Rattle.hook.specs.declared.Hook.the-variants.{Retracted}
 use Rattle.hook.specs.Hook.{nobody, attachedOrGrabbed, hookFromNet}
 

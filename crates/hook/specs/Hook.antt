@@ -8,7 +8,7 @@ use Rattle.casts.specs.Casts.{castSigned, castUnsigned}
 use Rattle.vector.specs.Vec2.{vnew}
 use Rattle.vector.specs.declared.vec2.{vec2}
 use Rattle.hook.specs.declared.CharacterId.{CharacterId}
-use Rattle.hook.specs.declared.Tick.{Tick}
+use Rattle.snap_obj.specs.declared.Tick.{Tick}
 use Rattle.hook.specs.declared.Hook.{Hook}
 use Rattle.hook.specs.declared.Hook.the-variants.{Retracted, Idle, Flying, Grabbed, Attached, Retracting0, Retracting1, Retracting2}
 

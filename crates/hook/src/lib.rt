@@ -1,15 +1,13 @@
 // The hook of a character, with what its record says of it.
 use casts::cast_signed;
 use casts::cast_unsigned;
+use snap_obj::Tick;
 use vector::vec2;
 ghost use mathlib.Core.Path.{_≡_};
 ghost use Rattle.hook.specs.Hook.{netState, netPos, netDir, tickOf, netHookedPlayer, attachedOrGrabbed, hookFromNet};
 
-// Who: never a count of steps.
+// Which character: never a count of steps.
 pub struct CharacterId(pub u32);
-
-// When: never an id.
-pub struct Tick(pub i32);
 
 pub const HOOK_RETRACTED: i32 = -1;
 

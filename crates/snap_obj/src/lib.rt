@@ -1,0 +1,31 @@
+// The records of the protocol that the physics reads and writes. Types only.
+
+// A count of steps: never an id.
+pub struct Tick(pub i32);
+
+// The five of its fields that the physics reads.
+pub struct PlayerInput {
+    pub direction: i32,
+    pub target_x: i32,
+    pub target_y: i32,
+    pub jump: i32,
+    pub hook: i32,
+}
+
+pub struct CharacterCore {
+    pub tick: i32,
+    pub x: i32,
+    pub y: i32,
+    pub vel_x: i32,
+    pub vel_y: i32,
+    pub angle: i32,
+    pub direction: i32,
+    pub jumped: i32,
+    pub hooked_player: i32,
+    pub hook_state: i32,
+    pub hook_tick: Tick,
+    pub hook_x: i32,
+    pub hook_y: i32,
+    pub hook_dx: i32,
+    pub hook_dy: i32,
+}
