@@ -1,23 +1,23 @@
 -- `Character` of lib.rs: spawned, as a record, and back. Definitions only.
-use Prim.Native.Nat.{ℕ, _+_, _/_, _%_}
 use mathlib.Core.Bool.{Bool, false, cond}
+use Prim.Native.Nat.{ℕ, _+_, _/_, _%_}
 use lib.Dec.{leb, eqb}
 use lib.IntN.{ℤ, pos}
-use Rattle.whole.specs.Whole.{roundToI32}
-use Rattle.float.specs.Convert.{i32ToF32, to256ths, from256ths}
-use Rattle.number.specs.Number.{c0}
 use Rattle.casts.specs.Casts.{castUnsigned}
-use Rattle.vector.specs.Vec2.{vnew}
-use Rattle.vector.specs.declared.vec2.{vec2}
-use Rattle.direction.specs.Direction.{fromInt, asInt, angleToNet, angleFromNet}
-use Rattle.direction.specs.declared.MoveDirection.the-variants.{None}
-use Rattle.hook.specs.Hook.{netState, netPos, netDir, tickOf, netHookedPlayer, hookFromNet}
-use Rattle.hook.specs.declared.Hook.the-variants.{Idle}
-use Rattle.snap_obj.specs.declared.CharacterCore.{CharacterCore}
 use Rattle.character.specs.declared.Character.{Character}
 use Rattle.character.specs.declared.Net.{Net}
-use Rattle.character.specs.declared.Net.the-variants as net
 use Rattle.character.specs.declared.Quantized.{Quantized}
+use Rattle.direction.specs.Direction.{fromInt, asInt, angleToNet, angleFromNet}
+use Rattle.direction.specs.declared.MoveDirection.the-variants.{None}
+use Rattle.float.specs.Convert.{i32ToF32, to256ths, from256ths}
+use Rattle.hook.specs.Hook.{netState, netPos, netDir, tickOf, netHookedPlayer, hookFromNet}
+use Rattle.hook.specs.declared.Hook.the-variants.{Idle}
+use Rattle.number.specs.Number.{c0}
+use Rattle.snap_obj.specs.declared.CharacterCore.{CharacterCore}
+use Rattle.vector.specs.Vec2.{vnew}
+use Rattle.vector.specs.declared.vec2.{vec2}
+use Rattle.whole.specs.Whole.{roundToI32}
+use Rattle.character.specs.declared.Net.the-variants as net
 use Rattle.character.specs.declared.Quantized.the-variants as quantized
 
 -- at rest at p, with nothing held and nothing pressed

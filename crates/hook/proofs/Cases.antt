@@ -1,15 +1,15 @@
 -- A definition by cases of a hook, where the case is known or ruled out. Assumes nothing.
-use mathlib.Core.Path.{_≡_, refl}
 use mathlib.Core.List.{[], _∷_}
+use mathlib.Core.Path.{_≡_, refl}
 use Prim.Native.Nat.{ℕ}
 use types.Run.{OneOf, miss}
 use denote.Enum.Declared.{tagOf}
-use Rattle.vector.specs.declared.vec2.{vec2}
+use Rattle.hook.proofs.Hook.{the-type}
+use Rattle.hook.specs.Hook.{onFlying, onGrabbed}
 use Rattle.hook.specs.declared.CharacterId.{CharacterId}
 use Rattle.hook.specs.declared.Hook.{Hook}
 use Rattle.hook.specs.declared.Hook.the-variants.{Retracted, Idle, Flying, Grabbed, Attached, Retracting0, Retracting1, Retracting2}
-use Rattle.hook.proofs.Hook.{the-type}
-use Rattle.hook.specs.Hook.{onFlying, onGrabbed}
+use Rattle.vector.specs.declared.vec2.{vec2}
 
 module _ {A : Type 0} (f : vec2 → vec2 → A) (e : A) where
   pub not-flying : (h : Hook) → OneOf (0 ∷ 1 ∷ 3 ∷ 4 ∷ 5 ∷ 6 ∷ 7 ∷ []) (tagOf the-type h) → onFlying f e h ≡ e

@@ -1,17 +1,19 @@
 -- A record's hook state and hooked player, by their bits, which is how the code tests them. Assumes nothing.
+use mathlib.Core.Bool.{Bool, true, false, cond}
 use mathlib.Core.Path.{_≡_, refl, sym, ap, _∙_}
-use mathlib.Core.Bool.{false}
-use Prim.Native.Nat.{ℕ, zero, suc}
+use Prim.Native.Nat.{ℕ, zero, suc, _-_, _^_, _<_}
 use native.Mathlib.Omega.{arith}
-use borrow.Author.Tests.{ne-eqb}
+use lib.Dec.{ltb}
 use lib.IntN.{ℤ, pos, negsuc}
+use mir.Facts.{toZ-ofZ}
 use mir.Syntax.{w32}
 use mir.Val.{SFits, toZ, ofZ}
-use mir.Facts.{toZ-ofZ}
-use Rattle.vector.specs.declared.vec2.{vec2}
-use Rattle.snap_obj.specs.declared.Tick.{Tick}
+use borrow.Author.Tests.{ne-eqb}
+use Rattle.casts.specs.Casts.{castSigned}
+use Rattle.hook.specs.Hook.{nobody, hookFromNet}
 use Rattle.hook.specs.declared.Hook.the-variants.{Retracted}
-use Rattle.hook.specs.Hook.{nobody, attachedOrGrabbed, hookFromNet}
+use Rattle.snap_obj.specs.declared.Tick.{Tick}
+use Rattle.vector.specs.declared.vec2.{vec2}
 
 -- the number that the bits k stand for
 pub by-bits : (z : ℤ) (k : ℕ) → SFits w32 z → ofZ w32 z ≡ k → z ≡ toZ w32 k
@@ -29,3 +31,15 @@ pub no-state : (z : ℤ) (p d : vec2) (player : ℤ) (t : Tick) → (ofZ w32 z �
 unfolding hookFromNet
 no-state (negsuc k) p d player t h0 h1 h2 h3 h4 h5 = refl
 no-state (pos n) p d player t h0 h1 h2 h3 h4 h5 = simp (ne-eqb n 0 h0, ne-eqb n 1 h1, ne-eqb n 2 h2, ne-eqb n 3 h3, ne-eqb n 4 h4, ne-eqb n 5 h5)
+
+-- every player but 4,294,967,295, whose bits are those of -1
+pub held-somebody : (n : ℕ) → n < 2 ^ 32 - 1 → nobody (castSigned n) ≡ false
+unfolding castSigned
+held-somebody n h = go (ltb n (2 ^ 31))
+  where
+    go : (b : Bool) → nobody (cond b (pos n) (negsuc (2 ^ 32 - suc n))) ≡ false
+    go true = refl
+    go false = ne-eqb (2 ^ 32 - suc n) 0 not-last
+      where
+        not-last : 2 ^ 32 - suc n ≡ 0 → ⊥
+        not-last e = omega arith

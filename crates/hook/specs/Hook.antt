@@ -1,16 +1,16 @@
 -- `Hook` of lib.rs, and what a record says of it. Definitions only.
-use Prim.Native.Nat.{ℕ}
 use mathlib.Core.Bool.{Bool, false, cond}
+use Prim.Native.Nat.{ℕ}
 use lib.Dec.{eqb}
 use lib.IntN.{ℤ, pos, negsuc}
-use Rattle.number.specs.Number.{c0}
 use Rattle.casts.specs.Casts.{castSigned, castUnsigned}
-use Rattle.vector.specs.Vec2.{vnew}
-use Rattle.vector.specs.declared.vec2.{vec2}
 use Rattle.hook.specs.declared.CharacterId.{CharacterId}
-use Rattle.snap_obj.specs.declared.Tick.{Tick}
 use Rattle.hook.specs.declared.Hook.{Hook}
 use Rattle.hook.specs.declared.Hook.the-variants.{Retracted, Idle, Flying, Grabbed, Attached, Retracting0, Retracting1, Retracting2}
+use Rattle.number.specs.Number.{c0}
+use Rattle.snap_obj.specs.declared.Tick.{Tick}
+use Rattle.vector.specs.Vec2.{vnew}
+use Rattle.vector.specs.declared.vec2.{vec2}
 
 -- the number of each state; Attached and Grabbed share one
 unfoldable pub netState : Hook → ℤ

@@ -1,8 +1,5 @@
 -- `character::Character::from_net` meets its contract. Assumes nothing.
 use mathlib.Core.Path.{_≡_, _∙_, ap}
-use lib.IntN.{ℤ}
-use mir.Syntax.{w32}
-use mir.Val.{toZ, ofZ}
 use borrow.Author.Needs.{needs}
 use Rattle.character.proofs.Signed.{read}
 use Rattle.character.specs.Character.{usedAirjumpFromNet, jumpedAlreadyFromNet, fromNet}
@@ -124,8 +121,7 @@ returns c =
     let used : c4 .used-airjump-from-net .result ≡ usedAirjumpFromNet (n .jumped) = c4 .used-airjump-from-net .ensures ∙ ap usedAirjumpFromNet (read (n .jumped) (t7 .0 .1)) in
     let at : c2 .from-net2 .result ≡ angleFromNet (n .angle) = c2 .from-net2 .ensures ∙ ap angleFromNet (read (n .angle) (t5 .0 .1)) in
     let way : c .from-int .result ≡ fromInt (n .direction) = c .from-int .ensures ∙ ap fromInt (read (n .direction) (t6 .0 .1)) in
-    let h : c8 .from-net .result ≡ hookFromNet (n .«hook_state») (c16 .new3 .result) (c11 .new4 .result) (n .«hooked_player») (n .«hook_tick») =
-    c8 .from-net .ensures ∙ ap (λ (z : ℤ). hookFromNet z (c16 .new3 .result) (c11 .new4 .result) (toZ w32 (ofZ w32 (n .«hooked_player»))) (n .«hook_tick»)) (read (n .«hook_state») (t9 .0 .1)) ∙ ap (λ (z : ℤ). hookFromNet (n .«hook_state») (c16 .new3 .result) (c11 .new4 .result) z (n .«hook_tick»)) (read (n .«hooked_player») (t8 .0 .1)) in
+    let h : c8 .from-net .result ≡ hookFromNet (n .«hook_state») (c16 .new3 .result) (c11 .new4 .result) (n .«hooked_player») (n .«hook_tick») = rw (← read (n .«hook_state») (t9 .0 .1), ← read (n .«hooked_player») (t8 .0 .1)) (c8 .from-net .ensures) in
     rw (c26 .new .ensures, x, y, c21 .new2 .ensures, vx, vy, h, c16 .new3 .ensures, hx, hy, c11 .new4 .ensures, dx, dy, already, used, at, way)
 
 pub from-net-spec : {M : Type 1} → statement M

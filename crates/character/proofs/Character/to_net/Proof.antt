@@ -1,6 +1,6 @@
 -- `character::Character::to_net` meets its contract. Assumes nothing.
 use borrow.Author.Needs.{needs}
-use borrow.Author.Tests.{lt-ltb, lt-leb, le-leb, le-ltb}
+use borrow.Author.Tests.{lt-leb, le-leb}
 use Rattle.character.specs.Character.{toNet}
 use Rattle.character.proofs.Character.to_net.Statement.{statement}
 use Rattle.character.proofs.Character.to_net.Tie as tie
@@ -10,14 +10,14 @@ tick-requires c κs = search needs
 
 returns : tie.Need-returns
 unfolding toNet
-returns c = simp (← c .before .tick .ensures, lt-ltb _ _ (c .if1 .taken), lt-leb _ _ (c .if1 .taken))
+returns c = simp (← c .before .tick .ensures, lt-leb _ _ (c .if1 .taken))
 
 core-requires : tie.Need-core-requires
 core-requires c κs = search needs
 
 returns-2 : tie.Need-returns-2
 unfolding toNet
-returns-2 c = simp (← c .before .before .tick .ensures, le-leb _ _ (c .before .if1 .left), le-ltb _ _ (c .before .if1 .left), ← c .core .ensures)
+returns-2 c = simp (← c .before .before .tick .ensures, le-leb _ _ (c .before .if1 .left), ← c .core .ensures)
 
 pub to-net-spec : {M : Type 1} → statement M
 to-net-spec = tie.close (tie.spec tick-requires returns core-requires returns-2)

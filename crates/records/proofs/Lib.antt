@@ -1,0 +1,4 @@
+pub mod Back
+pub mod FromNet
+pub mod Faithful
+pub mod Cases
