@@ -1,6 +1,5 @@
 // A box on the map.
 use tiles::Sides;
-use tiles::Tile;
 use tiles::tile_at;
 use tiles::tile_in;
 use vector::vec2;
@@ -44,10 +43,5 @@ fn is_solid(sides: Sides, tiles: &[u8], column: u32, row: u32) -> bool
     requires { ⌜ T (isMap sides (now tiles)) × (column < sides .width) × (row < sides .height) ⌝ }
     ensures { λ r. ⌜ r ≡ solid (tileIn sides (now (tiles .entry)) column row) ⌝ }
 {
-    let tile = tile_in(sides, tiles, column, row);
-    match tile {
-        Tile::Open => false,
-        Tile::Normal => true,
-        Tile::Unhookable => true,
-    }
+    tile_in(sides, tiles, column, row).is_solid()
 }

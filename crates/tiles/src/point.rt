@@ -6,12 +6,24 @@ ghost use mathlib.Core.Path.{_≡_};
 ghost use Prim.Native.Nat.{_<_};
 ghost use lib.Dec.{T};
 ghost use Rattle.corners.specs.Tile.{tileAt};
-ghost use Rattle.tiles.specs.Map.{isMap, tileIn, checkPoint};
+ghost use Rattle.tiles.specs.Map.{isMap, tileIn, checkPoint, solid};
 
 pub enum Tile {
     Open,
     Normal,
     Unhookable,
+}
+
+impl Tile {
+    pub fn is_solid(self) -> bool
+        ensures { λ r. ⌜ r ≡ solid self ⌝ }
+    {
+        match self {
+            Tile::Open => false,
+            Tile::Normal => true,
+            Tile::Unhookable => true,
+        }
+    }
 }
 
 pub fn check_point(sides: Sides, tiles: &[u8], pos: vec2) -> Tile

@@ -1,7 +1,7 @@
 -- `boxes::check_box` meets its contract. Assumes nothing.
-use Rattle.tiles.proofs.Maps.{is-map}
-use Rattle.boxes.proofs.Corners.{box-tiles}
 use borrow.Author.Needs.{needs}
+use Rattle.boxes.proofs.Corners.{box-tiles}
+use Rattle.tiles.proofs.Maps.{is-map}
 use Rattle.boxes.proofs.check_box.Statement.{statement}
 use Rattle.boxes.proofs.check_box.Tie as tie
 

@@ -1,6 +1,6 @@
 -- `boxes::solid_corners` meets its contract. Assumes nothing.
-use Rattle.boxes.specs.Box.{solidCorners}
 use borrow.Author.Needs.{needs}
+use Rattle.boxes.specs.Box.{solidCorners}
 use Rattle.boxes.proofs.solid_corners.Statement.{statement}
 use Rattle.boxes.proofs.solid_corners.Tie as tie
 

@@ -1,0 +1,60 @@
+-- What `tick` of lib.rs does to a character alone: ground, jump, walk and the last clamp. Definitions only.
+use Prim.Native.Nat.{ℕ}
+use mathlib.Core.Bool.{Bool, true, false, cond, _||_}
+use mathlib.Core.List.{List}
+use lib.Ieee.{Float, binary32, neg, mul, lt, ofBits}
+use Rattle.number.specs.Number.{saturatedAdd}
+use Rattle.vector.specs.Vec2.{vnew, vadd, vmul, vlength, vnormalize}
+use Rattle.vector.specs.declared.vec2.{vec2}
+use Rattle.direction.specs.Direction.{asFloat}
+use Rattle.direction.specs.declared.MoveDirection.{MoveDirection}
+use Rattle.direction.specs.declared.MoveDirection.the-variants.{Left, None, Right}
+use Rattle.tiles.specs.Map.{checkPoint, solid}
+use Rattle.tiles.specs.declared.Sides.{Sides}
+use Rattle.tuning.specs.declared.Tuning.{Tuning}
+use Rattle.controls.specs.declared.Control.{Control}
+use Rattle.controls.specs.declared.JumpState.{JumpState}
+
+-- half of CHARACTER_SIZE, and 5 below it
+abbrev pub c14 : Float
+c14 = ofBits binary32 0x4160_0000
+
+abbrev pub c19 : Float
+c19 = ofBits binary32 0x4198_0000
+
+-- MAX_VELOCITY
+abbrev pub c6000 : Float
+c6000 = ofBits binary32 0x45bb_8000
+
+-- whether there is a solid tile 5 below one of the lower corners
+unfoldable pub grounded : Sides → List ℕ → vec2 → Bool
+grounded s ts p = solid (checkPoint s ts (vadd p (vnew (neg c14) c19))) || solid (checkPoint s ts (vadd p (vnew c14 c19)))
+
+-- speed, acceleration and friction of the ground or of the air
+unfoldable pub controlOf : Bool → Tuning → Control
+controlOf true t = record { «max_speed» = t .«ground_control_speed»; accel = t .«ground_control_accel»; friction = t .«ground_friction» }
+controlOf false t = record { «max_speed» = t .«air_control_speed»; accel = t .«air_control_accel»; friction = t .«air_friction» }
+
+-- a button that is pressed anew jumps: from the ground, or from the air where the air jump is not used
+unfoldable pub jump : JumpState → Bool → Bool → Tuning → JumpState
+jump j pressed onGround t =
+    cond pressed
+    (cond (j .«jumped_already») j
+    (cond onGround (record { «vel_y» = neg (t .«ground_jump_impulse»); «jumped_already» = true; «used_airjump» = j .«used_airjump» })
+    (cond (j .«used_airjump») (record { «vel_y» = j .«vel_y»; «jumped_already» = true; «used_airjump» = j .«used_airjump» })
+    (record { «vel_y» = neg (t .«air_jump_impulse»); «jumped_already» = true; «used_airjump» = true }))))
+    (record { «vel_y» = j .«vel_y»; «jumped_already» = false; «used_airjump» = j .«used_airjump» })
+
+-- friction where there is no direction
+abbrev pub slowed : MoveDirection → Float → Float → Float
+slowed Left v f = v
+slowed None v f = mul binary32 v f
+slowed Right v f = v
+
+-- the velocity sideways
+unfoldable pub walk : Float → MoveDirection → Control → Float
+walk v d c = slowed d (saturatedAdd (neg (c .«max_speed»)) (c .«max_speed») v (mul binary32 (asFloat d) (c .accel))) (c .friction)
+
+-- a velocity of at most 6,000
+unfoldable pub clampSpeed : vec2 → vec2
+clampSpeed v = cond (lt c6000 (vlength v)) (vmul (vnormalize v) c6000) v

@@ -1,0 +1,113 @@
+-- What `tick` of lib.rs does to a hook without others, and how an attached hook pulls. Definitions only.
+use Prim.Native.Nat.{ℕ, _+_}
+use mathlib.Core.Bool.{Bool, cond}
+use lib.Dec.{ltb}
+use lib.Ieee.{Float, binary32, mul, lt, ofBits}
+use Rattle.number.specs.Number.{c0}
+use Rattle.vector.specs.Vec2.{vnew, vadd, vsub, vmul, vlength, vnormalize, vdistance}
+use Rattle.vector.specs.declared.vec2.{vec2}
+use Rattle.direction.specs.Direction.{asFloat}
+use Rattle.direction.specs.declared.MoveDirection.{MoveDirection}
+use Rattle.hook.specs.Hook.{onGrabbed}
+use Rattle.hook.specs.declared.CharacterId.{CharacterId}
+use Rattle.hook.specs.declared.Hook.{Hook}
+use Rattle.hook.specs.declared.Hook.the-variants.{Retracted, Idle, Flying, Grabbed, Attached, Retracting0, Retracting1, Retracting2}
+use Rattle.tiles.specs.declared.point.Tile.{Tile}
+use Rattle.tiles.specs.declared.point.Tile.the-variants.{Open, Normal, Unhookable}
+use Rattle.lines.specs.declared.LineCheck.{LineCheck}
+use Rattle.lines.specs.declared.LineCheck.the-variants.{BadMap, TooFar, Nothing, At}
+use Rattle.tuning.specs.declared.Tuning.{Tuning}
+use Rattle.hooking.specs.declared.Flight.{Flight}
+
+-- CHARACTER_SIZE and 1.5
+abbrev pub c28 : Float
+c28 = ofBits binary32 0x41e0_0000
+
+abbrev pub c1½ : Float
+c1½ = ofBits binary32 0x3fc0_0000
+
+-- DISABLE_HOOK_DISTANCE
+abbrev pub c46 : Float
+c46 = ofBits binary32 0x4238_0000
+
+-- 0.3, 0.95 and 0.75
+abbrev pub c0·3 : Float
+c0·3 = ofBits binary32 0x3e99_999a
+
+abbrev pub c0·95 : Float
+c0·95 = ofBits binary32 0x3f73_3333
+
+abbrev pub c0·75 : Float
+c0·75 = ofBits binary32 0x3f40_0000
+
+-- an idle hook is fired, any other stays
+unfoldable pub fired : Hook → vec2 → vec2 → Hook
+fired Idle p d = Flying (vadd p (vmul (vmul d c28) c1½)) d
+fired Retracted p d = Retracted
+fired (Flying a b) p d = Flying a b
+fired (Grabbed c t) p d = Grabbed c t
+fired (Attached a) p d = Attached a
+fired (Retracting0 a) p d = Retracting0 a
+fired (Retracting1 a) p d = Retracting1 a
+fired (Retracting2 a) p d = Retracting2 a
+
+-- a released button takes the hook back
+unfoldable pub fire : Hook → Bool → vec2 → vec2 → Hook
+fire h pressed p d = cond pressed (fired h p d) Idle
+
+-- where a flying hook gets to: at most its length from the character, where it begins to come back
+unfoldable pub fly : vec2 → vec2 → vec2 → Tuning → Flight
+fly p d character t =
+    let q = vadd p (vmul d (t .«hook_fire_speed»)) in
+    let end = vadd character (vmul (vnormalize (vsub q character)) (t .«hook_length»)) in
+    cond (lt (t .«hook_length») (vdistance q character)) (record { to = end; hook = Retracting0 end }) (record { to = q; hook = Flying q d })
+
+-- a solid tile on the way attaches it, or sends it back
+abbrev pub struckBy : Hook → vec2 → Tile → Hook
+struckBy h p Open = h
+struckBy h p Normal = Attached p
+struckBy h p Unhookable = Retracting0 p
+
+unfoldable pub strike : Hook → LineCheck → Hook
+strike h BadMap = h
+strike h TooFar = h
+strike h Nothing = h
+strike h (At p t) = struckBy h p t
+
+-- one tick of coming back
+unfoldable pub retract : Hook → Hook
+retract Retracted = Retracted
+retract Idle = Idle
+retract (Flying p d) = Flying p d
+retract (Grabbed c t) = Grabbed c t
+retract (Attached p) = Attached p
+retract (Retracting0 p) = Retracting1 p
+retract (Retracting1 p) = Retracting2 p
+retract (Retracting2 p) = Retracted
+
+-- one more tick of holding: up to MAX_HOOK_GRAB_TIME
+abbrev pub held : CharacterId → ℕ → Hook
+held c t = cond (ltb 60 (t + 1)) Retracted (Grabbed c (t + 1))
+
+unfoldable pub hold : Hook → Hook
+hold h = onGrabbed held h h
+
+-- downwards a hook has 30 % of its power
+unfoldable pub lifted : vec2 → vec2
+lifted v = cond (lt c0 (v .y)) (vnew (v .x) (mul binary32 (v .y) c0·3)) v
+
+-- in the direction that is wanted it has more than against it
+unfoldable pub helped : vec2 → MoveDirection → vec2
+helped v d = cond (lt c0 (mul binary32 (v .x) (asFloat d))) (vnew (mul binary32 (v .x) c0·95) (v .y)) (vnew (mul binary32 (v .x) c0·75) (v .y))
+
+-- the pull of an attached hook
+unfoldable pub hookVel : vec2 → vec2 → MoveDirection → Tuning → vec2
+hookVel p q d t = helped (lifted (vmul (vnormalize (vsub q p)) (t .«hook_drag_accel»))) d
+
+-- the velocity that it drags to: where it is far enough, and below the limit or slowing down
+unfoldable pub drag : vec2 → vec2 → vec2 → MoveDirection → Tuning → vec2
+drag p v q d t =
+    let new = vadd v (hookVel p q d t) in
+    cond (lt c46 (vdistance q p))
+    (cond (lt (vlength new) (t .«hook_drag_speed»)) new (cond (lt (vlength new) (vlength v)) new v))
+    v

@@ -1,0 +1,137 @@
+// What becomes of a hook in a tick, as far as nobody else is in it, and how it pulls.
+use direction::MoveDirection;
+use hook::Hook;
+use lines::LineCheck;
+use tiles::Tile;
+use tuning::Tuning;
+use vector::vec2;
+ghost use mathlib.Core.Path.{_≡_};
+ghost use Rattle.hooking.specs.Hooking.{fired, fire, fly, strike, retract, hold, lifted, helped, hookVel, drag};
+
+// What of its hold a hook keeps: 1.2 s with 50 ticks a second.
+pub const MAX_HOOK_GRAB_TIME: u32 = 60;
+
+// Where a hook flies to, and what it is there.
+pub struct Flight {
+    pub to: vec2,
+    pub hook: Hook,
+}
+
+// A pressed button fires an idle hook, a released one takes any hook back.
+pub fn fire(hook: Hook, pressed: bool, pos: vec2, target_dir: vec2) -> Hook
+    ensures { λ r. ⌜ r ≡ fire hook pressed pos «target_dir» ⌝ }
+{
+    if pressed {
+        return fired(hook, pos, target_dir);
+    }
+    Hook::Idle
+}
+
+fn fired(hook: Hook, pos: vec2, target_dir: vec2) -> Hook
+    ensures { λ r. ⌜ r ≡ fired hook pos «target_dir» ⌝ }
+{
+    let Hook::Idle = hook else {
+        return hook;
+    };
+    Hook::Flying(pos.add(target_dir.mul(28.0).mul(1.5)), target_dir)
+}
+
+// The flight of a tick, which ends at the hook's length from the character.
+pub fn fly(pos: vec2, dir: vec2, character: vec2, tuning: Tuning) -> Flight
+    ensures { λ r. ⌜ r ≡ fly pos dir character tuning ⌝ }
+{
+    let new_pos = pos.add(dir.mul(tuning.hook_fire_speed));
+    if vec2::distance(new_pos, character) > tuning.hook_length {
+        let end = character.add(new_pos.sub(character).normalize().mul(tuning.hook_length));
+        return Flight {
+            to: end,
+            hook: Hook::Retracting0(end),
+        };
+    }
+    Flight {
+        to: new_pos,
+        hook: Hook::Flying(new_pos, dir),
+    }
+}
+
+// What the tiles on the way make of it, also where it has reached its length.
+pub fn strike(hook: Hook, check: LineCheck) -> Hook
+    ensures { λ r. ⌜ r ≡ strike hook check ⌝ }
+{
+    let LineCheck::At(p, tile) = check else {
+        return hook;
+    };
+    match tile {
+        Tile::Open => hook,
+        Tile::Normal => Hook::Attached(p),
+        Tile::Unhookable => Hook::Retracting0(p),
+    }
+}
+
+// A hook that comes back does so in three ticks.
+pub fn retract(hook: Hook) -> Hook
+    ensures { λ r. ⌜ r ≡ retract hook ⌝ }
+{
+    match hook {
+        Hook::Retracting0(pos) => Hook::Retracting1(pos),
+        Hook::Retracting1(pos) => Hook::Retracting2(pos),
+        Hook::Retracting2(_) => Hook::Retracted,
+        _ => hook,
+    }
+}
+
+// One more tick of holding somebody, the one in which it began included. The largest tick can't be counted up: it is beyond the time.
+pub fn hold(hook: Hook) -> Hook
+    ensures { λ r. ⌜ r ≡ hold hook ⌝ }
+{
+    let Hook::Grabbed(hooked, tick) = hook else {
+        return hook;
+    };
+    if tick >= MAX_HOOK_GRAB_TIME {
+        return Hook::Retracted;
+    }
+    Hook::Grabbed(hooked, tick + 1)
+}
+
+// The velocity that an attached hook drags to.
+pub fn drag(pos: vec2, vel: vec2, hook_pos: vec2, direction: MoveDirection, tuning: Tuning) -> vec2
+    ensures { λ r. ⌜ r ≡ drag pos vel «hook_pos» direction tuning ⌝ }
+{
+    if vec2::distance(hook_pos, pos) > 46.0 {
+        let new_vel = vel.add(hook_vel(pos, hook_pos, direction, tuning));
+        let speed = new_vel.length();
+        if speed < tuning.hook_drag_speed {
+            return new_vel;
+        }
+        if speed < vel.length() {
+            return new_vel;
+        }
+    }
+    vel
+}
+
+// The pull: weaker downwards, and weaker against the direction.
+fn hook_vel(pos: vec2, hook_pos: vec2, direction: MoveDirection, tuning: Tuning) -> vec2
+    ensures { λ r. ⌜ r ≡ hookVel pos «hook_pos» direction tuning ⌝ }
+{
+    let pull = hook_pos.sub(pos).normalize().mul(tuning.hook_drag_accel);
+    helped(lifted(pull), direction)
+}
+
+fn lifted(pull: vec2) -> vec2
+    ensures { λ r. ⌜ r ≡ lifted pull ⌝ }
+{
+    if pull.y > 0.0 {
+        return vec2::new(pull.x, pull.y * 0.3);
+    }
+    pull
+}
+
+fn helped(pull: vec2, direction: MoveDirection) -> vec2
+    ensures { λ r. ⌜ r ≡ helped pull direction ⌝ }
+{
+    if pull.x * direction.as_float() > 0.0 {
+        return vec2::new(pull.x * 0.95, pull.y);
+    }
+    vec2::new(pull.x * 0.75, pull.y)
+}
