@@ -4,7 +4,7 @@ use mathlib.Core.Bool.{Bool, cond}
 use lib.Dec.{ltb}
 use lib.Ieee.{Float, binary32, mul, lt, ofBits}
 use Rattle.number.specs.Number.{c0}
-use Rattle.vector.specs.Vec2.{vnew, vadd, vsub, vmul, vlength, vnormalize, vdistance}
+use Rattle.vector.specs.Vec2.{vnew, vadd, vsub, vmul, vlength, vnormalize, vdistance, closestPointOnLine}
 use Rattle.vector.specs.declared.vec2.{vec2}
 use Rattle.direction.specs.Direction.{asFloat}
 use Rattle.direction.specs.declared.MoveDirection.{MoveDirection}
@@ -18,6 +18,9 @@ use Rattle.lines.specs.declared.LineCheck.{LineCheck}
 use Rattle.lines.specs.declared.LineCheck.the-variants.{BadMap, TooFar, Nothing, At}
 use Rattle.tuning.specs.declared.Tuning.{Tuning}
 use Rattle.hooking.specs.declared.Flight.{Flight}
+use Rattle.hooking.specs.declared.Nearest.{Nearest}
+use Rattle.hooking.specs.declared.Nearest.the-variants.{Nobody}
+use Rattle.hooking.specs.declared.Nearest.the-variants as near
 
 -- CHARACTER_SIZE and 1.5
 abbrev pub c28 : Float
@@ -73,6 +76,20 @@ strike h BadMap = h
 strike h TooFar = h
 strike h Nothing = h
 strike h (At p t) = struckBy h p t
+
+-- the first is the nearest so far, a later one where its distance is less
+unfoldable pub closer : Nearest → ℕ → Float → Nearest
+closer Nobody cid distance = near.At distance (record { 0 = cid })
+closer (near.At least c) cid distance = cond (lt distance least) (near.At distance (record { 0 = cid })) (near.At least c)
+
+-- of those that are within CHARACTER_SIZE of the way
+unfoldable pub nearer : Nearest → ℕ → vec2 → vec2 → vec2 → Nearest
+nearer best cid q from to = cond (lt (vdistance q (closestPointOnLine q from to)) c28) (closer best cid (vdistance from q)) best
+
+-- whoever is met is grabbed, for no ticks yet
+unfoldable pub grab : Hook → Nearest → Hook
+grab h Nobody = h
+grab h (near.At distance c) = Grabbed c 0
 
 -- one tick of coming back
 unfoldable pub retract : Hook → Hook

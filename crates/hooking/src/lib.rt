@@ -1,12 +1,13 @@
 // What becomes of a hook in a tick, as far as nobody else is in it, and how it pulls.
 use direction::MoveDirection;
+use hook::CharacterId;
 use hook::Hook;
 use lines::LineCheck;
 use tiles::Tile;
 use tuning::Tuning;
 use vector::vec2;
 ghost use mathlib.Core.Path.{_≡_};
-ghost use Rattle.hooking.specs.Hooking.{fired, fire, fly, strike, retract, hold, lifted, helped, hookVel, drag};
+ghost use Rattle.hooking.specs.Hooking.{fired, fire, fly, strike, closer, nearer, grab, retract, hold, lifted, helped, hookVel, drag};
 
 // What of its hold a hook keeps: 1.2 s with 50 ticks a second.
 pub const MAX_HOOK_GRAB_TIME: u32 = 60;
@@ -66,6 +67,45 @@ pub fn strike(hook: Hook, check: LineCheck) -> Hook
         Tile::Normal => Hook::Attached(p),
         Tile::Unhookable => Hook::Retracting0(p),
     }
+}
+
+// Who is met first on the flight so far, and at which distance.
+pub enum Nearest {
+    Nobody,
+    At(f32, CharacterId),
+}
+
+// The nearest after the character cid at `other` is looked at: of those beside the way, the first of the least distance.
+pub fn nearer(best: Nearest, cid: u32, other: vec2, from: vec2, to: vec2) -> Nearest
+    ensures { λ r. ⌜ r ≡ nearer best cid other from to ⌝ }
+{
+    let closest = other.closest_point_on_line(from, to);
+    if vec2::distance(other, closest) < 28.0 {
+        return closer(best, cid, vec2::distance(from, other));
+    }
+    best
+}
+
+fn closer(best: Nearest, cid: u32, distance: f32) -> Nearest
+    ensures { λ r. ⌜ r ≡ closer best cid distance ⌝ }
+{
+    if let Nearest::At(min_distance, _) = best {
+        if distance < min_distance {
+            return Nearest::At(distance, CharacterId(cid));
+        }
+        return best;
+    }
+    Nearest::At(distance, CharacterId(cid))
+}
+
+// Whoever is met is grabbed.
+pub fn grab(hook: Hook, nearest: Nearest) -> Hook
+    ensures { λ r. ⌜ r ≡ grab hook nearest ⌝ }
+{
+    let Nearest::At(_, cid) = nearest else {
+        return hook;
+    };
+    Hook::Grabbed(cid, 0)
 }
 
 // A hook that comes back does so in three ticks.

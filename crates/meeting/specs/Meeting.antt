@@ -1,9 +1,16 @@
 -- What two characters do to each other's velocity in `tick` of lib.rs. Definitions only.
-use mathlib.Core.Bool.{cond}
+use Prim.Native.Nat.{ℕ}
+use mathlib.Core.Bool.{Bool, cond, _&&_}
+use lib.Dec.{eqb}
 use lib.Ieee.{Float, binary32, neg, add, sub, mul, div, lt, ne, ofBits}
 use Rattle.number.specs.Number.{c0, c1, saturatedAdd}
-use Rattle.vector.specs.Vec2.{vnew, vadd, vsub, vmul, vlength, vnormalize, vdot}
+use Rattle.vector.specs.Vec2.{vnew, vadd, vsub, vmul, vlength, vnormalize, vdistance, vdot}
 use Rattle.vector.specs.declared.vec2.{vec2}
+use Rattle.hook.specs.Hook.{onGrabbed}
+use Rattle.hook.specs.declared.CharacterId.{CharacterId}
+use Rattle.hook.specs.declared.Hook.{Hook}
+use Rattle.tuning.specs.declared.Tuning.{Tuning}
+use Rattle.meeting.specs.declared.Velocities.{Velocities}
 
 -- CHARACTER_SIZE, times 1.25, and 1.45
 abbrev pub c28 : Float
@@ -14,6 +21,17 @@ c35 = ofBits binary32 0x420c_0000
 
 abbrev pub c1·45 : Float
 c1·45 = ofBits binary32 0x3fb9_999a
+
+-- CHARACTER_SIZE times 1.5
+abbrev pub c42 : Float
+c42 = ofBits binary32 0x4228_0000
+
+-- 0.25 and 1.5
+abbrev pub c0·25 : Float
+c0·25 = ofBits binary32 0x3e80_0000
+
+abbrev pub c1·5 : Float
+c1·5 = ofBits binary32 0x3fc0_0000
 
 -- 0.0001, 0.5, 0.75, 0.85 and 2.0
 abbrev pub c0·0001 : Float
@@ -51,3 +69,29 @@ unfoldable pub pull : vec2 → Float → vec2 → Float → Float → vec2
 pull v accel d factor speed =
     vnew (saturatedAdd (neg speed) speed (v .x) (mul binary32 (mul binary32 accel (d .x)) factor))
     (saturatedAdd (neg speed) speed (v .y) (mul binary32 (mul binary32 accel (d .y)) factor))
+
+-- the hook pulls the other, and a sixth as strongly its own character
+unfoldable pub dragged : vec2 → vec2 → Velocities → Float → Tuning → Velocities
+dragged p q v distance t =
+    let d = vnormalize (vsub p q) in
+    let accel = div binary32 (mul binary32 (t .«hook_drag_accel») distance) (t .«hook_length») in
+    record { me = pull (v .me) (neg accel) d c0·25 (t .«hook_drag_speed»); other = pull (v .other) accel d c1·5 (t .«hook_drag_speed») }
+
+-- where players can be hooked, and it is not too near
+unfoldable pub held : vec2 → vec2 → Velocities → Float → Tuning → Velocities
+held p q v distance t = cond (ne (t .«player_hooking») c0) (cond (lt c42 distance) (dragged p q v distance t) v) v
+
+-- the hook holds the character in the slot cid, or not
+abbrev pub dragIf : vec2 → vec2 → Velocities → Float → Tuning → ℕ → CharacterId → ℕ → Velocities
+dragIf p q v distance t cid hooked ticks = cond (eqb (hooked .0) cid) (held p q v distance t) v
+
+-- p, v and the hook are of the character that ticks, q and u of the one in the slot cid: a collision, then the drag
+unfoldable pub meet : vec2 → vec2 → Hook → vec2 → vec2 → ℕ → Tuning → Velocities
+meet p v h q u cid t =
+    let distance = vdistance p q in
+    let w : Velocities = record { me = push p v q distance (t .«player_collision»); other = u } in
+    onGrabbed (dragIf p q w distance t cid) w h
+
+-- near, but not in the same place
+unfoldable pub touches : vec2 → vec2 → Bool
+touches p q = let d = vdistance p q in lt c0 d && lt d c28

@@ -1,8 +1,16 @@
 // What two characters do to each other's velocity in a tick.
+use hook::Hook;
 use number::saturated_add;
+use tuning::Tuning;
 use vector::vec2;
 ghost use mathlib.Core.Path.{_≡_};
-ghost use Rattle.meeting.specs.Meeting.{additionalVel, pushed, push, pull};
+ghost use Rattle.meeting.specs.Meeting.{additionalVel, pushed, push, pull, dragged, held, meet, touches};
+
+// The velocities of a character and of another that it meets.
+pub struct Velocities {
+    pub me: vec2,
+    pub other: vec2,
+}
 
 // How much of the push is added to a velocity, by how it goes towards the other.
 fn additional_vel(vel: vec2, dir_to_self: vec2) -> f32
@@ -47,4 +55,58 @@ pub fn pull(vel: vec2, accel: f32, dir: vec2, factor: f32, speed: f32) -> vec2
         saturated_add(-speed, speed, vel.x, accel * dir.x * factor),
         saturated_add(-speed, speed, vel.y, accel * dir.y * factor),
     )
+}
+
+// What a hook does to both, the one that holds and the one that is held.
+fn dragged(pos: vec2, other_pos: vec2, before: Velocities, distance: f32, tuning: Tuning) -> Velocities
+    ensures { λ r. ⌜ r ≡ dragged pos «other_pos» before distance tuning ⌝ }
+{
+    let dir = pos.sub(other_pos).normalize();
+    let accel = tuning.hook_drag_accel * distance / tuning.hook_length;
+    let drag_speed = tuning.hook_drag_speed;
+    let other = pull(before.other, accel, dir, 1.5, drag_speed);
+    let me = pull(before.me, -accel, dir, 0.25, drag_speed);
+    Velocities {
+        me: me,
+        other: other,
+    }
+}
+
+// The same, where players can be hooked and the other is not too near.
+fn held(pos: vec2, other_pos: vec2, before: Velocities, distance: f32, tuning: Tuning) -> Velocities
+    ensures { λ r. ⌜ r ≡ held pos «other_pos» before distance tuning ⌝ }
+{
+    if tuning.player_hooking != 0.0 {
+        if distance > 42.0 {
+            return dragged(pos, other_pos, before, distance, tuning);
+        }
+    }
+    before
+}
+
+// A tick's meeting with the character in the slot cid: a collision, then the drag of a hook that holds it.
+pub fn meet(pos: vec2, vel: vec2, hook: Hook, other_pos: vec2, other_vel: vec2, cid: u32, tuning: Tuning) -> Velocities
+    ensures { λ r. ⌜ r ≡ meet pos vel hook «other_pos» «other_vel» cid tuning ⌝ }
+{
+    let distance = vec2::distance(pos, other_pos);
+    let pushed = push(pos, vel, other_pos, distance, tuning.player_collision);
+    let velocities = Velocities {
+        me: pushed,
+        other: other_vel,
+    };
+    let Hook::Grabbed(hooked, _) = hook else {
+        return velocities;
+    };
+    if hooked.0 == cid {
+        return held(pos, other_pos, velocities, distance, tuning);
+    }
+    velocities
+}
+
+// Whether a character at p meets one at q: near, but not in the same place.
+pub fn touches(p: vec2, q: vec2) -> bool
+    ensures { λ r. ⌜ r ≡ touches p q ⌝ }
+{
+    let d = vec2::distance(p, q);
+    0.0 < d && d < 28.0
 }
