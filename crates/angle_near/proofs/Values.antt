@@ -1,0 +1,30 @@
+-- Reading an array that holds the first values of a function. Assumes nothing.
+use mathlib.Core.Path.{_≡_, refl, sym, ap, _∙_, subst}
+use mathlib.Core.List.{List, [], _∷_}
+use Prim.Native.Nat.{ℕ, zero, suc, _+_, _^_, _≤_, _<_}
+use native.Mathlib.Nat.{lt-of-le-of-lt, le-of-suc-le-suc, not-suc-le-zero, add-zero, zero-add}
+use native.Mathlib.Omega.{arith}
+use lib.Dec.{lit<}
+use lib.IntN.{ℤ, pos, natAbs}
+use lib.ListN.{getD}
+use mir.Syntax.{w64}
+use mir.Val.{toZ, ofZ}
+use mir.Facts.{toZ-ofZ}
+use Rattle.cross.proofs.Whole.{sfits-abs}
+
+-- n values of f, the first at i
+abbrev pub values : (ℕ → ℤ) → ℕ → ℕ → List ℤ
+values f i zero = []
+values f i (suc n) = f i ∷ values f (suc i) n
+
+values-at : (f : ℕ → ℤ) (i n k : ℕ) → k < n → getD (values f i n) k (pos 0) ≡ f (i + k)
+values-at f i zero k h = absurd (not-suc-le-zero h)
+values-at f i (suc n) zero h = ap f (sym (add-zero i))
+values-at f i (suc n) (suc k) h = values-at f (suc i) n k (le-of-suc-le-suc h) ∙ ap f (one-on i k)
+  where
+    one-on : (i k : ℕ) → suc i + k ≡ i + suc k
+    one-on i k = omega arith
+
+-- as the machine reads it, where the values are small
+pub values-read : (f : ℕ → ℤ) (n k : ℕ) → k < n → natAbs (f k) ≤ 2 ^ 30 → toZ w64 (ofZ w64 (getD (values f 0 n) k (pos 0))) ≡ f k
+values-read f n k h s = rw (values-at f 0 n k h, zero-add) (toZ-ofZ {w = w64} (sfits-abs (f k) (lt-of-le-of-lt s (lit< tt))))
