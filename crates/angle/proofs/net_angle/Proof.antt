@@ -14,7 +14,7 @@ use mir.Syntax.{w32, w64}
 use mir.Val.{SFits, toZ, ofZ}
 use mir.Facts.{toZ-ofZ, sfits-widen, toZ-pos}
 use Rattle.cross.proofs.Whole.{wide, opposite, opposite-size, opposite-fits}
-use Rattle.angle.specs.Angle.{Target, upperAngle, netAngle}
+use Rattle.angle_rule.specs.Angle.{Target, upperAngle, netAngle}
 use Rattle.angle.proofs.net_angle.Statement.{statement}
 use Rattle.angle.proofs.net_angle.Tie as tie
 

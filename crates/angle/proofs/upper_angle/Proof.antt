@@ -8,7 +8,7 @@ use lib.Ieee.{binary64, inFloat}
 use lib.IntN.{ℤ, pos, negsuc, natAbs}
 use mir.Facts.{toZ-ofZ}
 use borrow.Author.Needs.{needs}
-use Rattle.angle.specs.Angle.{upperAngle}
+use Rattle.angle_rule.specs.Angle.{upperAngle}
 use Rattle.angle.proofs.upper_angle.Statement.{statement}
 use Rattle.angle.proofs.upper_angle.Tie as tie
 

@@ -1,4 +1,4 @@
--- `angle::halved` meets its contract: low fits, and high does not or is past the tables. Assumes nothing.
+-- `angle_search::halved` meets its contract: low fits, and high does not or is past the tables. Assumes nothing.
 use mathlib.Core.Path.{_≡_, sym, ap, ap₂, _∙_, subst}
 use mathlib.Core.Bool.{Bool, true, false}
 use Prim.Native.Nat.{ℕ, _+_, _-_, _/_, _≤_, _<_}
@@ -9,10 +9,10 @@ use mir.Syntax.{w64}
 use mir.Val.{SFits, toZ, ofZ}
 use mir.Facts.{toZ-ofZ}
 use borrow.Author.Needs.{needs, sfits-of}
-use Rattle.angle.specs.Angle.{Target, side, fitting, upperAngle}
-use Rattle.angle.proofs.Search.{held, angle-end, first-fits}
-use Rattle.angle.proofs.halved.Statement.{statement}
-use Rattle.angle.proofs.halved.Tie as tie
+use Rattle.angle_rule.specs.Angle.{Target, side, fitting, upperAngle}
+use Rattle.angle_rule.proofs.Search.{held, angle-end, first-fits}
+use Rattle.angle_search.proofs.halved.Statement.{statement}
+use Rattle.angle_search.proofs.halved.Tie as tie
 
 record Between (x y : ℤ) (low high : ℕ) : Type 0 where
   order : low < high

@@ -1,4 +1,4 @@
--- `angle::near_side` meets its contract. Assumes nothing.
+-- `angle_guess::near_side` meets its contract. Assumes nothing.
 use mathlib.Core.Path.{_≡_}
 use Prim.Native.Nat.{_+_, _^_, _≤_, _<_}
 use native.Mathlib.Nat.{lt-of-lt-of-le}
@@ -13,9 +13,9 @@ use Rattle.cross.proofs.Whole.{sfits-abs}
 use Rattle.cross.proofs.Apart.{apart-near, near-apart, near-mul, near-sub, near-small}
 use Rattle.angle_tables.specs.Rules.{cosAt, sinAt, apart}
 use Rattle.angle_tables.proofs.Rules.{small}
-use Rattle.angle.specs.Angle.{side, doubt}
-use Rattle.angle.proofs.near_side.Statement.{statement}
-use Rattle.angle.proofs.near_side.Tie as tie
+use Rattle.angle_rule.specs.Angle.{side, doubt}
+use Rattle.angle_guess.proofs.near_side.Statement.{statement}
+use Rattle.angle_guess.proofs.near_side.Tie as tie
 
 -- an entry that is known up to 2
 module _ (z e : ℤ) (p : natAbs (z -ℤ e) ≤ 2) (h : natAbs e ≤ 2 ^ 30) where

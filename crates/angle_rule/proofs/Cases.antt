@@ -2,7 +2,7 @@
 use mathlib.Core.Path.{_≡_, refl}
 use lib.IntN.{pos, negsuc}
 use Rattle.angle_tables.specs.Tables.{cosT, sinT}
-use Rattle.angle.specs.Angle.{side, largest, upperAngle, netAngle}
+use Rattle.angle_rule.specs.Angle.{side, largest, upperAngle, netAngle}
 
 pub record Cases : Type 0 where
   pub diagonal : netAngle (pos 1) (pos 1) ≡ pos 201

@@ -1,4 +1,4 @@
--- `angle::doubt` meets its contract. Assumes nothing.
+-- `angle_guess::doubt` meets its contract. Assumes nothing.
 use mathlib.Core.Path.{_≡_, ap, ap₂, _∙_}
 use Prim.Native.Nat.{ℕ, _+_, _*_, _^_, _≤_, _<_}
 use native.Mathlib.Omega.{arith}
@@ -9,8 +9,8 @@ use mir.Syntax.{w64}
 use mir.Val.{SFits, toZ, ofZ}
 use mir.Facts.{toZ-ofZ, toZ-pos}
 use borrow.Author.Needs.{needs}
-use Rattle.angle.proofs.doubt.Statement.{statement}
-use Rattle.angle.proofs.doubt.Tie as tie
+use Rattle.angle_guess.proofs.doubt.Statement.{statement}
+use Rattle.angle_guess.proofs.doubt.Tie as tie
 
 -- a size that was found: it is its number's, and small
 found : {r : ℕ} {z : ℤ} → SFits w64 z → r ≡ natAbs (toZ w64 (ofZ w64 z)) → r ≡ natAbs z

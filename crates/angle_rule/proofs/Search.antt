@@ -7,9 +7,9 @@ use lib.IntN.{ℤ, pos, negsuc}
 use mir.Syntax.{w64}
 use mir.Val.{SFits, toZ, ofZ}
 use mir.Facts.{toZ-ofZ}
-use Rattle.angle.specs.Angle.{Target, fitting, upperAngle, Largest}
-use Rattle.angle.proofs.Stretch.{fitting-stretch, zero-fits}
-use Rattle.angle.proofs.Largest.{largest-is, stretch-end}
+use Rattle.angle_rule.specs.Angle.{Target, fitting, upperAngle, Largest}
+use Rattle.angle_rule.proofs.Stretch.{fitting-stretch, zero-fits}
+use Rattle.angle_rule.proofs.Largest.{largest-is, stretch-end}
 
 -- a target as the machine holds it
 pub held : {x y : ℤ} → SFits w64 x → SFits w64 y → Target x y → Target (toZ w64 (ofZ w64 x)) (toZ w64 (ofZ w64 y))

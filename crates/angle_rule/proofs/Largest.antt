@@ -5,7 +5,7 @@ use mathlib.Core.Bool.{Bool, true, false, cond, true≢false}
 use Prim.Native.Nat.{ℕ, zero, suc, _≤_, _<_, zero-le}
 use native.Mathlib.Nat.{le-refl, le-trans, lt-irrefl, le-suc, eq-or-lt-of-le, le-of-suc-le-suc, not-suc-le-zero}
 use native.Mathlib.Omega.{arith}
-use Rattle.angle.specs.Angle.{largest, Largest, Stretch}
+use Rattle.angle_rule.specs.Angle.{largest, Largest, Stretch}
 
 module _ (p : ℕ → Bool) where
   pub largest-is : p 0 ≡ true → (top : ℕ) → Largest p top (largest p top)

@@ -1,4 +1,4 @@
--- `angle::is_sure` meets its contract: what is farther from 0 than its doubt has the sign of what it stands for. Assumes nothing.
+-- `angle_guess::is_sure` meets its contract: what is farther from 0 than its doubt has the sign of what it stands for. Assumes nothing.
 use mathlib.Core.Path.{_≡_, sym, ap, ap₂, _∙_, subst}
 use mathlib.Core.Bool.{true, false, true≢false}
 use Prim.Native.Nat.{ℕ, _^_, _≤_, _<_}
@@ -14,10 +14,10 @@ use borrow.Author.Needs.{needs, sfits-of}
 use Rattle.cross.proofs.Whole.{opposite-fits}
 use Rattle.cross.proofs.Apart.{apart-near, sure-above, sure-below}
 use Rattle.angle_tables.specs.Rules.{apart}
-use Rattle.angle.specs.Angle.{Target, side, doubt, fitting, upperAngle}
-use Rattle.angle.proofs.Search.{held, angle-end}
-use Rattle.angle.proofs.is_sure.Statement.{statement}
-use Rattle.angle.proofs.is_sure.Tie as tie
+use Rattle.angle_rule.specs.Angle.{Target, side, doubt, fitting, upperAngle}
+use Rattle.angle_rule.proofs.Search.{held, angle-end}
+use Rattle.angle_guess.proofs.is_sure.Statement.{statement}
+use Rattle.angle_guess.proofs.is_sure.Tie as tie
 
 module _ (x y : ℤ) (t : Target x y) (d : ℤ) (f : SFits w64 d) (e : d ≡ pos (doubt x y)) where
   small : natAbs d < 2 ^ 63

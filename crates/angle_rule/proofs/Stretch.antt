@@ -11,7 +11,7 @@ use lib.IntN.{ℤ, pos, negsuc, _-ℤ_, _*ℤ_, *ℤ-zero}
 use lib.Signed.{leZ, ltZ}
 use Rattle.angle_tables.specs.Rules.{cosAt, sinAt}
 use Rattle.angle_tables.proofs.Rules.{table-rules, sin-above, turn-above}
-use Rattle.angle.specs.Angle.{side, fitting, Stretch}
+use Rattle.angle_rule.specs.Angle.{side, fitting, Stretch}
 use Rattle.cross.proofs.Parts.{up, down, up-left, down-left, up-right, down-right, parts-le, le-parts, above-le}
 
 -- ---- one step, in naturals: the target (x₁ − x₀, y) from (d₁ − d₀, t) back to (c₁ − c₀, s)

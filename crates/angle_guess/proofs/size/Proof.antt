@@ -1,4 +1,4 @@
--- `angle::size` meets its contract. Assumes nothing.
+-- `angle_guess::size` meets its contract. Assumes nothing.
 use mathlib.Core.Path.{_≡_, sym, _∙_, subst}
 use mathlib.Core.Bool.{true, false, true≢false}
 use Prim.Native.Nat.{ℕ, _^_, _≤_, _<_}
@@ -13,8 +13,8 @@ use mir.Val.{Fits, SFits, toZ, ofZ}
 use mir.Facts.{toZ-ofZ}
 use borrow.Author.Needs.{needs}
 use Rattle.cross.proofs.Whole.{opposite-size, opposite-fits}
-use Rattle.angle.proofs.size.Statement.{statement}
-use Rattle.angle.proofs.size.Tie as tie
+use Rattle.angle_guess.proofs.size.Statement.{statement}
+use Rattle.angle_guess.proofs.size.Tie as tie
 
 fits : {n : ℕ} → n ≤ 2 ^ 31 → Fits w64 n
 fits h = record { fits = lt-of-le-of-lt h (lit< tt) }

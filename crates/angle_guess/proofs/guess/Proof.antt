@@ -1,9 +1,9 @@
--- `angle::guess` meets its contract. Assumes nothing.
+-- `angle_guess::guess` meets its contract. Assumes nothing.
 use denote.Floats.{passes}
 use lib.Ieee.{ofBits, neg}
 use borrow.Author.Needs.{needs}
-use Rattle.angle.proofs.guess.Statement.{statement}
-use Rattle.angle.proofs.guess.Tie as tie
+use Rattle.angle_guess.proofs.guess.Statement.{statement}
+use Rattle.angle_guess.proofs.guess.Tie as tie
 
 angle-of-requires : tie.Need-angle-of-requires
 angle-of-requires c κs = search needs

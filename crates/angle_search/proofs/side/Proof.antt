@@ -1,4 +1,4 @@
--- `angle::side` meets its contract. Assumes nothing.
+-- `angle_search::side` meets its contract. Assumes nothing.
 use mathlib.Core.Path.{_≡_, sym, ap, _∙_, subst}
 use mathlib.Core.List.{List}
 use Prim.Native.Nat.{ℕ, _^_, _≤_, _<_}
@@ -14,9 +14,9 @@ use borrow.Author.Needs.{needs, sfits-of}
 use Rattle.cross.proofs.Whole.{sfits-abs, wide}
 use Rattle.angle_tables.specs.Tables.{cosT, sinT}
 use Rattle.angle_tables.proofs.Rules.{small}
-use Rattle.angle.specs.Angle.{side}
-use Rattle.angle.proofs.side.Statement.{statement}
-use Rattle.angle.proofs.side.Tie as tie
+use Rattle.angle_rule.specs.Angle.{side}
+use Rattle.angle_search.proofs.side.Statement.{statement}
+use Rattle.angle_search.proofs.side.Tie as tie
 
 -- an entry of a lent table, as it is read and cast
 module _ (l t : List ℤ) (n : ℕ) (e : l ≡ t) (h : natAbs (getD t n (pos 0)) ≤ 2 ^ 30) where
