@@ -7,10 +7,9 @@ use native.Mathlib.Omega.{arith}
 use lib.Dec.{lit<}
 use lib.IntN.{ℤ, pos, natAbs}
 use lib.ListN.{getD}
-use mir.Syntax.{w64}
-use mir.Val.{toZ, ofZ}
-use mir.Facts.{toZ-ofZ}
-use Rattle.cross.proofs.Whole.{sfits-abs}
+use mir.Syntax.{w32, w64}
+use mir.Val.{SFits, toZ, ofZ}
+use Rattle.cross.proofs.Whole.{sfits-abs, widened, wide}
 
 -- n values of f, the first at i
 abbrev pub values : (ℕ → ℤ) → ℕ → ℕ → List ℤ
@@ -25,6 +24,16 @@ values-at f i (suc n) (suc k) h = values-at f (suc i) n k (le-of-suc-le-suc h) �
     one-on : (i k : ℕ) → suc i + k ≡ i + suc k
     one-on i k = omega arith
 
--- as the machine reads it, where the values are small
-pub values-read : (f : ℕ → ℤ) (n k : ℕ) → k < n → natAbs (f k) ≤ 2 ^ 30 → toZ w64 (ofZ w64 (getD (values f 0 n) k (pos 0))) ≡ f k
-values-read f n k h s = rw (values-at f 0 n k h, zero-add) (toZ-ofZ {w = w64} (sfits-abs (f k) (lt-of-le-of-lt s (lit< tt))))
+-- as the machine reads it from an array of i32, where the values are small
+module _ (f : ℕ → ℤ) (n k : ℕ) (h : k < n) (s : natAbs (f k) ≤ 2 ^ 30) where
+  value : getD (values f 0 n) k (pos 0) ≡ f k
+  value = values-at f 0 n k h ∙ ap f (zero-add k)
+
+  fits : SFits w32 (f k)
+  fits = sfits-abs (f k) (lt-of-le-of-lt s (lit< tt))
+
+  pub values-cast : SFits w64 (toZ w32 (ofZ w32 (getD (values f 0 n) k (pos 0))))
+  values-cast = rw value (widened (f k) fits)
+
+  pub values-read : toZ w64 (ofZ w64 (toZ w32 (ofZ w32 (getD (values f 0 n) k (pos 0))))) ≡ f k
+  values-read = rw value (wide (f k) fits)

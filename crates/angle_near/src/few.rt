@@ -3,7 +3,7 @@ ghost use mathlib.Core.Path.{_≡_};
 ghost use Prim.Native.Nat.{_*_, _<_};
 ghost use Rattle.angle_tables.specs.Rules.{cosAt, sinAt};
 
-const COS_32: [i64; 26] = [
+const COS_32: [i32; 26] = [
     1073741824,
     1065364133,
     1040361791,
@@ -32,7 +32,7 @@ const COS_32: [i64; 26] = [
     -1073594018,
 ];
 
-const SIN_32: [i64; 26] = [
+const SIN_32: [i32; 26] = [
     0,
     133868476,
     265647978,
@@ -61,7 +61,7 @@ const SIN_32: [i64; 26] = [
     17815409,
 ];
 
-const COS_1: [i64; 32] = [
+const COS_1: [i32; 32] = [
     1073741824,
     1073733632,
     1073709056,
@@ -96,7 +96,7 @@ const COS_1: [i64; 32] = [
     1065878927,
 ];
 
-const SIN_1: [i64; 32] = [
+const SIN_1: [i32; 32] = [
     0,
     4194293,
     8388523,
@@ -135,26 +135,26 @@ pub fn cos_32(a: usize) -> i64
     requires { ⌜ a < 26 ⌝ }
     ensures { λ r. ⌜ r ≡ cosAt (32 * a) ⌝ }
 {
-    COS_32[a]
+    COS_32[a] as i64
 }
 
 pub fn sin_32(a: usize) -> i64
     requires { ⌜ a < 26 ⌝ }
     ensures { λ r. ⌜ r ≡ sinAt (32 * a) ⌝ }
 {
-    SIN_32[a]
+    SIN_32[a] as i64
 }
 
 pub fn cos_1(b: usize) -> i64
     requires { ⌜ b < 32 ⌝ }
     ensures { λ r. ⌜ r ≡ cosAt b ⌝ }
 {
-    COS_1[b]
+    COS_1[b] as i64
 }
 
 pub fn sin_1(b: usize) -> i64
     requires { ⌜ b < 32 ⌝ }
     ensures { λ r. ⌜ r ≡ sinAt b ⌝ }
 {
-    SIN_1[b]
+    SIN_1[b] as i64
 }

@@ -67,7 +67,11 @@ sfits-abs z h = record { sfits = lt-of-le-of-lt (mag-le z) h }
 pub mul-abs : (a b : ℤ) {m n : ℕ} → natAbs a ≤ m → natAbs b ≤ n → natAbs (a *ℤ b) ≤ m * n
 mul-abs a b h k = le-trans (le-of-eq (natAbs-mul a b)) (mul-le-mul h k)
 
--- what is read back after an i32 was made an i64
+-- ---- an i32 that is made an i64
+
+pub widened : (z : ℤ) → SFits w32 z → SFits w64 (toZ w32 (ofZ w32 z))
+widened z f = rw (toZ-ofZ f) (sfits-widen tt f)
+
 pub wide : (z : ℤ) → SFits w32 z → toZ w64 (ofZ w64 (toZ w32 (ofZ w32 z))) ≡ z
 wide z f = ap (λ (x : ℤ). toZ w64 (ofZ w64 x)) (toZ-ofZ f) ∙ toZ-ofZ (sfits-widen tt f)
 

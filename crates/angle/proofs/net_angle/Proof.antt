@@ -12,8 +12,8 @@ use lib.IntN.{ℤ, pos, negsuc, negℤ, natAbs, _-ℤ_}
 use lib.Signed.{ltZ, natAbs-le}
 use mir.Syntax.{w32, w64}
 use mir.Val.{SFits, toZ, ofZ}
-use mir.Facts.{toZ-ofZ, sfits-widen, toZ-pos}
-use Rattle.cross.proofs.Whole.{wide, opposite, opposite-size, opposite-fits}
+use mir.Facts.{toZ-ofZ, toZ-pos}
+use Rattle.cross.proofs.Whole.{widened, wide, opposite, opposite-size, opposite-fits}
 use Rattle.angle_rule.specs.Angle.{Target, upperAngle, netAngle}
 use Rattle.angle.proofs.net_angle.Statement.{statement}
 use Rattle.angle.proofs.net_angle.Tie as tie
@@ -62,9 +62,6 @@ bits-zero z f e = sym (toZ-ofZ f) ∙ ap (toZ w32) e
 
 read : (r : ℕ) → r ≤ 804 → toZ w32 r ≡ pos r
 read r h = toZ-pos w32 (lt-of-le-of-lt h (lit< tt))
-
-widened : (z : ℤ) → SFits w32 z → SFits w64 (toZ w32 (ofZ w32 z))
-widened z f = rw (toZ-ofZ f) (sfits-widen tt f)
 
 -- a target with y < 0, mirrored, and one with y ≥ 0
 mirrored : (x y : ℤ) → SFits w32 x → SFits w32 y → ltZ y (pos 0) ≡ true → Target x (pos 0 -ℤ y)

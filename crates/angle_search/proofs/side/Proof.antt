@@ -9,9 +9,9 @@ use lib.IntN.{ℤ, pos, natAbs}
 use lib.ListN.{getD}
 use mir.Syntax.{w32, w64}
 use mir.Val.{SFits, toZ, ofZ}
-use mir.Facts.{toZ-ofZ, sfits-widen}
+use mir.Facts.{toZ-ofZ}
 use borrow.Author.Needs.{needs, sfits-of}
-use Rattle.cross.proofs.Whole.{sfits-abs, wide}
+use Rattle.cross.proofs.Whole.{sfits-abs, widened, wide}
 use Rattle.angle_tables.specs.Tables.{cosT, sinT}
 use Rattle.angle_tables.proofs.Rules.{small}
 use Rattle.angle_rule.specs.Angle.{side}
@@ -24,7 +24,7 @@ module _ (l t : List ℤ) (n : ℕ) (e : l ≡ t) (h : natAbs (getD t n (pos 0))
   fits = sfits-abs (getD t n (pos 0)) (lt-of-le-of-lt h (lit< tt))
 
   cast : SFits w64 (toZ w32 (ofZ w32 (getD l n (pos 0))))
-  cast = rw (e, toZ-ofZ fits) (sfits-widen tt fits)
+  cast = rw e (widened (getD t n (pos 0)) fits)
 
   read : toZ w64 (ofZ w64 (toZ w32 (ofZ w32 (getD l n (pos 0))))) ≡ getD t n (pos 0)
   read = rw e (wide (getD t n (pos 0)) fits)
