@@ -1,6 +1,6 @@
 -- The numbers that fit a target are an initial stretch: where n + 1 fits, so does n, since the table turns up from n to n + 1. Assumes nothing.
-use mathlib.Core.Path.{_≡_, refl, sym, ap, ap₂, _∙_, subst}
-use mathlib.Core.Bool.{Bool, true, false}
+use mathlib.Core.Path.{_≡_, sym, subst}
+use mathlib.Core.Bool.{true}
 use mathlib.Core.Logic.{_⊎_, inl, inr}
 use Prim.Native.Nat.{ℕ, zero, suc, _+_, _*_, _^_, _≤_, _<_}
 use native.Mathlib.Nat.{mul-comm, mul-left-comm, mul-add, mul-le-mul-left, le-of-mul-le-mul-left, eq-or-lt-of-le, le-of-suc-le-suc}

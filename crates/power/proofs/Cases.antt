@@ -1,7 +1,7 @@
 -- Exponents at the ends: an infinite one counts as 16,777,215 parts, and to either zero every number is 1. Assumes nothing.
 use mathlib.Core.Path.{_≡_, refl}
-use mathlib.Core.Bool.{Bool, true, false}
-use lib.Ieee.{Float, nan, inf, binary32, ofBits, lt, isNan, mul}
+use mathlib.Core.Bool.{Bool}
+use lib.Ieee.{Float, nan, inf, binary32, ofBits, lt, isNan}
 use Rattle.number.specs.Number.{c0, c1}
 use Rattle.turns.specs.Turns.{fold}
 use Rattle.power.specs.Power.{parts, squares, roots, powf}

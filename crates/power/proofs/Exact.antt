@@ -8,13 +8,13 @@ use native.Mathlib.Omega.{arith}
 use lib.Dec.{T, eqb, eqb→eq, ltb→lt, lt→ltb, lit≤, lit<}
 use lib.IntN.{ℤ, pos}
 use lib.Pow.{pow-add}
-use lib.Ieee.{Float, nan, inf, fin, binary32, up, down, round, mul, neg, lt, eq, fits, toUnsigned, isNan}
+use lib.Ieee.{Float, nan, inf, fin, binary32, up, down, mul, neg, lt, eq, fits, toUnsigned, isNan}
 use lib.Ieee.Fits.{up-pos, down-pos, and-l, neg-fits}
 use lib.Ieee.Exact.{HasValue, round-exact}
 use lib.Ieee.Nearest.{div-same}
 use lib.Ieee.Positive.{above}
 use borrow.Author.Tests.{ltb-true, ltb-false}
-use Rattle.binary32.proofs.Grid.{Grid, on-grid}
+use Rattle.binary32.proofs.Grid.{on-grid}
 use Rattle.power.specs.Power.{parts}
 
 abbrev zero32 : Float

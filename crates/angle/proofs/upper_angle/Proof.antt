@@ -1,8 +1,7 @@
 -- `angle::upper_angle` meets its contract. Assumes nothing.
-use mathlib.Core.Path.{_≡_, sym, ap, ap₂, _∙_, subst}
-use Prim.Native.Nat.{ℕ, _^_, _≤_}
+use mathlib.Core.Path.{ap₂, _∙_}
+use Prim.Native.Nat.{_^_, _≤_}
 use native.Mathlib.Nat.{le-trans}
-use native.Mathlib.Omega.{arith}
 use lib.Dec.{T, lit≤, le→leb, lt→ltb}
 use lib.Ieee.{binary64, inFloat}
 use lib.IntN.{ℤ, pos, negsuc, natAbs}

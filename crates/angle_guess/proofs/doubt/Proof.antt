@@ -8,7 +8,6 @@ use lib.IntN.{ℤ, pos, natAbs}
 use mir.Syntax.{w64}
 use mir.Val.{SFits, toZ, ofZ}
 use mir.Facts.{toZ-ofZ, toZ-pos}
-use borrow.Author.Needs.{needs}
 use Rattle.angle_guess.proofs.doubt.Statement.{statement}
 use Rattle.angle_guess.proofs.doubt.Tie as tie
 

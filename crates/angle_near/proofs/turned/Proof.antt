@@ -1,7 +1,7 @@
 -- `angle_near::turned` meets its contract. Assumes nothing.
-use mathlib.Core.Path.{_≡_, refl, sym, ap, ap₂, _∙_, subst}
+use mathlib.Core.Path.{_≡_, refl, ap, ap₂}
 use Prim.Native.Nat.{ℕ, suc, _/_, _^_, _≤_, _<_}
-use native.Mathlib.Nat.{lt-of-le-of-lt, le-trans, le-of-eq}
+use native.Mathlib.Nat.{lt-of-le-of-lt, le-trans}
 use native.Mathlib.Omega.{arith}
 use lib.Dec.{lit<, lit≤}
 use lib.IntN.{ℤ, pos, negsuc, natAbs, _-ℤ_}
@@ -9,10 +9,9 @@ use lib.Signed.{quotZ, natAbs-le}
 use mir.Syntax.{w64}
 use mir.Val.{SFits, toZ, ofZ}
 use mir.Facts.{toZ-ofZ}
-use borrow.Author.Needs.{needs, sfits-of}
+use borrow.Author.Needs.{sfits-of}
 use Rattle.cross.proofs.Whole as Whole
 use Rattle.cross.proofs.Whole.{sfits-abs, natAbs-neg, opposite-size}
-use Rattle.angle_near.specs.declared.Point.{Point}
 use Rattle.angle_near.specs.Near.{turned}
 use Rattle.angle_near.proofs.turned.Statement.{statement}
 use Rattle.angle_near.proofs.turned.Tie as tie

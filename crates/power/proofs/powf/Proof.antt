@@ -1,9 +1,8 @@
 -- `power::powf` meets its contract. Assumes nothing.
-use mathlib.Core.Path.{_≡_, refl, sym, ap, _∙_, subst}
-use mathlib.Core.Bool.{Bool, true, false, not}
-use Prim.Native.Nat.{ℕ}
+use mathlib.Core.Path.{_≡_, refl, sym, subst}
+use mathlib.Core.Bool.{false, not}
 use lib.Dec.{T}
-use lib.Ieee.{Float, nan, inf, fin, isNan, ne}
+use lib.Ieee.{Float, nan, inf, fin, isNan}
 use borrow.Author.Needs.{needs}
 use Rattle.binary32.proofs.Nans.{equal-no-nan, unequal-nan}
 use Rattle.power.specs.Power.{parts, squares, roots, powf}
