@@ -1,6 +1,9 @@
 // The C interface: each function is the one of the crates below with its name.
+mod aim;
 mod walks;
 
+pub use aim::ponguriena_net_angle;
+pub use aim::ponguriena_velocity_ramp;
 pub use walks::ponguriena_check_line;
 pub use walks::ponguriena_move_box;
 ghost use mathlib.Core.Path.{_≡_};

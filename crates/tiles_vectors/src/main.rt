@@ -10,7 +10,7 @@ use vector::vec2;
 use vectors::float_of;
 use vectors::hex;
 use vectors::is_float;
-use vectors::word;
+use vectors::nth;
 ghost use mathlib.Core.Path.{_≡_};
 ghost use Prim.Native.Nat.{_≤_, _<_, _/_};
 ghost use lib.ListN.{length};
@@ -168,17 +168,6 @@ fn byte_of(tile: Tile) -> u32 {
         Tile::Normal => 1,
         Tile::Unhookable => 3,
     }
-}
-
-// The pattern with the number k.
-fn nth(patterns: &[u8], k: usize) -> u32
-    requires { ⌜ k < 16 ⌝ }
-{
-    let start = k * 9;
-    if start < patterns.len() {
-        return word(&patterns[start..]);
-    }
-    0
 }
 
 fn point(patterns: &[u8], k: usize) -> vec2

@@ -13,6 +13,17 @@ pub fn word(text: &[u8]) -> u32 {
     value
 }
 
+// The pattern with the number k, of those with a space between them.
+pub fn nth(patterns: &[u8], k: usize) -> u32
+    requires { ⌜ k < 16 ⌝ }
+{
+    let start = k * 9;
+    if start < patterns.len() {
+        return word(&patterns[start..]);
+    }
+    0
+}
+
 pub fn hex(byte: u8) -> u32
     ensures { λ r. ⌜ r < 16 ⌝ }
 {

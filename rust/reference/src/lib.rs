@@ -1,10 +1,14 @@
 //! What each function of the port means, by the machine's own square root and
-//! conversions, and the inputs on which port and reference are compared.
+//! conversions and the rules of document 01, and the inputs on which port and
+//! reference are compared.
 
+mod aim;
+pub mod aim_edges;
 mod bits;
 pub mod edges;
 mod xorshift;
 
+pub use aim::{CIRCLE, net_angle, powf, velocity_ramp};
 pub use bits::{Bits, on_bits};
 pub use xorshift::Xorshift;
 

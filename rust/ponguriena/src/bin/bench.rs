@@ -1,6 +1,7 @@
 //! Time per call, in throughput, of the port and of the reference.
 
 use reference::Xorshift;
+use reference::aim_edges::game_ramp;
 use timing::{print_heading, print_row};
 
 const INPUTS: usize = 4096;
@@ -10,6 +11,9 @@ const PASSES: usize = 32;
 const GAME_LIMIT: f32 = 20000.0;
 
 const POSITIVE_INFINITY: u32 = 0x7f80_0000;
+
+/// A value with start, range and curvature.
+type Ramp = (f32, [i32; 3]);
 
 /// Prints the row of a function that port and reference name alike.
 macro_rules! row {
@@ -36,6 +40,21 @@ fn main() {
     let roots = inputs(|| f32::from_bits(random.pattern() % POSITIVE_INFINITY));
     let integers = inputs(|| random.pattern() as i32);
     print_rows("any", &floats, &roots, &integers);
+    print_angles("game", &inputs(|| target(&mut random, 21)));
+    print_angles("any", &inputs(|| target(&mut random, 0)));
+    print_ramps("game", &inputs(|| game_ramp(&mut random)));
+    print_ramps("steep", &inputs(|| steep_ramp(&mut random)));
+}
+
+/// A target with coordinates of `32 - shift` bits.
+fn target(random: &mut Xorshift, shift: u32) -> (i32, i32) {
+    let mut coordinate = || random.pattern() as i32 >> shift;
+    (coordinate(), coordinate())
+}
+
+/// A ramp that starts at once, so that a power is always needed.
+fn steep_ramp(random: &mut Xorshift) -> Ramp {
+    (random.within(GAME_LIMIT).abs(), [0, 200_000, 140])
 }
 
 fn inputs<A>(random: impl FnMut() -> A) -> Vec<A> {
@@ -48,4 +67,20 @@ fn print_rows(kind: &str, floats: &[f32], roots: &[f32], integers: &[i32]) {
     row!(trunc_to_i32, kind, floats);
     row!(i32_to_f32, kind, integers);
     row!(quantize_256ths, kind, floats);
+}
+
+fn print_angles(kind: &str, targets: &[(i32, i32)]) {
+    let port = |(x, y)| ponguriena::net_angle(x, y);
+    let reference = |(x, y)| reference::net_angle(x, y);
+    print_row("net_angle", kind, PASSES, targets, port, reference);
+}
+
+fn print_ramps(kind: &str, ramps: &[Ramp]) {
+    let port = |(value, [start, range, curvature]): Ramp| {
+        ponguriena::velocity_ramp(value, start, range, curvature)
+    };
+    let reference = |(value, [start, range, curvature]): Ramp| {
+        reference::velocity_ramp(value, start, range, curvature)
+    };
+    print_row("velocity_ramp", kind, PASSES, ramps, port, reference);
 }

@@ -1,0 +1,4 @@
+pub mod Stretch
+pub mod Largest
+pub mod Search
+pub mod Cases
