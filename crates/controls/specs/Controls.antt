@@ -45,6 +45,10 @@ jump j pressed onGround t =
     (record { «vel_y» = neg (t .«air_jump_impulse»); «jumped_already» = true; «used_airjump» = true }))))
     (record { «vel_y» = j .«vel_y»; «jumped_already» = false; «used_airjump» = j .«used_airjump» })
 
+-- on the ground the air jump is not used
+unfoldable pub landed : Bool → Bool → Bool
+landed onGround used = cond onGround false used
+
 -- friction where there is no direction
 abbrev pub slowed : MoveDirection → Float → Float → Float
 slowed Left v f = v

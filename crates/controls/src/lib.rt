@@ -8,7 +8,7 @@ use vector::vec2;
 ghost use mathlib.Core.Path.{_≡_};
 ghost use lib.Dec.{T};
 ghost use Rattle.tiles.specs.Map.{isMap};
-ghost use Rattle.controls.specs.Controls.{grounded, controlOf, jump, walk, clampSpeed};
+ghost use Rattle.controls.specs.Controls.{grounded, controlOf, jump, landed, walk, clampSpeed};
 
 // How a character can be steered where it is.
 pub struct Control {
@@ -74,6 +74,16 @@ pub fn jump(before: JumpState, pressed: bool, grounded: bool, tuning: Tuning) ->
         after.jumped_already = false;
     }
     after
+}
+
+// A landing gives the air jump back.
+pub fn landed(grounded: bool, used_airjump: bool) -> bool
+    ensures { λ r. ⌜ r ≡ landed grounded «used_airjump» ⌝ }
+{
+    if grounded {
+        return false;
+    }
+    used_airjump
 }
 
 // The velocity sideways: faster up to the limit in the direction, slower by friction in none.

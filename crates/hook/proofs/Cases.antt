@@ -5,7 +5,7 @@ use Prim.Native.Nat.{ℕ}
 use types.Run.{OneOf, miss}
 use denote.Enum.Declared.{tagOf}
 use Rattle.hook.proofs.Hook.{the-type}
-use Rattle.hook.specs.Hook.{onFlying, onGrabbed}
+use Rattle.hook.specs.Hook.{onFlying, onAttached, onGrabbed}
 use Rattle.hook.specs.declared.CharacterId.{CharacterId}
 use Rattle.hook.specs.declared.Hook.{Hook}
 use Rattle.hook.specs.declared.Hook.the-variants.{Retracted, Idle, Flying, Grabbed, Attached, Retracting0, Retracting1, Retracting2}
@@ -32,3 +32,14 @@ module _ {A : Type 0} (f : CharacterId → ℕ → A) (e : A) where
   not-grabbed (Retracting0 p) k = refl
   not-grabbed (Retracting1 p) k = refl
   not-grabbed (Retracting2 p) k = refl
+
+module _ {A : Type 0} (f : vec2 → A) (e : A) where
+  pub not-attached : (h : Hook) → OneOf (0 ∷ 1 ∷ 2 ∷ 3 ∷ 5 ∷ 6 ∷ 7 ∷ []) (tagOf the-type h) → onAttached f e h ≡ e
+  not-attached Retracted k = refl
+  not-attached Idle k = refl
+  not-attached (Flying p d) k = refl
+  not-attached (Grabbed c t) k = refl
+  not-attached (Attached p) k = absurd (miss (0 ∷ 1 ∷ 2 ∷ 3 ∷ 5 ∷ 6 ∷ 7 ∷ []) 4 tt k)
+  not-attached (Retracting0 p) k = refl
+  not-attached (Retracting1 p) k = refl
+  not-attached (Retracting2 p) k = refl

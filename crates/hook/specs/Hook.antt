@@ -45,6 +45,17 @@ onFlying f e (Retracting0 p) = e
 onFlying f e (Retracting1 p) = e
 onFlying f e (Retracting2 p) = e
 
+-- f of where an Attached hook is, e of any other
+abbrev pub onAttached {ℓ} : {A : Type ℓ} → (vec2 → A) → A → Hook → A
+onAttached f e Retracted = e
+onAttached f e Idle = e
+onAttached f e (Flying p d) = e
+onAttached f e (Grabbed c t) = e
+onAttached f e (Attached p) = f p
+onAttached f e (Retracting0 p) = e
+onAttached f e (Retracting1 p) = e
+onAttached f e (Retracting2 p) = e
+
 -- f of who a Grabbed hook holds and for how long, e of any other
 abbrev pub onGrabbed {ℓ} : {A : Type ℓ} → (CharacterId → ℕ → A) → A → Hook → A
 onGrabbed f e Retracted = e

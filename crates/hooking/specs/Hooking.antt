@@ -8,7 +8,7 @@ use Rattle.vector.specs.Vec2.{vnew, vadd, vsub, vmul, vlength, vnormalize, vdis
 use Rattle.vector.specs.declared.vec2.{vec2}
 use Rattle.direction.specs.Direction.{asFloat}
 use Rattle.direction.specs.declared.MoveDirection.{MoveDirection}
-use Rattle.hook.specs.Hook.{onGrabbed}
+use Rattle.hook.specs.Hook.{onAttached, onGrabbed}
 use Rattle.hook.specs.declared.CharacterId.{CharacterId}
 use Rattle.hook.specs.declared.Hook.{Hook}
 use Rattle.hook.specs.declared.Hook.the-variants.{Retracted, Idle, Flying, Grabbed, Attached, Retracting0, Retracting1, Retracting2}
@@ -128,3 +128,7 @@ drag p v q d t =
     cond (lt c46 (vdistance q p))
     (cond (lt (vlength new) (t .«hook_drag_speed»)) new (cond (lt (vlength new) (vlength v)) new v))
     v
+
+-- an attached hook drags, no other
+unfoldable pub dragged : Hook → vec2 → vec2 → MoveDirection → Tuning → vec2
+dragged h p v d t = onAttached (λ q. drag p v q d t) v h

@@ -7,7 +7,7 @@ use tiles::Tile;
 use tuning::Tuning;
 use vector::vec2;
 ghost use mathlib.Core.Path.{_≡_};
-ghost use Rattle.hooking.specs.Hooking.{fired, fire, fly, strike, closer, nearer, grab, retract, hold, lifted, helped, hookVel, drag};
+ghost use Rattle.hooking.specs.Hooking.{fired, fire, fly, strike, closer, nearer, grab, retract, hold, lifted, helped, hookVel, drag, dragged};
 
 // What of its hold a hook keeps: 1.2 s with 50 ticks a second.
 pub const MAX_HOOK_GRAB_TIME: u32 = 60;
@@ -133,8 +133,18 @@ pub fn hold(hook: Hook) -> Hook
     Hook::Grabbed(hooked, tick + 1)
 }
 
-// The velocity that an attached hook drags to.
-pub fn drag(pos: vec2, vel: vec2, hook_pos: vec2, direction: MoveDirection, tuning: Tuning) -> vec2
+// The velocity of a character whose hook is attached, where it is.
+pub fn dragged(hook: Hook, pos: vec2, vel: vec2, direction: MoveDirection, tuning: Tuning) -> vec2
+    ensures { λ r. ⌜ r ≡ dragged hook pos vel direction tuning ⌝ }
+{
+    let Hook::Attached(hook_pos) = hook else {
+        return vel;
+    };
+    drag(pos, vel, hook_pos, direction, tuning)
+}
+
+// The velocity that a hook at hook_pos drags to.
+fn drag(pos: vec2, vel: vec2, hook_pos: vec2, direction: MoveDirection, tuning: Tuning) -> vec2
     ensures { λ r. ⌜ r ≡ drag pos vel «hook_pos» direction tuning ⌝ }
 {
     if vec2::distance(hook_pos, pos) > 46.0 {

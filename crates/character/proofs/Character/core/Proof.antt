@@ -6,7 +6,7 @@ use lib.IntN.{pos}
 use mir.Facts.{toZ-pos}
 use mir.Syntax.{w32}
 use borrow.Author.Needs.{needs}
-use Rattle.character.proofs.Signed.{held}
+use Rattle.casts.proofs.Signed.{held}
 use Rattle.character.specs.Character.{coreOf}
 use Rattle.float.specs.Convert.{to256ths}
 use Rattle.vector.specs.declared.vec2.{vec2}

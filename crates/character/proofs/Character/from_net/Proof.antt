@@ -1,7 +1,7 @@
 -- `character::Character::from_net` meets its contract. Assumes nothing.
 use mathlib.Core.Path.{_≡_, _∙_, ap}
 use borrow.Author.Needs.{needs}
-use Rattle.character.proofs.Signed.{read}
+use Rattle.casts.proofs.Signed.{read}
 use Rattle.character.specs.Character.{usedAirjumpFromNet, jumpedAlreadyFromNet, fromNet}
 use Rattle.direction.specs.Direction.{fromInt, angleFromNet}
 use Rattle.float.specs.Convert.{i32ToF32, from256ths}
