@@ -1,4 +1,7 @@
-// A character, and the record that is published of it.
+// A character, its tick and move among the others, and the record that is published of it.
+mod tick;
+
+pub use tick::Ticked;
 use casts::cast_unsigned;
 use direction::Angle;
 use direction::MoveDirection;
@@ -7,6 +10,7 @@ use float::i32_to_f32;
 use float::to_256ths;
 use hook::Hook;
 use snap_obj::CharacterCore;
+use snap_obj::PlayerInput;
 use snap_obj::Tick;
 use vector::vec2;
 use whole::round_to_i32;
@@ -26,6 +30,16 @@ pub struct Character {
     pub used_airjump: bool,
     pub angle: Angle,
     pub move_direction: MoveDirection,
+}
+
+// How many characters a world has room for.
+pub const SEATS: usize = 16;
+
+// A place for a character: there or not, with its last input.
+pub struct Slot {
+    pub present: bool,
+    pub character: Character,
+    pub input: PlayerInput,
 }
 
 // What `to_net` answers.

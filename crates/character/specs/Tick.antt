@@ -1,0 +1,122 @@
+-- `Character::tick` of lib.rs, among n slots. Definitions only.
+use Prim.Native.Nat.{ℕ}
+use mathlib.Core.Bool.{Bool, false, cond}
+use mathlib.Core.List.{List}
+use lib.Dec.{eqb, ltb}
+use lib.ListN.{getD, set}
+use lib.IntN.{ℤ, pos}
+use lib.Ieee.{Float, nan, binary32, add, ne}
+use Rattle.turns.specs.Turns.{fold}
+use Rattle.number.specs.Number.{c0}
+use Rattle.vector.specs.Vec2.{vnew}
+use Rattle.vector.specs.declared.vec2.{vec2}
+use Rattle.direction.specs.declared.MoveDirection.the-variants.{Left}
+use Rattle.hook.specs.Hook.{onFlying}
+use Rattle.hook.specs.declared.CharacterId.{CharacterId}
+use Rattle.hook.specs.declared.Hook.{Hook}
+use Rattle.hook.specs.declared.Hook.the-variants.{Retracted}
+use Rattle.snap_obj.specs.declared.PlayerInput.{PlayerInput}
+use Rattle.tuning.specs.Tuning.{tuningOf}
+use Rattle.tuning.specs.declared.Tuning.{Tuning}
+use Rattle.tiles.specs.Map.{isMap}
+use Rattle.tiles.specs.declared.Sides.{Sides}
+use Rattle.lines.specs.Line.{walkLine}
+use Rattle.lines.specs.declared.LineCheck.{LineCheck}
+use Rattle.lines.specs.declared.LineCheck.the-variants as line
+use Rattle.inputs.specs.Inputs.{moveDirection, targetDir, aim, jumps, hooks}
+use Rattle.controls.specs.Controls.{grounded, controlOf, jump, landed, walk, clampSpeed}
+use Rattle.controls.specs.declared.JumpState.{JumpState}
+use Rattle.hooking.specs.Hooking.{fire, fly, strike, nearer, grab, retract, hold, dragged}
+use Rattle.hooking.specs.declared.Flight.{Flight}
+use Rattle.hooking.specs.declared.Nearest.{Nearest}
+use Rattle.hooking.specs.declared.Nearest.the-variants.{Nobody}
+use Rattle.meeting.specs.Meeting.{meet}
+use Rattle.meeting.specs.declared.Velocities.{Velocities}
+use Rattle.character.specs.declared.Character.{Character}
+use Rattle.character.specs.declared.Slot.{Slot}
+use Rattle.character.specs.declared.tick.Ticked.{Ticked}
+use Rattle.character.specs.declared.tick.Met.{Met}
+use Rattle.character.specs.declared.tick.HookFlight.{HookFlight}
+use Rattle.character.specs.declared.tick.HookFlight.the-variants.{TooFar, To}
+
+-- what an index past the end reads, which no call does: the value that the logic takes for it
+abbrev pub nowhere : Slot
+nowhere = record { present = false; character = record { pos = vnew nan nan; vel = vnew nan nan; hook = Retracted; «jumped_already» = false; «used_airjump» = false; angle = record { radians = nan }; «move_direction» = Left }; input = record { direction = pos 0; «target_x» = pos 0; «target_y» = pos 0; jump = pos 0; hook = pos 0 } }
+
+abbrev pub slotAt : List Slot → ℕ → Slot
+slotAt ss j = getD ss j nowhere
+
+-- c with another hook, with another velocity; s with another character
+abbrev pub withHook : Character → Hook → Character
+withHook c h = record { pos = c .pos; vel = c .vel; hook = h; «jumped_already» = c .«jumped_already»; «used_airjump» = c .«used_airjump»; angle = c .angle; «move_direction» = c .«move_direction» }
+
+abbrev pub withVel : Character → vec2 → Character
+withVel c v = record { pos = c .pos; vel = v; hook = c .hook; «jumped_already» = c .«jumped_already»; «used_airjump» = c .«used_airjump»; angle = c .angle; «move_direction» = c .«move_direction» }
+
+abbrev pub withCharacter : Slot → Character → Slot
+withCharacter s c = record { present = s .present; character = c; input = s .input }
+
+-- direction and angle, gravity and jump, the hook's button, walking and friction
+unfoldable pub steer : Character → Bool → PlayerInput → Tuning → Character
+steer c onGround i t =
+    let direction = moveDirection i in
+    let jumped = jump (record { «vel_y» = add binary32 (c .vel .y) (t .gravity); «jumped_already» = c .«jumped_already»; «used_airjump» = c .«used_airjump» }) (jumps i) onGround t in
+    record {
+      pos = c .pos;
+      vel = vnew (walk (c .vel .x) direction (controlOf onGround t)) (jumped .«vel_y»);
+      hook = fire (c .hook) (hooks i) (c .pos) (targetDir i);
+      «jumped_already» = jumped .«jumped_already»;
+      «used_airjump» = landed onGround (jumped .«used_airjump»);
+      angle = aim i;
+      «move_direction» = direction }
+
+-- the slot j, if it is another's and somebody is there, is looked at
+abbrev pub nearestTurn : List Slot → ℕ → vec2 → vec2 → ℕ → Nearest → Nearest
+nearestTurn ss id from to j best = cond (eqb j id) best (cond (slotAt ss j .present) (nearer best j (slotAt ss j .character .pos) from to) best)
+
+-- whom a hook meets first on its way
+unfoldable pub nearest : ℕ → List Slot → ℕ → vec2 → vec2 → Nearest
+nearest n ss id from to = fold (nearestTurn ss id from to) n 0 Nobody
+
+-- after the line: too far for it, or what it strikes, and then whom it meets where players can be hooked
+abbrev pub flown : ℕ → List Slot → ℕ → vec2 → Flight → Tuning → LineCheck → HookFlight
+flown n ss id from f t line.TooFar = TooFar
+flown n ss id from f t line.BadMap = To (cond (ne (t .«player_hooking») c0) (grab (strike (f .hook) line.BadMap) (nearest n ss id from (f .to))) (strike (f .hook) line.BadMap))
+flown n ss id from f t line.Nothing = To (cond (ne (t .«player_hooking») c0) (grab (strike (f .hook) line.Nothing) (nearest n ss id from (f .to))) (strike (f .hook) line.Nothing))
+flown n ss id from f t (line.At p q) = To (cond (ne (t .«player_hooking») c0) (grab (strike (f .hook) (line.At p q)) (nearest n ss id from (f .to))) (strike (f .hook) (line.At p q)))
+
+-- a flying hook goes its way; any other leaves early, and one that comes back does so
+unfoldable pub flight : ℕ → Hook → vec2 → ℕ → List Slot → Sides → List ℕ → Tuning → HookFlight
+flight n h p id ss s ts t = onFlying (λ from d. flown n ss id from (fly from d p t) t (walkLine s ts from (fly from d p t .to))) (To (retract h)) h
+
+-- the slot j after the two have met
+abbrev pub metAt : List Slot → ℕ → Velocities → Met
+metAt ss j v = record { vel = v .me; slots = set ss j (withCharacter (slotAt ss j) (withVel (slotAt ss j .character) (v .other))) }
+
+abbrev pub meetTurn : ℕ → vec2 → Hook → Tuning → ℕ → Met → Met
+meetTurn id p h t j m =
+    cond (eqb j id) m
+    (cond (slotAt (m .slots) j .present) (metAt (m .slots) j (meet p (m .vel) h (slotAt (m .slots) j .character .pos) (slotAt (m .slots) j .character .vel) j t)) m)
+
+-- the others by rising id, each as it stands then
+unfoldable pub meetAll : ℕ → List Slot → ℕ → vec2 → vec2 → Hook → Tuning → Met
+meetAll n ss id p v h t = fold (meetTurn id p h t) n 0 (record { vel = v; slots = ss })
+
+-- after the flight: the drag of an attached hook, the count of a held one, the others, and the clamp
+abbrev pub ticked : ℕ → Character → Character → ℕ → List Slot → Tuning → HookFlight → Ticked
+ticked n before c id ss t TooFar = record { number = 9; me = before; slots = ss }
+ticked n before c id ss t (To h) =
+    let met = meetAll n ss id (before .pos) (dragged h (before .pos) (c .vel) (c .«move_direction») t) (hold h) t in
+    record { number = 0; me = withVel (withHook c (hold h)) (clampSpeed (met .vel)); slots = met .slots }
+
+unfoldable pub tickAt : ℕ → Character → ℕ → List Slot → Sides → List ℕ → PlayerInput → Tuning → Ticked
+tickAt n c id ss s ts i t =
+    let steered = steer c (grounded s ts (c .pos)) i t in
+    ticked n c steered id ss t (flight n (steered .hook) (c .pos) id ss s ts t)
+
+-- refused with 1 where the map is none, with 2 where the id has no slot
+unfoldable pub tick : ℕ → Character → CharacterId → List Slot → Sides → List ℕ → PlayerInput → List ℤ → Ticked
+tick n c id ss s ts i tunings =
+    cond (isMap s ts)
+    (cond (ltb (id .0) n) (tickAt n c (id .0) ss s ts i (tuningOf tunings)) (record { number = 2; me = c; slots = ss }))
+    (record { number = 1; me = c; slots = ss })
