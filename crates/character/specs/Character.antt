@@ -1,90 +1,13 @@
--- `Character` of lib.rs: spawned, as a record, and back. Definitions only.
-use mathlib.Core.Bool.{Bool, false, cond}
-use Prim.Native.Nat.{ℕ, _+_, _/_, _%_}
-use lib.Dec.{leb, eqb}
-use lib.IntN.{ℤ, pos}
-use Rattle.casts.specs.Casts.{castUnsigned}
+-- `Character::spawn` of lib.rs. Definitions only.
+use mathlib.Core.Bool.{false}
+use lib.IntN.{pos}
 use Rattle.character.specs.declared.Character.{Character}
-use Rattle.character.specs.declared.Net.{Net}
-use Rattle.character.specs.declared.Quantized.{Quantized}
-use Rattle.direction.specs.Direction.{fromInt, asInt, angleToNet, angleFromNet}
 use Rattle.direction.specs.declared.MoveDirection.the-variants.{None}
-use Rattle.float.specs.Convert.{i32ToF32, to256ths, from256ths}
-use Rattle.hook.specs.Hook.{netState, netPos, netDir, tickOf, netHookedPlayer, hookFromNet}
 use Rattle.hook.specs.declared.Hook.the-variants.{Idle}
 use Rattle.number.specs.Number.{c0}
-use Rattle.snap_obj.specs.declared.CharacterCore.{CharacterCore}
 use Rattle.vector.specs.Vec2.{vnew}
 use Rattle.vector.specs.declared.vec2.{vec2}
-use Rattle.whole.specs.Whole.{roundToI32}
-use Rattle.character.specs.declared.Net.the-variants as net
-use Rattle.character.specs.declared.Quantized.the-variants as quantized
 
 -- at rest at p, with nothing held and nothing pressed
 unfoldable pub spawn : vec2 → Character
 spawn p = record { pos = p; vel = vnew c0 c0; hook = Idle; «jumped_already» = false; «used_airjump» = false; angle = record { radians = c0 }; «move_direction» = None }
-
--- bit 1: the air jump is used; bit 0: the jump button is still held
-unfoldable pub netJumped : Character → ℤ
-netJumped c = pos (cond (c .«used_airjump») 2 0 + cond (c .«jumped_already») 1 0)
-
-unfoldable pub usedAirjumpFromNet : ℤ → Bool
-usedAirjumpFromNet z = eqb (castUnsigned z / 2 % 2) 1
-
-unfoldable pub jumpedAlreadyFromNet : ℤ → Bool
-jumpedAlreadyFromNet z = eqb (castUnsigned z % 2) 1
-
--- the record: positions to whole numbers, velocity and hook direction to 256ths, the angle cut to 256ths
-unfoldable pub coreOf : Character → CharacterCore
-coreOf c = record {
-  tick = pos 0;
-  x = roundToI32 (c .pos .x);
-  y = roundToI32 (c .pos .y);
-  «vel_x» = to256ths (c .vel .x);
-  «vel_y» = to256ths (c .vel .y);
-  angle = angleToNet (c .angle);
-  direction = asInt (c .«move_direction»);
-  jumped = netJumped c;
-  «hooked_player» = netHookedPlayer (c .hook);
-  «hook_state» = netState (c .hook);
-  «hook_tick» = record { 0 = pos (tickOf (c .hook)) };
-  «hook_x» = roundToI32 (netPos (c .hook) .x);
-  «hook_y» = roundToI32 (netPos (c .hook) .y);
-  «hook_dx» = to256ths (netDir (c .hook) .x);
-  «hook_dy» = to256ths (netDir (c .hook) .y) }
-
--- the largest tick that a record holds
-abbrev pub mostTick : ℕ
-mostTick = 2147483647
-
--- refused with 10 where the tick of a held player is above it
-unfoldable pub toNet : Character → Net
-toNet c = cond (leb (tickOf (c .hook)) mostTick) (net.Core (coreOf c)) net.TickTooLarge
-
--- a record as a character
-unfoldable pub fromNet : CharacterCore → Character
-fromNet n = record {
-  pos = vnew (i32ToF32 (n .x)) (i32ToF32 (n .y));
-  vel = vnew (from256ths (n .«vel_x»)) (from256ths (n .«vel_y»));
-  hook = hookFromNet (n .«hook_state») (vnew (i32ToF32 (n .«hook_x»)) (i32ToF32 (n .«hook_y»))) (vnew (from256ths (n .«hook_dx»)) (from256ths (n .«hook_dy»))) (n .«hooked_player») (n .«hook_tick»);
-  «jumped_already» = jumpedAlreadyFromNet (n .jumped);
-  «used_airjump» = usedAirjumpFromNet (n .jumped);
-  angle = angleFromNet (n .angle);
-  «move_direction» = fromInt (n .direction) }
-
--- into a record and back
-abbrev pub back : Net → Quantized
-back net.TickTooLarge = quantized.TickTooLarge
-back (net.Core n) = quantized.To (fromNet n)
-
-unfoldable pub quantize : Character → Quantized
-quantize c = back (toNet c)
-
--- document 01's number of an answer
-abbrev pub netNumber : Net → ℕ
-netNumber net.TickTooLarge = 10
-netNumber (net.Core n) = 0
-
-abbrev pub quantizedNumber : Quantized → ℕ
-quantizedNumber quantized.TickTooLarge = 10
-quantizedNumber (quantized.To c) = 0

@@ -1,6 +1,6 @@
 -- `Character::tick` of lib.rs, among n slots. Definitions only.
 use Prim.Native.Nat.{ℕ}
-use mathlib.Core.Bool.{Bool, false, cond}
+use mathlib.Core.Bool.{Bool, true, false, cond}
 use mathlib.Core.List.{List}
 use lib.Dec.{eqb, ltb}
 use lib.ListN.{getD, set}
@@ -78,12 +78,18 @@ nearestTurn ss id from to j best = cond (eqb j id) best (cond (slotAt ss j .pres
 unfoldable pub nearest : ℕ → List Slot → ℕ → vec2 → vec2 → Nearest
 nearest n ss id from to = fold (nearestTurn ss id from to) n 0 Nobody
 
--- after the line: too far for it, or what it strikes, and then whom it meets where players can be hooked
+-- the line is too long to be walked
+abbrev pub tooFar : LineCheck → Bool
+tooFar line.BadMap = false
+tooFar line.TooFar = true
+tooFar line.Nothing = false
+tooFar (line.At p t) = false
+
+-- after the line: refused, or what it strikes, and then whom it meets where players can be hooked
 abbrev pub flown : ℕ → List Slot → ℕ → vec2 → Flight → Tuning → LineCheck → HookFlight
-flown n ss id from f t line.TooFar = TooFar
-flown n ss id from f t line.BadMap = To (cond (ne (t .«player_hooking») c0) (grab (strike (f .hook) line.BadMap) (nearest n ss id from (f .to))) (strike (f .hook) line.BadMap))
-flown n ss id from f t line.Nothing = To (cond (ne (t .«player_hooking») c0) (grab (strike (f .hook) line.Nothing) (nearest n ss id from (f .to))) (strike (f .hook) line.Nothing))
-flown n ss id from f t (line.At p q) = To (cond (ne (t .«player_hooking») c0) (grab (strike (f .hook) (line.At p q)) (nearest n ss id from (f .to))) (strike (f .hook) (line.At p q)))
+flown n ss id from f t check =
+    let struck = strike (f .hook) check in
+    cond (tooFar check) TooFar (To (cond (ne (t .«player_hooking») c0) (grab struck (nearest n ss id from (f .to))) struck))
 
 -- a flying hook goes its way; any other leaves early, and one that comes back does so
 unfoldable pub flight : ℕ → Hook → vec2 → ℕ → List Slot → Sides → List ℕ → Tuning → HookFlight

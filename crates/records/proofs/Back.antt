@@ -9,7 +9,6 @@ use lib.IntN.{pos}
 use borrow.Author.Tests.{le-leb}
 use Rattle.casts.proofs.Back.{cast-back}
 use Rattle.casts.specs.Casts.{castUnsigned}
-use Rattle.character.specs.Character.{netJumped, usedAirjumpFromNet, jumpedAlreadyFromNet, coreOf, mostTick, toNet, fromNet, back, quantize}
 use Rattle.character.specs.declared.Character.{Character}
 use Rattle.direction.specs.Direction.{fromInt, asInt, angleToNet, angleFromNet}
 use Rattle.direction.specs.declared.Angle.{Angle}
@@ -21,12 +20,13 @@ use Rattle.hook.proofs.States.{held-somebody}
 use Rattle.hook.specs.Hook.{netState, netPos, netDir, tickOf, netHookedPlayer, attachedOrGrabbed, hookFromNet}
 use Rattle.hook.specs.declared.Hook.{Hook}
 use Rattle.hook.specs.declared.Hook.the-variants.{Retracted, Idle, Flying, Grabbed, Attached, Retracting0, Retracting1, Retracting2}
+use Rattle.records.specs.Records.{netJumped, usedAirjumpFromNet, jumpedAlreadyFromNet, coreOf, mostTick, toNet, fromNet, back, quantize}
 use Rattle.records.specs.Representable.{OfI32, Pair, RepresentableHook, Representable}
 use Rattle.vector.specs.Vec2.{vnew}
 use Rattle.vector.specs.declared.vec2.{vec2}
 use Rattle.whole.specs.Whole.{roundToI32, truncToI32}
-use Rattle.character.specs.declared.Net.the-variants as net
-use Rattle.character.specs.declared.Quantized.the-variants as quantized
+use Rattle.records.specs.declared.Net.the-variants as net
+use Rattle.records.specs.declared.Quantized.the-variants as quantized
 
 -- ---- numbers
 whole-back : (x : Float) → OfI32 i32ToF32 x → i32ToF32 (roundToI32 x) ≡ x

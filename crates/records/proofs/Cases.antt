@@ -3,9 +3,10 @@ use mathlib.Core.Bool.{false}
 use mathlib.Core.Path.{_≡_, refl}
 use lib.Ieee.{nan, binary32, ofBits, mul, div, ofInt}
 use lib.IntN.{pos}
-use Rattle.character.specs.Character.{spawn, coreOf, fromNet}
+use Rattle.character.specs.Character.{spawn}
 use Rattle.character.specs.declared.Character.{Character}
 use Rattle.float.specs.Convert.{i32ToF32, to256ths, from256ths}
+use Rattle.records.specs.Records.{coreOf, fromNet}
 use Rattle.vector.specs.Vec2.{vnew}
 use Rattle.vector.specs.declared.vec2.{vec2}
 use Rattle.whole.specs.Whole.{wholeOf}

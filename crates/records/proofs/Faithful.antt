@@ -6,11 +6,11 @@ use lib.Dec.{T}
 use lib.Ieee.{binary32, fits}
 use Rattle.boxes.proofs.Quantized.{quantized-clear}
 use Rattle.boxes.specs.Box.{checkBox, characterBox, vquantize}
-use Rattle.character.specs.Character.{coreOf, fromNet}
 use Rattle.character.specs.declared.Character.{Character}
 use Rattle.float.proofs.Nearby.{round-near, 256ths-near}
 use Rattle.float.specs.Convert.{quantize}
 use Rattle.records.specs.Faithful.{Faithful}
+use Rattle.records.specs.Records.{coreOf, fromNet}
 use Rattle.tiles.specs.Map.{isMap}
 use Rattle.tiles.specs.declared.Sides.{Sides}
 

@@ -11,9 +11,8 @@ use lib.Signed.{nonNeg}
 use borrow.Author.Tests.{lt-leb}
 use Rattle.casts.proofs.Back.{signed-in}
 use Rattle.casts.specs.Casts.{castUnsigned}
-use Rattle.character.specs.Character.{spawn, coreOf, mostTick, toNet, fromNet, back, quantize}
+use Rattle.character.specs.Character.{spawn}
 use Rattle.character.specs.declared.Character.{Character}
-use Rattle.character.specs.declared.Quantized.{Quantized}
 use Rattle.direction.specs.Direction.{angleToNet, angleFromNet}
 use Rattle.float.specs.Convert.{i32ToF32, to256ths, from256ths}
 use Rattle.hook.specs.Hook.{nobody, netHookedPlayer, tickOf, attachedOrGrabbed, hookFromNet}
@@ -21,14 +20,16 @@ use Rattle.hook.specs.declared.Hook.{Hook}
 use Rattle.hook.specs.declared.Hook.the-variants.{Retracted, Idle, Flying, Grabbed, Attached, Retracting0, Retracting1, Retracting2}
 use Rattle.number.specs.Number.{c0}
 use Rattle.records.proofs.Back.{representable-back}
+use Rattle.records.specs.Records.{coreOf, mostTick, toNet, fromNet, back, quantize}
 use Rattle.records.specs.Representable.{IsI32, OfI32, Pair, RepresentableHook, Representable, AllI32, HeldBelowZero}
+use Rattle.records.specs.declared.Quantized.{Quantized}
 use Rattle.snap_obj.specs.declared.CharacterCore.{CharacterCore}
 use Rattle.snap_obj.specs.declared.Tick.{Tick}
 use Rattle.vector.specs.Vec2.{vnew}
 use Rattle.vector.specs.declared.vec2.{vec2}
 use Rattle.whole.proofs.Ranges.{whole-in}
-use Rattle.character.specs.declared.Net.the-variants as net
-use Rattle.character.specs.declared.Quantized.the-variants as quantized
+use Rattle.records.specs.declared.Net.the-variants as net
+use Rattle.records.specs.declared.Quantized.the-variants as quantized
 
 -- by the test of a `cond`
 either : {A : Type 0} (b : Bool) (x y : A) (P : A → Type 0) → (T b → P x) → P y → P (cond b x y)

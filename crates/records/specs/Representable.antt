@@ -5,7 +5,7 @@ use Prim.Native.Nat.{ℕ, _-_, _^_, _≤_, _<_}
 use lib.Ieee.{Float}
 use lib.IntN.{ℤ, pos, negsuc}
 use lib.Signed.{mag}
-use Rattle.character.specs.Character.{mostTick}
+use Rattle.records.specs.Records.{mostTick}
 use Rattle.character.specs.declared.Character.{Character}
 use Rattle.float.specs.Convert.{i32ToF32, from256ths}
 use Rattle.hook.specs.Hook.{nobody}

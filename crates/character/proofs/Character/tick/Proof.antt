@@ -1,41 +1,32 @@
+-- `character::Character::tick` meets its contract. Assumes nothing.
+use mathlib.Core.Path.{sym, _∙_, subst}
+use lib.Dec.{T}
+use borrow.Author.Needs.{needs}
 use borrow.Author.Tests.{lt-ltb, lt-leb, le-leb, le-ltb}
 use Rattle.character.specs.Tick.{tick}
-use borrow.Author.Needs.{needs}
 use Rattle.character.proofs.Character.tick.Statement.{statement}
 use Rattle.character.proofs.Character.tick.Tie as tie
-use Rattle.character.proofs.Character.tick.Reads as reads
-use Rattle.character.proofs.Character.tick.Lts as lts
-use Rattle.character.proofs.Character.tick_at.Reads as tick-at-reads
-use Rattle.tiles.proofs.is_map.Reads as is-map-reads
-use Rattle.tuning.proofs.tuning_of.Reads as tuning-of-reads
 
--- src/tick.rt:75:12
 is-map-requires : tie.Need-is-map-requires
 is-map-requires c κs = search needs
 
--- src/tick.rt:77:37
 cast-tick-at : tie.Need-cast-tick-at
 cast-tick-at c = search needs
 
--- src/tick.rt:77:80
 tuning-of-requires : tie.Need-tuning-of-requires
 tuning-of-requires c κs = search needs
 
--- src/tick.rt:77:17
 tick-at-requires : tie.Need-tick-at-requires
-tick-at-requires c κs = ?
+tick-at-requires c κs = (subst T (sym (c .before .before .before .before .if1 .taken) ∙ c .before .before .before .before .before .is-map .ensures) tt, c .before .before .if2 .taken)
 
--- src/tick.rt:77:17
 returns : tie.Need-returns
 unfolding tick
 returns c = simp (← c .before .before .before .before .before .before .is-map .ensures, c .before .before .before .before .before .if1 .taken, lt-ltb _ _ (c .before .before .before .if2 .taken), lt-leb _ _ (c .before .before .before .if2 .taken), ← c .before .tuning-of .ensures, ← c .tick-at .ensures)
 
--- src/tick.rt:79:13
 returns-2 : tie.Need-returns-2
 unfolding tick
 returns-2 c = simp (← c .before .before .before .is-map .ensures, c .before .before .if1 .taken, le-leb _ _ (c .if2 .left), le-ltb _ _ (c .if2 .left))
 
--- src/tick.rt:64:5
 returns-3 : tie.Need-returns-3
 unfolding tick
 returns-3 c = simp (← c .before .is-map .ensures, c .if1 .left)

@@ -1,58 +1,82 @@
+-- `character::meet_all` meets its contract. Assumes nothing.
+use mathlib.Core.Bool.{true, false}
+use mathlib.Core.List.{List}
+use mathlib.Core.Logic.{⊎-elim}
+use mathlib.Core.Path.{_≡_, sym}
+use Prim.Native.Nat.{ℕ, _-_}
+use native.Mathlib.Omega.{arith}
+use lib.ListN.{set}
+use borrow.Author.Needs.{needs}
+use borrow.Author.Tests.{eq-eqb, ne-eqb}
+use Rattle.character.specs.Tick.{slotAt, withVel, withCharacter, meetTurn, meetAll}
+use Rattle.character.specs.declared.Slot.{Slot}
+use Rattle.character.specs.declared.tick.Met.{Met}
+use Rattle.hook.specs.declared.Hook.{Hook}
+use Rattle.meeting.specs.Meeting.{meet}
+use Rattle.meeting.specs.declared.Velocities.{Velocities}
+use Rattle.tuning.specs.declared.Tuning.{Tuning}
+use Rattle.turns.proofs.Loop.{Left, always, fold-first, turn-on, fold-end}
+use Rattle.turns.specs.Turns.{fold, more}
+use Rattle.vector.specs.declared.vec2.{vec2}
 use Rattle.character.proofs.tick.meet_all.Statement.{statement}
 use Rattle.character.proofs.tick.meet_all.Tie as tie
-use Rattle.character.proofs.tick.meet_all.Reads as reads
-use Rattle.character.proofs.tick.meet_all.Lts as lts
-use Rattle.meeting.proofs.meet.Reads as meet-reads
+
+abbrev met : vec2 → List Slot → Met
+met v ss = record { vel = v; slots = ss }
+
+-- a turn, on plain values: somebody is there; nobody; the slot is the walker's own
+module _ (id : ℕ) (p : vec2) (h : Hook) (t : Tuning) (j : ℕ) (v w : vec2) (ss us : List Slot) where
+  both : (r : Velocities) → (j ≡ id → ⊥) → slotAt ss j .present ≡ true → r ≡ meet p v h (slotAt ss j .character .pos) (slotAt ss j .character .vel) j t → w ≡ r .me → us ≡ set ss j (withCharacter (slotAt ss j) (withVel (slotAt ss j .character) (r .other))) → always (meetTurn id p h t) j (met v ss) ≡ more (met w us)
+  both r n q e f g = simp (f, g, ne-eqb j id n, q, ← e)
+
+  absent : (j ≡ id → ⊥) → slotAt ss j .present ≡ false → w ≡ v → us ≡ ss → always (meetTurn id p h t) j (met v ss) ≡ more (met w us)
+  absent n q f g = simp (f, g, ne-eqb j id n, q)
+
+  itself : j ≡ id → w ≡ v → us ≡ ss → always (meetTurn id p h t) j (met v ss) ≡ more (met w us)
+  itself n f g = simp (f, g, eq-eqb j id n)
 
 abbrev Inv-loop : tie.InvT-loop
-Inv-loop id pos hook tuning mine₀ all₀ j₀ mine all j = ?
+Inv-loop id pos hook tuning mine₀ all₀ j₀ mine all j = Left (always (meetTurn id pos hook tuning)) 16 j (met mine all) (more (fold (meetTurn id pos hook tuning) 16 0 (met mine₀ all₀)))
 
 abbrev μ-loop : tie.MeasureT-loop
-μ-loop id pos hook tuning mine₀ all₀ j₀ mine all j = ?
+μ-loop id pos hook tuning mine₀ all₀ j₀ mine all j = 16 - j
 
--- src/tick.rt:230:5
 loop-holds : tie.Need-loop-holds Inv-loop μ-loop
-loop-holds c = ?
+loop-holds c = fold-first
 
--- src/tick.rt:232:24
 mul-slot : tie.Need-mul-slot Inv-loop μ-loop
-mul-slot c = ?
+mul-slot c = search needs
 
--- src/tick.rt:232:24
 array-copy-out-slot : tie.Need-array-copy-out-slot Inv-loop μ-loop
-array-copy-out-slot c = ?
+array-copy-out-slot c = omega arith
 
--- src/tick.rt:235:71
 cast-meet : tie.Need-cast-meet Inv-loop μ-loop
-cast-meet c = ?
+cast-meet c = omega arith
 
--- src/tick.rt:235:21
 meet-requires : tie.Need-meet-requires Inv-loop μ-loop
-meet-requires c κs = ?
+meet-requires c κs = search needs
 
--- src/tick.rt:241:17
 mul-all : tie.Need-mul-all Inv-loop μ-loop
-mul-all c = ?
+mul-all c = search needs
 
--- src/tick.rt:241:17
 array-set-from-all : tie.Need-array-set-from-all Inv-loop μ-loop
-array-set-from-all c = ?
+array-set-from-all c = omega arith
 
--- src/tick.rt:230:9
 add-j : tie.Need-add-j Inv-loop μ-loop
-add-j c = ?
+add-j c = omega arith
 
--- src/tick.rt:230:5
 loop-less : tie.Need-loop-less Inv-loop μ-loop
-loop-less c = ?
+loop-less c = omega arith
 
--- src/tick.rt:230:5
 loop-again : tie.Need-loop-again Inv-loop μ-loop
-loop-again c = ?
+loop-again c = turn-on (c .before .before .loop .inv) (c .before .loop-test .taken)
+    (⊎-elim (λ w. both _ _ _ _ _ _ _ _ _ (w .4 .result) (w .0 .taken) (w .2 .taken) (w .4 .ensures) (w .7) (w .8))
+    (⊎-elim (λ w. absent _ _ _ _ _ _ _ _ _ (w .0 .taken) (w .2 .left) (w .3) (w .4)) (λ w. itself _ _ _ _ _ _ _ _ _ (w .0 .left) (w .1) (w .2)))
+    (c .if1 .came))
 
--- src/tick.rt:225:1
 returns : tie.Need-returns Inv-loop μ-loop
-returns c = ?
+unfolding meetAll
+returns c = sym (fold-end (c .before .loop .inv) (c .loop-test .left))
 
 pub meet-all-spec : {M : Type 1} → statement M
 meet-all-spec =

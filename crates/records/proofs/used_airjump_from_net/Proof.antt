@@ -1,4 +1,4 @@
--- `character::Character::used_airjump_from_net` meets its contract. Assumes nothing.
+-- `records::used_airjump_from_net` meets its contract. Assumes nothing.
 use mathlib.Core.Path.{_∙_, ap}
 use Prim.Native.Nat.{ℕ, _/_, _%_}
 use lib.Dec.{eqb}
@@ -6,9 +6,9 @@ use mir.Facts.{toZ-ofZ}
 use mir.Syntax.{w32}
 use borrow.Author.Needs.{needs}
 use Rattle.casts.specs.Casts.{castUnsigned}
-use Rattle.character.specs.Character.{usedAirjumpFromNet}
-use Rattle.character.proofs.Character.used_airjump_from_net.Statement.{statement}
-use Rattle.character.proofs.Character.used_airjump_from_net.Tie as tie
+use Rattle.records.specs.Records.{usedAirjumpFromNet}
+use Rattle.records.proofs.used_airjump_from_net.Statement.{statement}
+use Rattle.records.proofs.used_airjump_from_net.Tie as tie
 
 cast-unsigned-requires : tie.Need-cast-unsigned-requires
 cast-unsigned-requires c κs = search needs

@@ -1,4 +1,4 @@
--- `character::Character::core` meets its contract. Assumes nothing.
+-- `records::core_of` meets its contract. Assumes nothing.
 use mathlib.Core.Path.{_∙_, ap}
 use Prim.Native.Nat.{suc-le-suc}
 use native.Mathlib.Nat.{le-of-eq, lt-of-le-of-lt}
@@ -7,12 +7,12 @@ use mir.Facts.{toZ-pos}
 use mir.Syntax.{w32}
 use borrow.Author.Needs.{needs}
 use Rattle.casts.proofs.Signed.{held}
-use Rattle.character.specs.Character.{coreOf}
+use Rattle.records.specs.Records.{coreOf}
 use Rattle.float.specs.Convert.{to256ths}
 use Rattle.vector.specs.declared.vec2.{vec2}
 use Rattle.whole.specs.Whole.{roundToI32}
-use Rattle.character.proofs.Character.core.Statement.{statement}
-use Rattle.character.proofs.Character.core.Tie as tie
+use Rattle.records.proofs.core_of.Statement.{statement}
+use Rattle.records.proofs.core_of.Tie as tie
 
 net-pos-requires : tie.Need-net-pos-requires
 net-pos-requires c κs = search needs
@@ -101,8 +101,8 @@ returns c =
     held (c1 .to-256ths3 .result) (c1 .to-256ths3 .ok) (c1 .to-256ths3 .ensures ∙ ap (λ (p : vec2). to256ths (p .x)) (c14 .net-dir .ensures)),
     held (c .to-256ths4 .result) (c .to-256ths4 .ok) (c .to-256ths4 .ensures ∙ ap (λ (p : vec2). to256ths (p .y)) (c14 .net-dir .ensures)))
 
-pub core-spec : {M : Type 1} → statement M
-core-spec =
+pub core-of-spec : {M : Type 1} → statement M
+core-of-spec =
     tie.close
     (tie.spec
     net-pos-requires

@@ -1,13 +1,13 @@
--- `character::Character::from_net` meets its contract. Assumes nothing.
+-- `records::from_net` meets its contract. Assumes nothing.
 use mathlib.Core.Path.{_≡_, _∙_, ap}
 use borrow.Author.Needs.{needs}
 use Rattle.casts.proofs.Signed.{read}
-use Rattle.character.specs.Character.{usedAirjumpFromNet, jumpedAlreadyFromNet, fromNet}
+use Rattle.records.specs.Records.{usedAirjumpFromNet, jumpedAlreadyFromNet, fromNet}
 use Rattle.direction.specs.Direction.{fromInt, angleFromNet}
 use Rattle.float.specs.Convert.{i32ToF32, from256ths}
 use Rattle.hook.specs.Hook.{hookFromNet}
-use Rattle.character.proofs.Character.from_net.Statement.{statement}
-use Rattle.character.proofs.Character.from_net.Tie as tie
+use Rattle.records.proofs.from_net.Statement.{statement}
+use Rattle.records.proofs.from_net.Tie as tie
 
 i32-to-f32-requires : tie.Need-i32-to-f32-requires
 i32-to-f32-requires c κs = search needs

@@ -1,8 +1,8 @@
--- `character::Character::quantize` meets its contract. Assumes nothing.
+-- `records::quantize` meets its contract. Assumes nothing.
 use borrow.Author.Needs.{needs}
-use Rattle.character.specs.Character.{quantize}
-use Rattle.character.proofs.Character.quantize.Statement.{statement}
-use Rattle.character.proofs.Character.quantize.Tie as tie
+use Rattle.records.specs.Records.{quantize}
+use Rattle.records.proofs.quantize.Statement.{statement}
+use Rattle.records.proofs.quantize.Tie as tie
 
 to-net-requires : tie.Need-to-net-requires
 to-net-requires c κs = search needs

@@ -1,7 +1,7 @@
--- `character::Character::net_jumped` meets its contract. Assumes nothing.
-use Rattle.character.specs.Character.{netJumped}
-use Rattle.character.proofs.Character.net_jumped.Statement.{statement}
-use Rattle.character.proofs.Character.net_jumped.Tie as tie
+-- `records::net_jumped` meets its contract. Assumes nothing.
+use Rattle.records.specs.Records.{netJumped}
+use Rattle.records.proofs.net_jumped.Statement.{statement}
+use Rattle.records.proofs.net_jumped.Tie as tie
 
 returns : tie.Need-returns
 unfolding netJumped

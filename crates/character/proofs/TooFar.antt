@@ -1,0 +1,16 @@
+-- A line that is not too long. Assumes nothing.
+use mathlib.Core.Path.{_≡_, refl}
+use mathlib.Core.Bool.{false}
+use mathlib.Core.List.{[], _∷_}
+use types.Run.{OneOf, miss}
+use denote.Enum.Declared.{tagOf}
+use Rattle.lines.specs.declared.LineCheck.{LineCheck}
+use Rattle.lines.specs.declared.LineCheck.the-variants.{BadMap, TooFar, Nothing, At}
+use Rattle.lines.proofs.LineCheck.{the-type}
+use Rattle.character.specs.Tick.{tooFar}
+
+pub not-too-far : (l : LineCheck) → OneOf (0 ∷ 2 ∷ 3 ∷ []) (tagOf the-type l) → tooFar l ≡ false
+not-too-far BadMap k = refl
+not-too-far TooFar k = absurd (miss (0 ∷ 2 ∷ 3 ∷ []) 1 tt k)
+not-too-far Nothing k = refl
+not-too-far (At p t) k = refl
