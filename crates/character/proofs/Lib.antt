@@ -1,1 +1,2 @@
 pub mod TooFar
+pub mod NoBox

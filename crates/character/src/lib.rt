@@ -1,7 +1,9 @@
 // A character, and its tick and move among the others.
 mod tick;
+mod walk;
 
 pub use tick::Ticked;
+pub use walk::Moved;
 use direction::Angle;
 use direction::MoveDirection;
 use hook::Hook;

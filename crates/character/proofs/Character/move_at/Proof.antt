@@ -1,0 +1,53 @@
+-- `character::Character::move_at` meets its contract. Assumes nothing.
+use borrow.Author.Needs.{needs}
+use Rattle.character.proofs.NoBox.{no-box}
+use Rattle.character.specs.Walk.{moveAt}
+use Rattle.character.proofs.Character.move_at.Statement.{statement}
+use Rattle.character.proofs.Character.move_at.Tie as tie
+
+ramped-move-requires : tie.Need-ramped-move-requires
+ramped-move-requires c κs = search needs
+
+enum-known-moved : tie.Need-enum-known-moved
+enum-known-moved c = search needs
+
+returns : tie.Need-returns
+unfolding moveAt
+returns c =
+    let a = c .before .before .before .before .args in
+    rw (← c .before .ramped-move .ensures) (no-box 16 (a .self) (a .id) (a .slots) (a .tuning) (c .before .ramped-move .result) (c .match .keys2))
+
+player-walk-requires : tie.Need-player-walk-requires
+player-walk-requires c κs = search needs
+
+enum-known-walked : tie.Need-enum-known-walked
+enum-known-walked c = search needs
+
+enum-told : tie.Need-enum-told
+enum-told c = search needs
+
+returns-2 : tie.Need-returns-2
+unfolding moveAt
+returns-2 c = simp (← c .before .before .before .before .before .before .before .before .before .before .ramped-move .ensures, c .before .before .before .before .before .before .before .before .moved .given .1, c .before .before .before .if1 .taken, ← c .before .before .player-walk .ensures, c .enum-told .given .1)
+
+returns-3 : tie.Need-returns-3
+unfolding moveAt
+returns-3 c = simp (← c .before .before .before .before .before .before .before .before .before .before .before .ramped-move .ensures, c .before .before .before .before .before .before .before .before .before .moved .given .1, c .before .before .before .before .if1 .taken, ← c .before .before .before .player-walk .ensures, c .before .walked .given .1)
+
+returns-4 : tie.Need-returns-4
+unfolding moveAt
+returns-4 c = simp (← c .before .before .before .before .before .before .before .ramped-move .ensures, c .before .before .before .before .before .moved .given .1, c .if1 .left)
+
+pub move-at-spec : {M : Type 1} → statement M
+move-at-spec =
+    tie.close
+    (tie.spec
+    ramped-move-requires
+    enum-known-moved
+    returns
+    player-walk-requires
+    enum-known-walked
+    enum-told
+    returns-2
+    returns-3
+    returns-4)

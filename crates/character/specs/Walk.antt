@@ -1,0 +1,86 @@
+-- `Character::move_` of lib.rs, among n slots. Definitions only.
+use Prim.Native.Nat.{ℕ}
+use mathlib.Core.Bool.{Bool, false, cond}
+use mathlib.Core.List.{List}
+use lib.Dec.{leb, ltb, eqb}
+use lib.IntN.{ℤ, pos}
+use lib.Ieee.{Float, binary32, div, ne}
+use Rattle.turns.specs.Turns.{Turn, more, stop, next, run}
+use Rattle.number.specs.Number.{c0}
+use Rattle.float.specs.Convert.{i32ToF32}
+use Rattle.vector.specs.Vec2.{vdistance, vmix}
+use Rattle.vector.specs.declared.vec2.{vec2}
+use Rattle.hook.specs.declared.CharacterId.{CharacterId}
+use Rattle.tiles.specs.Map.{isMap, mostTurns}
+use Rattle.tiles.specs.declared.Sides.{Sides}
+use Rattle.tuning.specs.Tuning.{tuningOf}
+use Rattle.tuning.specs.declared.Tuning.{Tuning}
+use Rattle.moves.specs.declared.Body.{Body}
+use Rattle.moves.specs.declared.BoxMove.{BoxMove}
+use Rattle.moves.specs.declared.BoxMove.the-variants as box
+use Rattle.meeting.specs.Meeting.{touches}
+use Rattle.walking.specs.Walking.{rampedMove, playerTurns, restAt}
+use Rattle.character.specs.declared.Character.{Character}
+use Rattle.character.specs.declared.Slot.{Slot}
+use Rattle.character.specs.declared.walk.Moved.{Moved}
+use Rattle.character.specs.declared.walk.Moved.the-variants as moved
+use Rattle.character.specs.declared.walk.PlayerWalk.{PlayerWalk}
+use Rattle.character.specs.declared.walk.PlayerWalk.the-variants as among
+use Rattle.character.specs.Tick.{slotAt}
+
+-- c at p with the velocity v
+abbrev pub movedTo : Character → vec2 → vec2 → Character
+movedTo c p v = record { pos = p; vel = v; hook = c .hook; «jumped_already» = c .«jumped_already»; «used_airjump» = c .«used_airjump»; angle = c .angle; «move_direction» = c .«move_direction» }
+
+-- somebody else is there, and close to p
+unfoldable pub isClose : Slot → ℕ → ℕ → vec2 → Bool
+isClose s id j p = cond (eqb j id) false (cond (s .present) (touches p (s .character .pos)) false)
+
+-- the first close slot ends the walk
+abbrev pub slotTurn : List Slot → ℕ → vec2 → vec2 → vec2 → Float → vec2 → ℕ → Unit {0} → Turn (Unit {0}) vec2
+slotTurn ss id from to last fraction p j u = cond (isClose (slotAt ss j) id j p) (stop (restAt fraction last from to p (slotAt ss j .character .pos))) (more tt)
+
+-- a point of the way, against every slot
+abbrev pub walkTurn : ℕ → List Slot → ℕ → vec2 → vec2 → Float → ℕ → vec2 → Turn vec2 vec2
+walkTurn n ss id from to distance i last =
+    let fraction = div binary32 (i32ToF32 (pos i)) distance in
+    let p = vmix from to fraction in
+    next (λ u. more p) (run (slotTurn ss id from to last fraction p) n 0 tt)
+
+abbrev pub orTo : vec2 → Turn vec2 vec2 → vec2
+orTo to (more p) = to
+orTo to (stop p) = p
+
+unfoldable pub walkAmong : ℕ → List Slot → ℕ → vec2 → vec2 → Float → ℕ → vec2
+walkAmong n ss id from to distance turns = orTo to (run (walkTurn n ss id from to distance) turns 0 from)
+
+-- the player walk: 9 where it is too far
+unfoldable pub playerWalk : ℕ → List Slot → ℕ → vec2 → vec2 → PlayerWalk
+playerWalk n ss id from to =
+    let distance = vdistance from to in
+    cond (leb (playerTurns distance) mostTurns) (among.At (walkAmong n ss id from to distance (playerTurns distance))) among.TooFar
+
+abbrev pub rested : Character → vec2 → PlayerWalk → Moved
+rested c v among.TooFar = moved.TooFar
+rested c v (among.At p) = moved.To (movedTo c p v)
+
+-- after the box has moved: the others, where players collide
+abbrev pub afterBox : ℕ → Character → ℕ → List Slot → Tuning → BoxMove → Moved
+afterBox n c id ss t box.BadMap = moved.TooFar
+afterBox n c id ss t box.TooFar = moved.TooFar
+afterBox n c id ss t (box.To b) =
+    cond (ne (t .«player_collision») c0) (rested c (b .vel) (playerWalk n ss id (c .pos) (b .pos))) (moved.To (movedTo c (b .pos) (b .vel)))
+
+unfoldable pub moveAt : ℕ → Character → ℕ → List Slot → Sides → List ℕ → Tuning → Moved
+moveAt n c id ss s ts t = afterBox n c id ss t (rampedMove s ts (c .pos) (c .vel) t)
+
+-- refused with 1 where the map is none, with 2 where the id has no slot
+unfoldable pub move : ℕ → Character → CharacterId → List Slot → Sides → List ℕ → List ℤ → Moved
+move n c id ss s ts tunings = cond (isMap s ts) (cond (ltb (id .0) n) (moveAt n c (id .0) ss s ts (tuningOf tunings)) moved.BadId) moved.BadMap
+
+-- document 01's number of an answer
+abbrev pub moveNumber : Moved → ℕ
+moveNumber moved.BadMap = 1
+moveNumber moved.BadId = 2
+moveNumber moved.TooFar = 9
+moveNumber (moved.To c) = 0

@@ -1,0 +1,137 @@
+// A character's move among the others.
+use crate::Character;
+use crate::SEATS;
+use crate::Slot;
+use hook::CharacterId;
+use meeting::touches;
+use moves::BoxMove;
+use tiles::MOST_TURNS;
+use tiles::Sides;
+use tiles::is_map;
+use tuning::TUNINGS;
+use tuning::Tuning;
+use tuning::tuning_of;
+use vector::vec2;
+use walking::player_turns;
+use walking::ramped_move;
+use walking::rest_at;
+ghost use mathlib.Core.Path.{_≡_};
+ghost use lib.Dec.{T};
+ghost use Prim.Native.Nat.{_≤_, _<_};
+ghost use Rattle.tiles.specs.Map.{isMap};
+ghost use Rattle.character.specs.Walk.{isClose, walkAmong, playerWalk, moveAt, move};
+
+// What `move_` answers.
+pub enum Moved {
+    BadMap,
+    BadId,
+    TooFar,
+    To(Character),
+}
+
+// Where a walk among others ends.
+pub enum PlayerWalk {
+    TooFar,
+    At(vec2),
+}
+
+impl Character {
+    pub fn move_(
+        mut self,
+        id: CharacterId,
+        slots: [Slot; SEATS],
+        sides: Sides,
+        tiles: &[u8],
+        tunings: [i32; TUNINGS],
+    ) -> Moved
+        ensures { λ r. ⌜ r ≡ move 16 self id slots sides (now (tiles .entry)) tunings ⌝ }
+    {
+        if is_map(sides, tiles) {
+            if id.0 < 16 {
+                return self.move_at(id.0 as usize, slots, sides, tiles, tuning_of(tunings));
+            }
+            return Moved::BadId;
+        }
+        Moved::BadMap
+    }
+
+    // The same for a map that is one and an id that has a slot.
+    pub fn move_at(
+        mut self,
+        id: usize,
+        slots: [Slot; SEATS],
+        sides: Sides,
+        tiles: &[u8],
+        tuning: Tuning,
+    ) -> Moved
+        requires { ⌜ T (isMap sides (now tiles)) × (id < 16) ⌝ }
+        ensures { λ r. ⌜ r ≡ moveAt 16 self id slots sides (now (tiles .entry)) tuning ⌝ }
+    {
+        let from = self.pos;
+        let moved = ramped_move(sides, tiles, from, self.vel, tuning);
+        let BoxMove::To(body) = moved else {
+            return Moved::TooFar;
+        };
+        let new_pos = body.pos;
+        let new_vel = body.vel;
+        self.vel = new_vel;
+        if tuning.player_collision != 0.0 {
+            let walked = player_walk(slots, id, from, new_pos);
+            let PlayerWalk::At(rest) = walked else {
+                return Moved::TooFar;
+            };
+            self.pos = rest;
+            return Moved::To(self);
+        }
+        self.pos = new_pos;
+        Moved::To(self)
+    }
+}
+
+// The way from one point to another, up to the first turn in which somebody is close.
+fn player_walk(slots: [Slot; SEATS], id: usize, from: vec2, to: vec2) -> PlayerWalk
+    ensures { λ r. ⌜ r ≡ playerWalk 16 slots id from to ⌝ }
+{
+    let distance = vec2::distance(from, to);
+    let turns = player_turns(distance);
+    if turns > MOST_TURNS {
+        return PlayerWalk::TooFar;
+    }
+    PlayerWalk::At(walk_among(slots, id, from, to, distance, turns as u32))
+}
+
+fn walk_among(slots: [Slot; SEATS], id: usize, from: vec2, to: vec2, distance: f32, turns: u32) -> vec2
+    requires { ⌜ turns ≤ 65536 ⌝ }
+    ensures { λ r. ⌜ r ≡ walkAmong 16 slots id from to distance turns ⌝ }
+{
+    let mut last = from;
+    let mut rest = to;
+    'walk: for i in 0..turns {
+        let fraction = i as f32 / distance;
+        let p = vec2::mix(from, to, fraction);
+        for j in 0..16usize {
+            let slot = slots[j];
+            if is_close(slot, id, j, p) {
+                let other = slot.character;
+                rest = rest_at(fraction, last, from, to, p, other.pos);
+                break 'walk;
+            }
+        }
+        last = p;
+    }
+    rest
+}
+
+// Whether somebody else is there, and close to p.
+fn is_close(slot: Slot, id: usize, j: usize, p: vec2) -> bool
+    ensures { λ r. ⌜ r ≡ isClose slot id j p ⌝ }
+{
+    if j == id {
+        return false;
+    }
+    if slot.present {
+        let other = slot.character;
+        return touches(p, other.pos);
+    }
+    false
+}

@@ -1,0 +1,57 @@
+// A character's move: the ramp and the walk of its box, and what the walk among the others asks.
+use moves::Body;
+use moves::BoxMove;
+use moves::walk_box;
+use ramp::velocity_ramp;
+use tiles::Sides;
+use tiles::count;
+use tuning::Tuning;
+use vector::vec2;
+ghost use mathlib.Core.Path.{_≡_};
+ghost use lib.Dec.{T};
+ghost use Rattle.tiles.specs.Map.{isMap};
+ghost use Rattle.walking.specs.Walking.{rampedMove, playerTurns, restAt};
+
+// The box is moved with the velocity sideways ramped, and the ramp is taken back after.
+pub fn ramped_move(sides: Sides, tiles: &[u8], pos: vec2, vel: vec2, tuning: Tuning) -> BoxMove
+    requires { ⌜ T (isMap sides (now tiles)) ⌝ }
+    ensures { λ r. ⌜ r ≡ rampedMove sides (now (tiles .entry)) pos vel tuning ⌝ }
+{
+    let ramp_value = velocity_ramp(
+        vel.length() * 50.0,
+        tuning.velramp_start,
+        tuning.velramp_range,
+        tuning.velramp_curvature,
+    );
+    let ramped = vec2::new(vel.x * ramp_value, vel.y);
+    let moved = walk_box(sides, tiles, pos, ramped, vec2::new(28.0, 28.0));
+    let BoxMove::To(body) = moved else {
+        return moved;
+    };
+    let new_pos = body.pos;
+    let new_vel = body.vel;
+    BoxMove::To(Body {
+        pos: new_pos,
+        vel: vec2::new(new_vel.x * (1.0 / ramp_value), new_vel.y),
+    })
+}
+
+// How many points of the way are tested for others.
+pub fn player_turns(distance: f32) -> u64
+    ensures { λ r. ⌜ r ≡ playerTurns distance ⌝ }
+{
+    count(whole::trunc_to_i32(distance)) + 1
+}
+
+// Where a character stays that meets another at q, when it has got to p.
+pub fn rest_at(fraction: f32, last: vec2, from: vec2, to: vec2, p: vec2, q: vec2) -> vec2
+    ensures { λ r. ⌜ r ≡ restAt fraction last from to p q ⌝ }
+{
+    if fraction > 0.0 {
+        return last;
+    }
+    if vec2::distance(to, q) > vec2::distance(p, q) {
+        return to;
+    }
+    from
+}
