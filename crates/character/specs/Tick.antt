@@ -39,6 +39,10 @@ use Rattle.character.specs.declared.tick.Met.{Met}
 use Rattle.character.specs.declared.tick.HookFlight.{HookFlight}
 use Rattle.character.specs.declared.tick.HookFlight.the-variants.{TooFar, To}
 
+-- how many slots a world has; every definition below takes any number n of them
+abbrev pub seats : ℕ
+seats = 16
+
 -- what an index past the end reads, which no call does: the value that the logic takes for it
 abbrev pub nowhere : Slot
 nowhere = record { present = false; character = record { pos = vnew nan nan; vel = vnew nan nan; hook = Retracted; «jumped_already» = false; «used_airjump» = false; angle = record { radians = nan }; «move_direction» = Left }; input = record { direction = pos 0; «target_x» = pos 0; «target_y» = pos 0; jump = pos 0; hook = pos 0 } }

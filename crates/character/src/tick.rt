@@ -39,7 +39,7 @@ ghost use mathlib.Core.Path.{_≡_};
 ghost use lib.Dec.{T};
 ghost use Prim.Native.Nat.{_<_};
 ghost use Rattle.tiles.specs.Map.{isMap};
-ghost use Rattle.character.specs.Tick.{steer, withHook, nearest, flight, meetAll, tickAt, tick};
+ghost use Rattle.character.specs.Tick.{seats, steer, withHook, nearest, flight, meetAll, tickAt, tick};
 
 // What `tick` answers: a refusal's number, and then everything as it was; or 0.
 pub struct Ticked {
@@ -70,11 +70,12 @@ impl Character {
         input: PlayerInput,
         tunings: [i32; TUNINGS],
     ) -> Ticked
-        ensures { λ r. ⌜ r ≡ tick 16 self id slots sides (now (tiles .entry)) input tunings ⌝ }
+        ensures { λ r. ⌜ r ≡ tick seats self id slots sides (now (tiles .entry)) input tunings ⌝ }
     {
         if is_map(sides, tiles) {
-            if id.0 < 16 {
-                return self.tick_at(id.0 as usize, slots, sides, tiles, input, tuning_of(tunings));
+            let at = id.0 as usize;
+            if at < SEATS {
+                return self.tick_at(at, slots, sides, tiles, input, tuning_of(tunings));
             }
             return Ticked {
                 number: 2,
@@ -99,8 +100,8 @@ impl Character {
         input: PlayerInput,
         tuning: Tuning,
     ) -> Ticked
-        requires { ⌜ T (isMap sides (now tiles)) × (id < 16) ⌝ }
-        ensures { λ r. ⌜ r ≡ tickAt 16 self id slots sides (now (tiles .entry)) input tuning ⌝ }
+        requires { ⌜ T (isMap sides (now tiles)) × (id < seats) ⌝ }
+        ensures { λ r. ⌜ r ≡ tickAt seats self id slots sides (now (tiles .entry)) input tuning ⌝ }
     {
         let pos = self.pos;
         let steered = self.steer(grounded(sides, tiles, pos), input, tuning);
@@ -185,7 +186,7 @@ fn flight(
     tuning: Tuning,
 ) -> HookFlight
     requires { ⌜ T (isMap sides (now tiles)) ⌝ }
-    ensures { λ r. ⌜ r ≡ flight 16 hook pos id slots sides (now (tiles .entry)) tuning ⌝ }
+    ensures { λ r. ⌜ r ≡ flight seats hook pos id slots sides (now (tiles .entry)) tuning ⌝ }
 {
     let Hook::Flying(from, dir) = hook else {
         return HookFlight::To(retract(hook));
@@ -206,10 +207,10 @@ fn flight(
 
 // Whom a hook meets first on its way.
 fn nearest(slots: [Slot; SEATS], id: usize, from: vec2, to: vec2) -> Nearest
-    ensures { λ r. ⌜ r ≡ nearest 16 slots id from to ⌝ }
+    ensures { λ r. ⌜ r ≡ nearest seats slots id from to ⌝ }
 {
     let mut best = Nearest::Nobody;
-    for j in 0..16usize {
+    for j in 0..SEATS {
         if j != id {
             let slot = slots[j];
             if slot.present {
@@ -223,11 +224,11 @@ fn nearest(slots: [Slot; SEATS], id: usize, from: vec2, to: vec2) -> Nearest
 
 // The others by rising id, each as it stands then.
 fn meet_all(slots: [Slot; SEATS], id: usize, pos: vec2, vel: vec2, hook: Hook, tuning: Tuning) -> Met
-    ensures { λ r. ⌜ r ≡ meetAll 16 slots id pos vel hook tuning ⌝ }
+    ensures { λ r. ⌜ r ≡ meetAll seats slots id pos vel hook tuning ⌝ }
 {
     let mut mine = vel;
     let mut all = slots;
-    for j in 0..16usize {
+    for j in 0..SEATS {
         if j != id {
             let slot = all[j];
             if slot.present {

@@ -19,6 +19,7 @@ ghost use mathlib.Core.Path.{_≡_};
 ghost use lib.Dec.{T};
 ghost use Prim.Native.Nat.{_≤_, _<_};
 ghost use Rattle.tiles.specs.Map.{isMap};
+ghost use Rattle.character.specs.Tick.{seats};
 ghost use Rattle.character.specs.Walk.{isClose, walkAmong, playerWalk, moveAt, move};
 
 // What `move_` answers.
@@ -44,11 +45,12 @@ impl Character {
         tiles: &[u8],
         tunings: [i32; TUNINGS],
     ) -> Moved
-        ensures { λ r. ⌜ r ≡ move 16 self id slots sides (now (tiles .entry)) tunings ⌝ }
+        ensures { λ r. ⌜ r ≡ move seats self id slots sides (now (tiles .entry)) tunings ⌝ }
     {
         if is_map(sides, tiles) {
-            if id.0 < 16 {
-                return self.move_at(id.0 as usize, slots, sides, tiles, tuning_of(tunings));
+            let at = id.0 as usize;
+            if at < SEATS {
+                return self.move_at(at, slots, sides, tiles, tuning_of(tunings));
             }
             return Moved::BadId;
         }
@@ -64,8 +66,8 @@ impl Character {
         tiles: &[u8],
         tuning: Tuning,
     ) -> Moved
-        requires { ⌜ T (isMap sides (now tiles)) × (id < 16) ⌝ }
-        ensures { λ r. ⌜ r ≡ moveAt 16 self id slots sides (now (tiles .entry)) tuning ⌝ }
+        requires { ⌜ T (isMap sides (now tiles)) × (id < seats) ⌝ }
+        ensures { λ r. ⌜ r ≡ moveAt seats self id slots sides (now (tiles .entry)) tuning ⌝ }
     {
         let from = self.pos;
         let moved = ramped_move(sides, tiles, from, self.vel, tuning);
@@ -90,7 +92,7 @@ impl Character {
 
 // The way from one point to another, up to the first turn in which somebody is close.
 fn player_walk(slots: [Slot; SEATS], id: usize, from: vec2, to: vec2) -> PlayerWalk
-    ensures { λ r. ⌜ r ≡ playerWalk 16 slots id from to ⌝ }
+    ensures { λ r. ⌜ r ≡ playerWalk seats slots id from to ⌝ }
 {
     let distance = vec2::distance(from, to);
     let turns = player_turns(distance);
@@ -102,14 +104,14 @@ fn player_walk(slots: [Slot; SEATS], id: usize, from: vec2, to: vec2) -> PlayerW
 
 fn walk_among(slots: [Slot; SEATS], id: usize, from: vec2, to: vec2, distance: f32, turns: u32) -> vec2
     requires { ⌜ turns ≤ 65536 ⌝ }
-    ensures { λ r. ⌜ r ≡ walkAmong 16 slots id from to distance turns ⌝ }
+    ensures { λ r. ⌜ r ≡ walkAmong seats slots id from to distance turns ⌝ }
 {
     let mut last = from;
     let mut rest = to;
     'walk: for i in 0..turns {
         let fraction = i as f32 / distance;
         let p = vec2::mix(from, to, fraction);
-        for j in 0..16usize {
+        for j in 0..SEATS {
             let slot = slots[j];
             if is_close(slot, id, j, p) {
                 let other = slot.character;

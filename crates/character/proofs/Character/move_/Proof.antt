@@ -2,7 +2,7 @@
 use mathlib.Core.Path.{sym, _∙_, subst}
 use lib.Dec.{T}
 use borrow.Author.Needs.{needs}
-use borrow.Author.Tests.{lt-ltb, lt-leb, le-leb, le-ltb}
+use borrow.Author.Tests.{lt-ltb, le-ltb}
 use Rattle.character.specs.Walk.{move}
 use Rattle.character.proofs.Character.move_.Statement.{statement}
 use Rattle.character.proofs.Character.move_.Tie as tie
@@ -10,22 +10,22 @@ use Rattle.character.proofs.Character.move_.Tie as tie
 is-map-requires : tie.Need-is-map-requires
 is-map-requires c κs = search needs
 
-cast-move-at : tie.Need-cast-move-at
-cast-move-at c = search needs
+cast-at : tie.Need-cast-at
+cast-at c = search needs
 
 tuning-of-requires : tie.Need-tuning-of-requires
 tuning-of-requires c κs = search needs
 
 move-at-requires : tie.Need-move-at-requires
-move-at-requires c κs = (subst T (sym (c .before .before .before .before .if1 .taken) ∙ c .before .before .before .before .before .is-map .ensures) tt, c .before .before .if2 .taken)
+move-at-requires c κs = (subst T (sym (c .before .before .before .if1 .taken) ∙ c .before .before .before .before .is-map .ensures) tt, c .before .if2 .taken)
 
 returns : tie.Need-returns
 unfolding move
-returns c = simp (← c .before .before .before .before .before .before .is-map .ensures, c .before .before .before .before .before .if1 .taken, lt-ltb _ _ (c .before .before .before .if2 .taken), lt-leb _ _ (c .before .before .before .if2 .taken), ← c .before .tuning-of .ensures, ← c .move-at .ensures)
+returns c = simp (← c .before .before .before .before .before .is-map .ensures, c .before .before .before .before .if1 .taken, lt-ltb _ _ (c .before .before .if2 .taken), ← c .before .tuning-of .ensures, ← c .move-at .ensures)
 
 returns-2 : tie.Need-returns-2
 unfolding move
-returns-2 c = simp (← c .before .before .before .is-map .ensures, c .before .before .if1 .taken, le-leb _ _ (c .if2 .left), le-ltb _ _ (c .if2 .left))
+returns-2 c = simp (← c .before .before .before .is-map .ensures, c .before .before .if1 .taken, le-ltb _ _ (c .if2 .left))
 
 returns-3 : tie.Need-returns-3
 unfolding move
@@ -36,7 +36,7 @@ move--spec =
     tie.close
     (tie.spec
     is-map-requires
-    cast-move-at
+    cast-at
     tuning-of-requires
     move-at-requires
     returns

@@ -1,6 +1,7 @@
 -- `character::Character::move_at` meets its contract. Assumes nothing.
 use borrow.Author.Needs.{needs}
 use Rattle.character.proofs.NoBox.{no-box}
+use Rattle.character.specs.Tick.{seats}
 use Rattle.character.specs.Walk.{moveAt}
 use Rattle.character.proofs.Character.move_at.Statement.{statement}
 use Rattle.character.proofs.Character.move_at.Tie as tie
@@ -15,7 +16,7 @@ returns : tie.Need-returns
 unfolding moveAt
 returns c =
     let a = c .before .before .before .before .args in
-    rw (← c .before .ramped-move .ensures) (no-box 16 (a .self) (a .id) (a .slots) (a .tuning) (c .before .ramped-move .result) (c .match .keys2))
+    rw (← c .before .ramped-move .ensures) (no-box seats (a .self) (a .id) (a .slots) (a .tuning) (c .before .ramped-move .result) (c .match .keys2))
 
 player-walk-requires : tie.Need-player-walk-requires
 player-walk-requires c κs = search needs

@@ -8,7 +8,7 @@ use native.Mathlib.Omega.{arith}
 use lib.ListN.{set}
 use borrow.Author.Needs.{needs}
 use borrow.Author.Tests.{eq-eqb, ne-eqb}
-use Rattle.character.specs.Tick.{slotAt, withVel, withCharacter, meetTurn, meetAll}
+use Rattle.character.specs.Tick.{seats, slotAt, withVel, withCharacter, meetTurn, meetAll}
 use Rattle.character.specs.declared.Slot.{Slot}
 use Rattle.character.specs.declared.tick.Met.{Met}
 use Rattle.hook.specs.declared.Hook.{Hook}
@@ -36,10 +36,10 @@ module _ (id : ℕ) (p : vec2) (h : Hook) (t : Tuning) (j : ℕ) (v w : vec2) (s
   itself n f g = simp (f, g, eq-eqb j id n)
 
 abbrev Inv-loop : tie.InvT-loop
-Inv-loop id pos hook tuning mine₀ all₀ j₀ mine all j = Left (always (meetTurn id pos hook tuning)) 16 j (met mine all) (more (fold (meetTurn id pos hook tuning) 16 0 (met mine₀ all₀)))
+Inv-loop id pos hook tuning mine₀ all₀ j₀ mine all j = Left (always (meetTurn id pos hook tuning)) seats j (met mine all) (more (fold (meetTurn id pos hook tuning) seats 0 (met mine₀ all₀)))
 
 abbrev μ-loop : tie.MeasureT-loop
-μ-loop id pos hook tuning mine₀ all₀ j₀ mine all j = 16 - j
+μ-loop id pos hook tuning mine₀ all₀ j₀ mine all j = seats - j
 
 loop-holds : tie.Need-loop-holds Inv-loop μ-loop
 loop-holds c = fold-first

@@ -7,7 +7,7 @@ use Prim.Native.Nat.{ℕ, _-_}
 use native.Mathlib.Omega.{arith}
 use borrow.Author.Needs.{needs}
 use borrow.Author.Tests.{eq-eqb, ne-eqb}
-use Rattle.character.specs.Tick.{slotAt, nearestTurn, nearest}
+use Rattle.character.specs.Tick.{seats, slotAt, nearestTurn, nearest}
 use Rattle.character.specs.declared.Slot.{Slot}
 use Rattle.hooking.specs.Hooking.{nearer}
 use Rattle.hooking.specs.declared.Nearest.{Nearest}
@@ -29,10 +29,10 @@ module _ (ss : List Slot) (id : ℕ) (from to : vec2) (j : ℕ) (best after : Ne
   itself n f = simp (f, eq-eqb j id n)
 
 abbrev Inv-loop : tie.InvT-loop
-Inv-loop id from to slots best₀ j₀ best j = Left (always (nearestTurn slots id from to)) 16 j best (more (fold (nearestTurn slots id from to) 16 0 best₀))
+Inv-loop id from to slots best₀ j₀ best j = Left (always (nearestTurn slots id from to)) seats j best (more (fold (nearestTurn slots id from to) seats 0 best₀))
 
 abbrev μ-loop : tie.MeasureT-loop
-μ-loop id from to slots best₀ j₀ best j = 16 - j
+μ-loop id from to slots best₀ j₀ best j = seats - j
 
 loop-holds : tie.Need-loop-holds Inv-loop μ-loop
 loop-holds c = fold-first

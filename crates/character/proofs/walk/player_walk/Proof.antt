@@ -1,6 +1,6 @@
 -- `character::walk::player_walk` meets its contract. Assumes nothing.
 use borrow.Author.Needs.{needs}
-use borrow.Author.Tests.{lt-ltb, lt-leb, le-leb, le-ltb}
+use borrow.Author.Tests.{lt-leb, le-leb}
 use Rattle.character.specs.Walk.{playerWalk}
 use Rattle.character.proofs.walk.player_walk.Statement.{statement}
 use Rattle.character.proofs.walk.player_walk.Tie as tie
@@ -13,7 +13,7 @@ player-turns-requires c κs = search needs
 
 returns : tie.Need-returns
 unfolding playerWalk
-returns c = simp (← c .before .before .distance .ensures, ← c .before .player-turns .ensures, lt-ltb _ _ (c .if1 .taken), lt-leb _ _ (c .if1 .taken))
+returns c = simp (← c .before .before .distance .ensures, ← c .before .player-turns .ensures, lt-leb _ _ (c .if1 .taken))
 
 cast-walk-among : tie.Need-cast-walk-among
 cast-walk-among c = search needs
@@ -23,7 +23,7 @@ walk-among-requires c κs = search needs
 
 returns-2 : tie.Need-returns-2
 unfolding playerWalk
-returns-2 c = simp (← c .before .before .before .distance .ensures, ← c .before .before .player-turns .ensures, le-leb _ _ (c .before .if1 .left), le-ltb _ _ (c .before .if1 .left), ← c .walk-among .ensures)
+returns-2 c = simp (← c .before .before .before .distance .ensures, ← c .before .before .player-turns .ensures, le-leb _ _ (c .before .if1 .left), ← c .walk-among .ensures)
 
 pub player-walk-spec : {M : Type 1} → statement M
 player-walk-spec =

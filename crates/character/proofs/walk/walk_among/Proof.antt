@@ -5,6 +5,7 @@ use native.Mathlib.Omega.{arith}
 use lib.Dec.{le→leb}
 use lib.Ieee.{inFloat}
 use borrow.Author.Needs.{needs}
+use Rattle.character.specs.Tick.{seats}
 use Rattle.character.specs.Walk.{slotTurn, walkTurn, orTo, walkAmong}
 use Rattle.float.specs.Convert.{i32ToF32}
 use Rattle.turns.proofs.Loop.{Left, turn-first, turn-on, turn-off, turn-end}
@@ -13,13 +14,13 @@ use Rattle.character.proofs.walk.walk_among.Statement.{statement}
 use Rattle.character.proofs.walk.walk_among.Tie as tie
 
 abbrev Inv-loop : tie.InvT-loop
-Inv-loop id from to distance turns slots last rest₀ i fraction p j₀ rest j = (rest ≡ rest₀) × Left (slotTurn slots id from to last fraction p) 16 j tt (run (slotTurn slots id from to last fraction p) 16 0 tt)
+Inv-loop id from to distance turns slots last rest₀ i fraction p j₀ rest j = (rest ≡ rest₀) × Left (slotTurn slots id from to last fraction p) seats j tt (run (slotTurn slots id from to last fraction p) seats 0 tt)
 
 abbrev μ-loop : tie.MeasureT-loop
-μ-loop id from to distance turns slots last rest₀ i fraction p j₀ rest j = 16 - j
+μ-loop id from to distance turns slots last rest₀ i fraction p j₀ rest j = seats - j
 
 abbrev Inv-walk : tie.InvT-walk
-Inv-walk id from to distance turns slots last₀ rest₀ i₀ last rest i = (rest ≡ rest₀) × Left (walkTurn 16 slots id from to distance) turns i last (run (walkTurn 16 slots id from to distance) turns 0 last₀)
+Inv-walk id from to distance turns slots last₀ rest₀ i₀ last rest i = (rest ≡ rest₀) × Left (walkTurn seats slots id from to distance) turns i last (run (walkTurn seats slots id from to distance) turns 0 last₀)
 
 abbrev μ-walk : tie.MeasureT-walk
 μ-walk id from to distance turns slots last₀ rest₀ i₀ last rest i = turns - i
