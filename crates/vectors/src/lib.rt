@@ -1,5 +1,10 @@
 // Reading recorded vectors: a pattern is 8 hexadecimal digits, and any not-a-number counts as any other.
+mod counts;
+
+pub use counts::Counts;
+pub use counts::Outcome;
 use casts::cast_signed;
+use vector::vec2;
 ghost use Prim.Native.Nat.{_<_};
 
 // The first 8 digits as a number.
@@ -29,6 +34,15 @@ pub fn hex(byte: u8) -> u32
     0
 }
 
+// The word with the number k; each ends with a byte of its own.
+pub fn nth(words: &[u8], k: usize) -> u32 {
+    if k < words.len() / 9 {
+        let start = k * 9;
+        return word(&words[start..]);
+    }
+    0
+}
+
 // Any not-a-number counts as any other, so its pattern is not kept.
 pub fn float_of(pattern: u32) -> f32 {
     if pattern % 0x8000_0000 <= 0x7f80_0000 {
@@ -48,4 +62,12 @@ pub fn is_float(x: f32, pattern: u32) -> bool {
 
 pub fn is_int(n: i32, pattern: u32) -> bool {
     n == cast_signed(pattern)
+}
+
+pub fn point(x: u32, y: u32) -> vec2 {
+    vec2::new(float_of(x), float_of(y))
+}
+
+pub fn is_point(p: vec2, x: u32, y: u32) -> bool {
+    is_float(p.x, x) && is_float(p.y, y)
 }
