@@ -1,6 +1,10 @@
 // Counting the lines that are answered as recorded.
 use libc::STDOUT_FILENO;
 use std::num::wrapping_add_u64;
+ghost use mathlib.Core.Path.{_≡_};
+ghost use mathlib.Core.Bool.{cond};
+ghost use Rattle.vectors.specs.Counts.{counted};
+ghost use Rattle.vectors.specs.declared.counts.Outcome.the-variants.{Agrees, Differs};
 
 // What came of reading a line.
 pub enum Outcome {
@@ -11,7 +15,9 @@ pub enum Outcome {
 
 impl Outcome {
     // A line that is answered otherwise is printed.
-    pub fn of(agrees: bool, line: &[u8]) -> Outcome {
+    pub fn of(agrees: bool, line: &[u8]) -> Outcome
+        ensures { λ r. ⌜ r ≡ cond agrees Agrees Differs ⌝ }
+    {
         if agrees {
             return Outcome::Agrees;
         }
@@ -26,11 +32,15 @@ pub struct Counts {
 }
 
 impl Counts {
-    pub fn new() -> Counts {
+    pub fn new() -> Counts
+        ensures { λ r. ⌜ r ≡ record { lines = 0; good = 0 } ⌝ }
+    {
         Counts { lines: 0, good: 0 }
     }
 
-    pub fn with(self, outcome: Outcome) -> Counts {
+    pub fn with(self, outcome: Outcome) -> Counts
+        ensures { λ r. ⌜ r ≡ counted self outcome ⌝ }
+    {
         match outcome {
             Outcome::End => self,
             Outcome::Agrees => Counts {
