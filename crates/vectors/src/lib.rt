@@ -1,14 +1,15 @@
 // Reading recorded vectors: a pattern is 8 hexadecimal digits, and any not-a-number counts as any other.
 mod counts;
 
+use casts::cast_signed;
 pub use counts::Counts;
 pub use counts::Outcome;
-use casts::cast_signed;
 use vector::vec2;
 ghost use Prim.Native.Nat.{_<_};
 ghost use mathlib.Core.Path.{_≡_};
 ghost use mathlib.Core.Bool.{true};
 ghost use lib.Ieee.{binary32, ofBits};
+ghost use Rattle.casts.specs.Casts.{castSigned};
 ghost use Rattle.vector.specs.Vec2.{vnew};
 
 // The first 8 digits as a number.
@@ -68,7 +69,9 @@ pub fn is_float(x: f32, pattern: u32) -> bool
     }
 }
 
-pub fn is_int(n: i32, pattern: u32) -> bool {
+pub fn is_int(n: i32, pattern: u32) -> bool
+    ensures { λ r. ⌜ (r ≡ true → n ≡ castSigned pattern) ⌝ }
+{
     n == cast_signed(pattern)
 }
 
