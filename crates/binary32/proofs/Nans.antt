@@ -1,11 +1,11 @@
 -- Which values and patterns are no NaN's. Assumes nothing.
-use mathlib.Core.Path.{_≡_, sym, subst}
+use mathlib.Core.Path.{_≡_, refl, _∙_, sym, subst}
 use mathlib.Core.Bool.{Bool, true, false, not, true≢false}
-use Prim.Native.Nat.{ℕ, _*_, _%_, _≤_}
+use Prim.Native.Nat.{ℕ, _*_, _%_, _≤_, _<_}
 use native.Mathlib.Nat.{le-trans, not-le-of-lt, mod-le}
-use lib.Dec.{T, ltb, not-T, ltb→lt}
-use lib.Ieee.{Float, nan, inf, fin, Format, lt, ne, isNan, nanBits, ones, hid, top}
-use lib.Ieee.Bits.{nanBits-above}
+use lib.Dec.{T, ltb, not-T, ltb→lt, lt→ltb}
+use lib.Ieee.{Float, nan, inf, fin, Format, lt, ne, isNan, nanBits, ones, hid, top, ofBits}
+use lib.Ieee.Bits.{nanBits-is, nanBits-above}
 use lib.Ieee.Compare.{differs-from-itself}
 
 -- what compares above another value
@@ -36,3 +36,13 @@ body-no-nan f n h =
 -- and one with its sign clear
 pub pattern-no-nan : (f : Format) (n : ℕ) → n ≤ ones f * hid f → T (not (nanBits f n))
 pattern-no-nan f n h = body-no-nan f n (le-trans (mod-le n (top f)) h)
+
+is-nan : (x : Float) → T (isNan x) → x ≡ nan
+unfolding isNan
+is-nan nan h = refl
+is-nan (inf s) h = absurd h
+is-nan (fin s m e) h = absurd h
+
+-- a pattern above the infinity's but for its sign
+pub body-nan : (f : Format) (n : ℕ) → ones f * hid f < n % top f → ofBits f n ≡ nan
+body-nan f n h = is-nan (ofBits f n) (subst T (sym (nanBits-above f n) ∙ nanBits-is f n) (lt→ltb (ones f * hid f) (n % top f) h))

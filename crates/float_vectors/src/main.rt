@@ -2,14 +2,13 @@
 // a function's number, an argument's pattern and the answer's, in 8 hexadecimal digits each; rust/record prints them.
 use casts::cast_signed;
 use libc::STDIN_FILENO;
-use libc::STDOUT_FILENO;
+use vectors::Counts;
+use vectors::Outcome;
 use vectors::float_of;
 use vectors::hex;
 use vectors::is_float;
 use vectors::is_int;
 use vectors::word;
-ghost use Prim.Native.Nat.{_≤_, _/_};
-ghost use lib.ListN.{length};
 
 // The length of a line, and where the argument and the answer begin in it.
 const LINE: usize = 20;
@@ -18,58 +17,27 @@ const ARGUMENT: usize = 2;
 
 const ANSWER: usize = 11;
 
-struct Counts {
-    lines: usize,
-    good: usize,
-}
-
 fn main() {
     let counts = count_all();
-    io::print_decimal(STDOUT_FILENO, counts.good as u64);
-    io::write_all(STDOUT_FILENO, b" of ");
-    io::print_decimal(STDOUT_FILENO, counts.lines as u64);
-    io::write_all(STDOUT_FILENO, b" agree\n");
+    counts.print();
 }
 
-// A proved loop has to end, so this one takes at most 64 texts of 3,276 lines.
+// A proved loop has to end, so this one reads at most 65,536 lines.
 fn count_all() -> Counts {
-    let mut lines: usize = 0;
-    let mut good: usize = 0;
-    for _ in 0..64usize {
-        let counts = count_some();
-        lines += counts.lines;
-        good += counts.good;
+    let mut counts = Counts::new();
+    for _ in 0..65536usize {
+        counts = counts.with(next_line());
     }
-    Counts { lines, good }
+    counts
 }
 
-fn count_some() -> Counts
-    ensures { λ r. ⌜ (r .lines ≤ 3276) × (r .good ≤ 3276) ⌝ }
-{
-    let mut text = [0u8; 65520];
-    let n = io::read_full(STDIN_FILENO, &mut text);
-    Counts {
-        lines: n / LINE,
-        good: agreeing(&text[..n]),
+fn next_line() -> Outcome {
+    let mut line = [0u8; 20];
+    let n = io::read_full(STDIN_FILENO, &mut line);
+    if n < LINE {
+        return Outcome::End;
     }
-}
-
-// How many lines have the answer that the function gives.
-fn agreeing(text: &[u8]) -> usize
-    ensures { λ r. ⌜ r ≤ length (now (text .entry)) / 20 ⌝ }
-{
-    let mut good: usize = 0;
-    for i in 0..text.len() / LINE {
-        let start = i * LINE;
-        let end = start + LINE;
-        let line = &text[start..end];
-        if line_agrees(line) {
-            good += 1;
-        } else {
-            io::write_all(STDOUT_FILENO, line);
-        }
-    }
-    good
+    Outcome::of(line_agrees(&line[..n]), &line[..n])
 }
 
 fn line_agrees(line: &[u8]) -> bool {

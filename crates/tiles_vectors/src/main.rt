@@ -1,18 +1,18 @@
 // Runs the recorded answers of the Rust for `check_line` and `move_box`, prints the lines that are answered otherwise, and tells how
 // many agree. rust/world/record_world prints the lines: l or m, the map's sides and 64 tiles, 6 arguments, 5 answers.
 use libc::STDIN_FILENO;
-use libc::STDOUT_FILENO;
 use lines::LineCheck;
 use moves::BoxMove;
 use tiles::Sides;
 use tiles::Tile;
-use vector::vec2;
-use vectors::float_of;
+use vectors::Counts;
+use vectors::Outcome;
 use vectors::hex;
-use vectors::is_float;
+use vectors::is_point;
 use vectors::nth;
+use vectors::point;
 ghost use mathlib.Core.Path.{_≡_};
-ghost use Prim.Native.Nat.{_≤_, _<_, _/_};
+ghost use Prim.Native.Nat.{_<_};
 ghost use lib.ListN.{length};
 
 // The length of a line; where the sides, the tiles and the patterns begin in it.
@@ -26,58 +26,27 @@ const TILES: usize = 8;
 
 const PATTERNS: usize = 73;
 
-struct Counts {
-    lines: usize,
-    good: usize,
-}
-
 fn main() {
     let counts = count_all();
-    io::print_decimal(STDOUT_FILENO, counts.good as u64);
-    io::write_all(STDOUT_FILENO, b" of ");
-    io::print_decimal(STDOUT_FILENO, counts.lines as u64);
-    io::write_all(STDOUT_FILENO, b" agree\n");
+    counts.print();
 }
 
-// A proved loop has to end, so this one takes at most 64 texts of 380 lines.
+// A proved loop has to end, so this one reads at most 65,536 lines.
 fn count_all() -> Counts {
-    let mut lines: usize = 0;
-    let mut good: usize = 0;
-    for _ in 0..64usize {
-        let counts = count_some();
-        lines += counts.lines;
-        good += counts.good;
+    let mut counts = Counts::new();
+    for _ in 0..65536usize {
+        counts = counts.with(next_line());
     }
-    Counts { lines, good }
+    counts
 }
 
-fn count_some() -> Counts
-    ensures { λ r. ⌜ (r .lines ≤ 380) × (r .good ≤ 380) ⌝ }
-{
-    let mut text = [0u8; 65360];
-    let n = io::read_full(STDIN_FILENO, &mut text);
-    Counts {
-        lines: n / LINE,
-        good: agreeing(&text[..n]),
+fn next_line() -> Outcome {
+    let mut line = [0u8; 172];
+    let n = io::read_full(STDIN_FILENO, &mut line);
+    if n < LINE {
+        return Outcome::End;
     }
-}
-
-// How many lines have the answer that the function gives.
-fn agreeing(text: &[u8]) -> usize
-    ensures { λ r. ⌜ r ≤ length (now (text .entry)) / 172 ⌝ }
-{
-    let mut good: usize = 0;
-    for i in 0..text.len() / LINE {
-        let start = i * LINE;
-        let end = start + LINE;
-        let line = &text[start..end];
-        if line_agrees(line) {
-            good += 1;
-        } else {
-            io::write_all(STDOUT_FILENO, line);
-        }
-    }
-    good
+    Outcome::of(line_agrees(&line[..n]), &line[..n])
 }
 
 fn line_agrees(line: &[u8]) -> bool {
@@ -135,12 +104,18 @@ fn tiles_of(digits: &[u8]) -> [u8; 64]
 
 fn line_case(sides: Sides, tiles: &[u8], patterns: &[u8]) -> bool {
     let number = nth(patterns, 6);
-    let check = lines::check_line(sides, tiles, point(patterns, 0), point(patterns, 2));
+    let check = lines::check_line(
+        sides,
+        tiles,
+        point(nth(patterns, 0), nth(patterns, 1)),
+        point(nth(patterns, 2), nth(patterns, 3)),
+    );
     match check {
         LineCheck::BadMap => false,
         LineCheck::TooFar => number == 9,
         LineCheck::Nothing => number == 0,
-        LineCheck::At(p, tile) => number == byte_of(tile) && is_point(p, patterns, 7),
+        LineCheck::At(p, tile) => number == byte_of(tile)
+            && is_point(p, nth(patterns, 7), nth(patterns, 8)),
     }
 }
 
@@ -149,16 +124,16 @@ fn box_case(sides: Sides, tiles: &[u8], patterns: &[u8]) -> bool {
     let moved = moves::move_box(
         sides,
         tiles,
-        point(patterns, 0),
-        point(patterns, 2),
-        point(patterns, 4),
+        point(nth(patterns, 0), nth(patterns, 1)),
+        point(nth(patterns, 2), nth(patterns, 3)),
+        point(nth(patterns, 4), nth(patterns, 5)),
     );
     match moved {
         BoxMove::BadMap => false,
         BoxMove::TooFar => number == 9,
         BoxMove::To(body) => number == 0
-            && is_point(body.pos, patterns, 7)
-            && is_point(body.vel, patterns, 9),
+            && is_point(body.pos, nth(patterns, 7), nth(patterns, 8))
+            && is_point(body.vel, nth(patterns, 9), nth(patterns, 10)),
     }
 }
 
@@ -168,16 +143,4 @@ fn byte_of(tile: Tile) -> u32 {
         Tile::Normal => 1,
         Tile::Unhookable => 3,
     }
-}
-
-fn point(patterns: &[u8], k: usize) -> vec2
-    requires { ⌜ k < 15 ⌝ }
-{
-    vec2::new(float_of(nth(patterns, k)), float_of(nth(patterns, k + 1)))
-}
-
-fn is_point(p: vec2, patterns: &[u8], k: usize) -> bool
-    requires { ⌜ k < 15 ⌝ }
-{
-    is_float(p.x, nth(patterns, k)) && is_float(p.y, nth(patterns, k + 1))
 }

@@ -1,6 +1,16 @@
 // Reading recorded vectors: a pattern is 8 hexadecimal digits, and any not-a-number counts as any other.
+mod counts;
+
 use casts::cast_signed;
+pub use counts::Counts;
+pub use counts::Outcome;
+use vector::vec2;
 ghost use Prim.Native.Nat.{_<_};
+ghost use mathlib.Core.Path.{_≡_};
+ghost use mathlib.Core.Bool.{true};
+ghost use lib.Ieee.{binary32, ofBits};
+ghost use Rattle.casts.specs.Casts.{castSigned};
+ghost use Rattle.vector.specs.Vec2.{vnew};
 
 // The first 8 digits as a number.
 pub fn word(text: &[u8]) -> u32 {
@@ -11,17 +21,6 @@ pub fn word(text: &[u8]) -> u32 {
         }
     }
     value
-}
-
-// The pattern with the number k, of those with a space between them.
-pub fn nth(patterns: &[u8], k: usize) -> u32
-    requires { ⌜ k < 16 ⌝ }
-{
-    let start = k * 9;
-    if start < patterns.len() {
-        return word(&patterns[start..]);
-    }
-    0
 }
 
 pub fn hex(byte: u8) -> u32
@@ -40,8 +39,19 @@ pub fn hex(byte: u8) -> u32
     0
 }
 
+// The word with the number k; each ends with a byte of its own.
+pub fn nth(words: &[u8], k: usize) -> u32 {
+    if k < words.len() / 9 {
+        let start = k * 9;
+        return word(&words[start..]);
+    }
+    0
+}
+
 // Any not-a-number counts as any other, so its pattern is not kept.
-pub fn float_of(pattern: u32) -> f32 {
+pub fn float_of(pattern: u32) -> f32
+    ensures { λ r. ⌜ r ≡ ofBits binary32 pattern ⌝ }
+{
     if pattern % 0x8000_0000 <= 0x7f80_0000 {
         f32::from_bits(pattern)
     } else {
@@ -49,7 +59,9 @@ pub fn float_of(pattern: u32) -> f32 {
     }
 }
 
-pub fn is_float(x: f32, pattern: u32) -> bool {
+pub fn is_float(x: f32, pattern: u32) -> bool
+    ensures { λ r. ⌜ (r ≡ true → x ≡ ofBits binary32 pattern) ⌝ }
+{
     if x != x {
         0x7f80_0000 < pattern % 0x8000_0000
     } else {
@@ -57,6 +69,20 @@ pub fn is_float(x: f32, pattern: u32) -> bool {
     }
 }
 
-pub fn is_int(n: i32, pattern: u32) -> bool {
+pub fn is_int(n: i32, pattern: u32) -> bool
+    ensures { λ r. ⌜ (r ≡ true → n ≡ castSigned pattern) ⌝ }
+{
     n == cast_signed(pattern)
+}
+
+pub fn point(x: u32, y: u32) -> vec2
+    ensures { λ r. ⌜ r ≡ vnew (ofBits binary32 x) (ofBits binary32 y) ⌝ }
+{
+    vec2::new(float_of(x), float_of(y))
+}
+
+pub fn is_point(p: vec2, x: u32, y: u32) -> bool
+    ensures { λ r. ⌜ (r ≡ true → p ≡ vnew (ofBits binary32 x) (ofBits binary32 y)) ⌝ }
+{
+    is_float(p.x, x) && is_float(p.y, y)
 }

@@ -1,26 +1,26 @@
 -- `tiles_vectors::count_all` is safe and ends. Assumes nothing.
-use Prim.Native.Nat.{_-_, _*_, _≤_}
+use Prim.Native.Nat.{_-_, _≤_}
 use native.Mathlib.Omega.{arith}
 use Rattle.tiles_vectors.proofs.count_all.Statement.{statement}
 use Rattle.tiles_vectors.proofs.count_all.Tie as tie
 
 abbrev Inv-loop : tie.InvT-loop
-Inv-loop lines₀ good₀ counter₀ lines good counter = (counter ≤ 64) × (lines ≤ counter * 380) × (good ≤ counter * 380)
+Inv-loop counts₀ counter₀ counts counter = counter ≤ 65536
 
 abbrev μ-loop : tie.MeasureT-loop
-μ-loop lines₀ good₀ counter₀ lines good counter = 64 - counter
+μ-loop counts₀ counter₀ counts counter = 65536 - counter
+
+new-requires : tie.Need-new-requires Inv-loop μ-loop
+new-requires c κs = tt
 
 loop-holds : tie.Need-loop-holds Inv-loop μ-loop
 loop-holds c = omega arith
 
-count-some-requires : tie.Need-count-some-requires Inv-loop μ-loop
-count-some-requires c κs = tt
+next-line-requires : tie.Need-next-line-requires Inv-loop μ-loop
+next-line-requires c κs = tt
 
-add-lines : tie.Need-add-lines Inv-loop μ-loop
-add-lines c = omega arith
-
-add-good : tie.Need-add-good Inv-loop μ-loop
-add-good c = omega arith
+with-requires : tie.Need-with-requires Inv-loop μ-loop
+with-requires c κs = tt
 
 add-counter : tie.Need-add-counter Inv-loop μ-loop
 add-counter c = omega arith
@@ -36,15 +36,4 @@ returns c = tt
 
 pub count-all-spec : {M : Type 1} → statement M
 count-all-spec =
-    tie.close
-    (tie.spec
-    Inv-loop
-    μ-loop
-    loop-holds
-    count-some-requires
-    add-lines
-    add-good
-    add-counter
-    loop-less
-    loop-again
-    returns)
+    tie.close (tie.spec Inv-loop μ-loop new-requires loop-holds next-line-requires with-requires add-counter loop-less loop-again returns)

@@ -1,7 +1,8 @@
--- `vectors::float_of` is safe. Assumes nothing.
+-- `vectors::float_of` meets its contract. Assumes nothing.
+use mathlib.Core.Path.{sym}
 use borrow.Author.Needs.{needs}
-use lib.Ieee.{binary32}
-use Rattle.binary32.proofs.Nans.{body-no-nan}
+use lib.Ieee.{binary32, div, ofBits}
+use Rattle.binary32.proofs.Nans.{body-no-nan, body-nan}
 use Rattle.vectors.proofs.float_of.Statement.{statement}
 use Rattle.vectors.proofs.float_of.Tie as tie
 
@@ -12,7 +13,8 @@ returns : tie.Need-returns
 returns c = search needs
 
 returns-2 : tie.Need-returns-2
-returns-2 c = search needs
+unfolding div ofBits
+returns-2 c = sym (body-nan binary32 (c .before .args .pattern) (c .if1 .left))
 
 pub float-of-spec : {M : Type 1} → statement M
 float-of-spec = tie.close (tie.spec float-from-bits-result returns returns-2)

@@ -1,0 +1,149 @@
+// States and records as words: a state is position, velocity, the hook's case with four words, jumps, angle and direction.
+use casts::cast_signed;
+use character::Character;
+use direction::Angle;
+use direction::MoveDirection;
+use hook::CharacterId;
+use hook::Hook;
+use snap_obj::CharacterCore;
+use snap_obj::Tick;
+use vector::vec2;
+use vectors::float_of;
+use vectors::is_float;
+use vectors::is_int;
+use vectors::is_point;
+use vectors::nth;
+use vectors::point;
+
+pub fn character_of(words: &[u8]) -> Character {
+    let jumps = nth(words, 9);
+    Character {
+        pos: point(nth(words, 0), nth(words, 1)),
+        vel: point(nth(words, 2), nth(words, 3)),
+        hook: hook_of(words),
+        jumped_already: jumps % 2 == 1,
+        used_airjump: jumps / 2 == 1,
+        angle: Angle::from_radians(float_of(nth(words, 10))),
+        move_direction: direction_of(nth(words, 11)),
+    }
+}
+
+pub fn is_character(character: Character, words: &[u8]) -> bool {
+    let hook = character.hook;
+    let angle = character.angle;
+    let direction = character.move_direction;
+    is_point(character.pos, nth(words, 0), nth(words, 1))
+        && is_point(character.vel, nth(words, 2), nth(words, 3))
+        && is_hook(hook, words)
+        && jumps(character.jumped_already, character.used_airjump) == nth(words, 9)
+        && is_float(angle.to_radians(), nth(words, 10))
+        && direction_number(direction) == nth(words, 11)
+}
+
+fn jumps(jumped_already: bool, used_airjump: bool) -> u32 {
+    if used_airjump {
+        if jumped_already { 3 } else { 2 }
+    } else {
+        if jumped_already { 1 } else { 0 }
+    }
+}
+
+fn hook_of(words: &[u8]) -> Hook {
+    let pos = point(nth(words, 5), nth(words, 6));
+    match nth(words, 4) {
+        0 => Hook::Retracted,
+        1 => Hook::Idle,
+        2 => Hook::Flying(pos, point(nth(words, 7), nth(words, 8))),
+        3 => Hook::Grabbed(CharacterId(nth(words, 5)), nth(words, 6)),
+        4 => Hook::Attached(pos),
+        5 => Hook::Retracting0(pos),
+        6 => Hook::Retracting1(pos),
+        _ => Hook::Retracting2(pos),
+    }
+}
+
+fn is_hook(hook: Hook, words: &[u8]) -> bool {
+    let case = nth(words, 4);
+    match hook {
+        Hook::Retracted => case == 0,
+        Hook::Idle => case == 1,
+        Hook::Flying(pos, dir) => case == 2
+            && is_hook_pos(pos, words)
+            && is_point(dir, nth(words, 7), nth(words, 8)),
+        Hook::Grabbed(id, tick) => case == 3 && id.0 == nth(words, 5) && tick == nth(words, 6),
+        Hook::Attached(pos) => case == 4 && is_hook_pos(pos, words),
+        Hook::Retracting0(pos) => case == 5 && is_hook_pos(pos, words),
+        Hook::Retracting1(pos) => case == 6 && is_hook_pos(pos, words),
+        Hook::Retracting2(pos) => case == 7 && is_hook_pos(pos, words),
+    }
+}
+
+fn is_hook_pos(pos: vec2, words: &[u8]) -> bool {
+    is_point(pos, nth(words, 5), nth(words, 6))
+}
+
+fn direction_of(number: u32) -> MoveDirection {
+    match number {
+        0 => MoveDirection::Left,
+        1 => MoveDirection::None,
+        _ => MoveDirection::Right,
+    }
+}
+
+fn direction_number(direction: MoveDirection) -> u32 {
+    match direction {
+        MoveDirection::Left => 0,
+        MoveDirection::None => 1,
+        MoveDirection::Right => 2,
+    }
+}
+
+// The fields of a record in their order.
+pub fn core_of(words: &[u8]) -> CharacterCore {
+    CharacterCore {
+        tick: int_at(words, 0),
+        x: int_at(words, 1),
+        y: int_at(words, 2),
+        vel_x: int_at(words, 3),
+        vel_y: int_at(words, 4),
+        angle: int_at(words, 5),
+        direction: int_at(words, 6),
+        jumped: int_at(words, 7),
+        hooked_player: int_at(words, 8),
+        hook_state: int_at(words, 9),
+        hook_tick: Tick(int_at(words, 10)),
+        hook_x: int_at(words, 11),
+        hook_y: int_at(words, 12),
+        hook_dx: int_at(words, 13),
+        hook_dy: int_at(words, 14),
+    }
+}
+
+pub fn is_core(core: CharacterCore, words: &[u8]) -> bool {
+    is_body(core, words) && is_hook_part(core, words)
+}
+
+fn is_body(core: CharacterCore, words: &[u8]) -> bool {
+    is_int(core.tick, nth(words, 0))
+        && is_int(core.x, nth(words, 1))
+        && is_int(core.y, nth(words, 2))
+        && is_int(core.vel_x, nth(words, 3))
+        && is_int(core.vel_y, nth(words, 4))
+        && is_int(core.angle, nth(words, 5))
+        && is_int(core.direction, nth(words, 6))
+        && is_int(core.jumped, nth(words, 7))
+}
+
+fn is_hook_part(core: CharacterCore, words: &[u8]) -> bool {
+    is_int(core.hooked_player, nth(words, 8))
+        && is_int(core.hook_state, nth(words, 9))
+        && is_int(core.hook_tick.0, nth(words, 10))
+        && is_int(core.hook_x, nth(words, 11))
+        && is_int(core.hook_y, nth(words, 12))
+        && is_int(core.hook_dx, nth(words, 13))
+        && is_int(core.hook_dy, nth(words, 14))
+}
+
+fn int_at(words: &[u8], k: usize) -> i32 {
+    cast_signed(nth(words, k))
+}

@@ -1,0 +1,65 @@
+//! A state or a record, the answer of the original, and both as a line of text.
+
+use crate::words::{CORE_WORDS, STATE_WORDS, core_words, state_words};
+use libtw2_gamenet::snap_obj::CharacterCore;
+use original::{Character, Hook, State};
+
+const ACCEPTED: u32 = 0;
+const TICK_TOO_LARGE: u32 = 10;
+
+pub enum Case {
+    State(State),
+    Record(CharacterCore),
+}
+
+impl Case {
+    /// Op, the state, the number, the record, the state that the record gives.
+    /// A record has no state before it; after a refusal there is nothing.
+    pub fn text(&self) -> String {
+        let (no_state, no_core) = ([0; STATE_WORDS], [0; CORE_WORDS]);
+        match *self {
+            Case::State(state) if number(state) == ACCEPTED => {
+                let core = Character::from(state).to_net();
+                let after = state_words(quantized(state));
+                assert_eq!(after, state_words(from_net(core)));
+                line('s', state_words(state), ACCEPTED, core_words(core), after)
+            }
+            Case::State(state) => line('s', state_words(state), number(state), no_core, no_state),
+            Case::Record(core) => {
+                let after = from_net(core);
+                let words = state_words(after);
+                line('r', no_state, number(after), core_words(core), words)
+            }
+        }
+    }
+}
+
+/// Whether `to_net` is accepted or refused, by document 01.
+pub fn number(state: State) -> u32 {
+    match state.hook {
+        Hook::Grabbed(_, tick) if i32::try_from(tick).is_err() => TICK_TOO_LARGE,
+        _ => ACCEPTED,
+    }
+}
+
+pub fn from_net(core: CharacterCore) -> State {
+    Character::from_net(&core).into()
+}
+
+fn quantized(state: State) -> State {
+    let mut character = Character::from(state);
+    character.quantize();
+    character.into()
+}
+
+fn line(
+    op: char,
+    state: [u32; STATE_WORDS],
+    number: u32,
+    core: [u32; CORE_WORDS],
+    after: [u32; STATE_WORDS],
+) -> String {
+    let words = state.into_iter().chain([number]).chain(core).chain(after);
+    let texts: Vec<String> = words.map(|word| format!("{word:08x}")).collect();
+    format!("{op} {}", texts.join(" "))
+}
