@@ -13,53 +13,57 @@ use Rattle.angle_tables.specs.Tables.{cosT, sinT}
 use Rattle.angle_tables.specs.Rules.{cosAt, sinAt, apart, TableRules}
 use Rattle.angle_tables.proofs.Every.{everyBelow, below-at}
 
-abbrev offUnit : ℕ → ℕ
-offUnit n = apart (cosAt n *ℤ cosAt n +ℤ sinAt n *ℤ sinAt n) (pos (2 ^ 60))
+abbrev offUnit : ℤ → ℤ → ℕ
+offUnit c s = apart (c *ℤ c +ℤ s *ℤ s) (pos (2 ^ 60))
 
-abbrev turned : ℕ → ℤ
-turned n = cosAt n *ℤ sinAt (suc n) -ℤ sinAt n *ℤ cosAt (suc n)
+abbrev turned : ℤ → ℤ → ℤ → ℤ → ℤ
+turned c s c' s' = c *ℤ s' -ℤ s *ℤ c'
 
-abbrev offTurn : ℕ → ℕ
-offTurn n = apart (turned n) (pos (2 ^ 30 * 4194293))
+abbrev offTurn : ℤ → ℤ → ℤ → ℤ → ℕ
+offTurn c s c' s' = apart (turned c s c' s') (pos (2 ^ 30 * 4194293))
 
 -- ---- at each entry: the unit rule, and that no entry is larger than 2 ^ 30
 
-entry? : ℕ → Bool
-entry? n = leb (offUnit n) (2 ^ 31) && (leb (natAbs (cosAt n)) (2 ^ 30) && leb (natAbs (sinAt n)) (2 ^ 30))
+entry? : ℤ → ℤ → Bool
+entry? c s = leb (offUnit c s) (2 ^ 31) && (leb (natAbs c) (2 ^ 30) && leb (natAbs s) (2 ^ 30))
 
-every-entry : T (everyBelow entry? 805)
+record Entry (c s : ℤ) : Type 0 where
+  unit : offUnit c s ≤ 2 ^ 31
+  small : (natAbs c ≤ 2 ^ 30) × (natAbs s ≤ 2 ^ 30)
+
+entry-of : (c s : ℤ) → T (entry? c s) → Entry c s
+unfolding entry?
+entry-of c s t =
+    let p = and-yes (leb (offUnit c s) (2 ^ 31)) (leb (natAbs c) (2 ^ 30) && leb (natAbs s) (2 ^ 30)) t in
+    let q = and-yes (leb (natAbs c) (2 ^ 30)) (leb (natAbs s) (2 ^ 30)) (p .1) in
+    record { unit = leb-yes (p .0); small = (leb-yes (q .0), leb-yes (q .1)) }
+
+every-entry : T (everyBelow (λ n. entry? (cosAt n) (sinAt n)) 805)
 unfolding entry? cosT sinT
 every-entry = tt
 
-record Entry (n : ℕ) : Type 0 where
-  unit : offUnit n ≤ 2 ^ 31
-  small : (natAbs (cosAt n) ≤ 2 ^ 30) × (natAbs (sinAt n) ≤ 2 ^ 30)
-
-entry : (n : ℕ) → n < 805 → Entry n
-unfolding entry?
-entry n h =
-    let p = and-yes (leb (offUnit n) (2 ^ 31)) (leb (natAbs (cosAt n)) (2 ^ 30) && leb (natAbs (sinAt n)) (2 ^ 30)) (below-at entry? 805 every-entry n h) in
-    let q = and-yes (leb (natAbs (cosAt n)) (2 ^ 30)) (leb (natAbs (sinAt n)) (2 ^ 30)) (p .1) in
-    record { unit = leb-yes (p .0); small = (leb-yes (q .0), leb-yes (q .1)) }
+entry : (n : ℕ) → n < 805 → Entry (cosAt n) (sinAt n)
+entry n h = entry-of (cosAt n) (sinAt n) (below-at (λ n. entry? (cosAt n) (sinAt n)) 805 every-entry n h)
 
 -- ---- from each entry to the next: the turning rule, and that the next sine is above 0
 
-step? : ℕ → Bool
-step? n = leb (offTurn n) (2 ^ 32) && ltZ (pos 0) (sinAt (suc n))
+step? : ℤ → ℤ → ℤ → ℤ → Bool
+step? c s c' s' = leb (offTurn c s c' s') (2 ^ 32) && ltZ (pos 0) s'
 
-every-step : T (everyBelow step? 804)
+record Step (c s c' s' : ℤ) : Type 0 where
+  turn : offTurn c s c' s' ≤ 2 ^ 32
+  above : T (ltZ (pos 0) s')
+
+step-of : (c s c' s' : ℤ) → T (step? c s c' s') → Step c s c' s'
+unfolding step?
+step-of c s c' s' t = let p = and-yes (leb (offTurn c s c' s') (2 ^ 32)) (ltZ (pos 0) s') t in record { turn = leb-yes (p .0); above = p .1 }
+
+every-step : T (everyBelow (λ n. step? (cosAt n) (sinAt n) (cosAt (suc n)) (sinAt (suc n))) 804)
 unfolding step? cosT sinT
 every-step = tt
 
-record Step (n : ℕ) : Type 0 where
-  turn : offTurn n ≤ 2 ^ 32
-  above : T (ltZ (pos 0) (sinAt (suc n)))
-
-step : (n : ℕ) → n < 804 → Step n
-unfolding step?
-step n h =
-    let p = and-yes (leb (offTurn n) (2 ^ 32)) (ltZ (pos 0) (sinAt (suc n))) (below-at step? 804 every-step n h) in
-    record { turn = leb-yes (p .0); above = p .1 }
+step : (n : ℕ) → n < 804 → Step (cosAt n) (sinAt n) (cosAt (suc n)) (sinAt (suc n))
+step n h = step-of (cosAt n) (sinAt n) (cosAt (suc n)) (sinAt (suc n)) (below-at (λ n. step? (cosAt n) (sinAt n) (cosAt (suc n)) (sinAt (suc n))) 804 every-step n h)
 
 -- ---- the rules
 
@@ -92,5 +96,5 @@ near-above (negsuc n) k b h l = absurd (more n k b h l)
     more : (n k b : ℕ) → suc (suc (n + k)) ≤ b → b < suc k → ⊥
     more n k b h l = omega arith
 
-pub turn-above : (n : ℕ) → n < 804 → T (ltZ (pos 0) (turned n))
-turn-above n h = near-above (turned n) 4503587816210431 (2 ^ 32) (step n h .turn) (lit< tt)
+pub turn-above : (n : ℕ) → n < 804 → T (ltZ (pos 0) (turned (cosAt n) (sinAt n) (cosAt (suc n)) (sinAt (suc n))))
+turn-above n h = near-above (turned (cosAt n) (sinAt n) (cosAt (suc n)) (sinAt (suc n))) 4503587816210431 (2 ^ 32) (step n h .turn) (lit< tt)
