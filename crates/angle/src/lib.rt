@@ -6,7 +6,8 @@ use angle_tables::cosines;
 use angle_tables::sines;
 ghost use mathlib.Core.Path.{_≡_};
 ghost use Prim.Native.Nat.{_≤_};
-ghost use Rattle.angle_rule.specs.Angle.{Target, upperAngle, netAngle};
+ghost use Rattle.angle_rule.specs.Angle.{upperAngle, netAngle};
+ghost use Rattle.angle_rule.specs.Search.{Target};
 
 pub fn net_angle(x: i32, y: i32) -> i32
     ensures { λ r. ⌜ r ≡ netAngle x y ⌝ }

@@ -6,7 +6,8 @@ ghost use mathlib.Core.Bool.{true};
 ghost use Prim.Native.Nat.{_≤_, _^_};
 ghost use lib.IntN.{pos, natAbs};
 ghost use Rattle.angle_tables.specs.Rules.{apart};
-ghost use Rattle.angle_rule.specs.Angle.{Target, side, doubt, upperAngle};
+ghost use Rattle.angle_rule.specs.Angle.{side, upperAngle};
+ghost use Rattle.angle_rule.specs.Search.{Target, doubt};
 
 // A guess, of which nothing is said but that the tables reach it.
 pub fn guess(x: f64, y: f64) -> usize
@@ -24,7 +25,7 @@ pub fn guess(x: f64, y: f64) -> usize
     804
 }
 
-// About 256 times the angle of a target with y >= 0: a half of the quarter, and the arc tangent of what is left by a polynomial.
+// About 256 times the angle: that of the diagonal, and the arc tangent of what is left, by a polynomial that is off by less than 0.003.
 fn angle_of(x: f64, y: f64) -> f64 {
     let right = if x < 0.0 { -x } else { x };
     let t = (y - right) / (y + right);

@@ -7,7 +7,8 @@ use lib.IntN.{ℤ, pos, negsuc}
 use mir.Syntax.{w64}
 use mir.Val.{SFits, toZ, ofZ}
 use mir.Facts.{toZ-ofZ}
-use Rattle.angle_rule.specs.Angle.{Target, fitting, upperAngle, Largest}
+use Rattle.angle_rule.specs.Angle.{fitting, upperAngle, Largest}
+use Rattle.angle_rule.specs.Search.{Target}
 use Rattle.angle_rule.proofs.Stretch.{fitting-stretch, zero-fits}
 use Rattle.angle_rule.proofs.Largest.{largest-is, stretch-end}
 

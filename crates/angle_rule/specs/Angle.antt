@@ -1,10 +1,10 @@
 -- The angle stand-in of document 01. Definitions only.
 use mathlib.Core.Bool.{Bool, true, false, _&&_, cond}
 use mathlib.Core.Path.{_≡_}
-use Prim.Native.Nat.{ℕ, zero, suc, _+_, _*_, _^_, _≤_, _<_}
-use lib.Dec.{T, eqb}
+use Prim.Native.Nat.{ℕ, zero, suc, _≤_, _<_}
+use lib.Dec.{eqb}
 use lib.IntN.{ℤ, pos, negsuc, negℤ, natAbs, _-ℤ_, _*ℤ_}
-use lib.Signed.{leZ, nonNeg}
+use lib.Signed.{leZ}
 use Rattle.angle_tables.specs.Rules.{cosAt, sinAt}
 
 -- y × C[n] − x × S[n]
@@ -28,16 +28,6 @@ upperAngle x y = largest (fitting x y) 804
 unfoldable pub netAngle : ℤ → ℤ → ℤ
 netAngle x (pos y) = cond (eqb y 0 && eqb (natAbs x) 0) (pos 0) (pos (upperAngle x (pos y)))
 netAngle x (negsuc y) = negℤ (pos (upperAngle x (pos (suc y))))
-
--- what the search is asked: y ≥ 0, and numbers of the size of an i32
-pub record Target (x y : ℤ) : Type 0 where
-  pub xSmall : natAbs x ≤ 2 ^ 31
-  pub ySmall : natAbs y ≤ 2 ^ 31
-  pub up : T (nonNeg y)
-
--- how far y × C[n] − x × S[n] may be off where each entry is up to 2
-abbrev pub doubt : ℤ → ℤ → ℕ
-doubt x y = natAbs y * 2 + natAbs x * 2
 
 -- ---- what is said of them
 

@@ -3,7 +3,8 @@ use cross::cross;
 ghost use mathlib.Core.Path.{_≡_};
 ghost use Prim.Native.Nat.{_≤_};
 ghost use Rattle.angle_tables.specs.Tables.{cosT, sinT};
-ghost use Rattle.angle_rule.specs.Angle.{Target, side, upperAngle};
+ghost use Rattle.angle_rule.specs.Angle.{side, upperAngle};
+ghost use Rattle.angle_rule.specs.Search.{Target};
 
 pub fn halved(x: i64, y: i64, cos: &[i32; 805], sin: &[i32; 805]) -> usize
     requires { ⌜ Target x y × (now cos ≡ cosT) × (now sin ≡ sinT) ⌝ }

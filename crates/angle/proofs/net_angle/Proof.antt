@@ -14,7 +14,8 @@ use mir.Syntax.{w32, w64}
 use mir.Val.{SFits, toZ, ofZ}
 use mir.Facts.{toZ-ofZ, toZ-pos}
 use Rattle.cross.proofs.Whole.{widened, wide, opposite, opposite-size, opposite-fits}
-use Rattle.angle_rule.specs.Angle.{Target, upperAngle, netAngle}
+use Rattle.angle_rule.specs.Angle.{upperAngle, netAngle}
+use Rattle.angle_rule.specs.Search.{Target}
 use Rattle.angle.proofs.net_angle.Statement.{statement}
 use Rattle.angle.proofs.net_angle.Tie as tie
 

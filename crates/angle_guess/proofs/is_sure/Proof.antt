@@ -13,7 +13,8 @@ use borrow.Author.Needs.{needs, sfits-of}
 use Rattle.cross.proofs.Whole.{opposite-fits}
 use Rattle.cross.proofs.Apart.{apart-near, sure-above, sure-below}
 use Rattle.angle_tables.specs.Rules.{apart}
-use Rattle.angle_rule.specs.Angle.{Target, side, doubt, fitting, upperAngle}
+use Rattle.angle_rule.specs.Angle.{side, fitting, upperAngle}
+use Rattle.angle_rule.specs.Search.{Target, doubt}
 use Rattle.angle_rule.proofs.Search.{held, angle-end}
 use Rattle.angle_guess.proofs.is_sure.Statement.{statement}
 use Rattle.angle_guess.proofs.is_sure.Tie as tie

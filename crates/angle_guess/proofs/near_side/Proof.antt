@@ -13,7 +13,8 @@ use Rattle.cross.proofs.Whole.{sfits-abs}
 use Rattle.cross.proofs.Apart.{apart-near, near-apart, near-mul, near-sub, near-small}
 use Rattle.angle_tables.specs.Rules.{cosAt, sinAt, apart}
 use Rattle.angle_tables.proofs.Rules.{small}
-use Rattle.angle_rule.specs.Angle.{side, doubt}
+use Rattle.angle_rule.specs.Angle.{side}
+use Rattle.angle_rule.specs.Search.{doubt}
 use Rattle.angle_guess.proofs.near_side.Statement.{statement}
 use Rattle.angle_guess.proofs.near_side.Tie as tie
 

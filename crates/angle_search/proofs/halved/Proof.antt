@@ -9,7 +9,8 @@ use mir.Syntax.{w64}
 use mir.Val.{SFits, toZ, ofZ}
 use mir.Facts.{toZ-ofZ}
 use borrow.Author.Needs.{sfits-of}
-use Rattle.angle_rule.specs.Angle.{Target, side, fitting, upperAngle}
+use Rattle.angle_rule.specs.Angle.{side, fitting, upperAngle}
+use Rattle.angle_rule.specs.Search.{Target}
 use Rattle.angle_rule.proofs.Search.{held, angle-end, first-fits}
 use Rattle.angle_search.proofs.halved.Statement.{statement}
 use Rattle.angle_search.proofs.halved.Tie as tie
