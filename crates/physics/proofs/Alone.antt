@@ -1,0 +1,87 @@
+-- With player collision and player hooking both 0 a tick depends on no other slot and changes none. Assumes nothing.
+use mathlib.Core.Path.{_≡_, refl, sym, ap, _∙_}
+use mathlib.Core.Bool.{Bool, true, false, cond}
+use mathlib.Core.List.{List}
+use Prim.Native.Nat.{ℕ}
+use lib.Dec.{eqb}
+use lib.Ieee.{ne}
+use Rattle.turns.specs.Turns.{fold}
+use Rattle.turns.proofs.Kept.{fold-kept}
+use Rattle.number.specs.Number.{c0}
+use Rattle.vector.specs.declared.vec2.{vec2}
+use Rattle.hook.specs.declared.Hook.{Hook}
+use Rattle.hook.specs.declared.Hook.the-variants.{Retracted, Idle, Flying, Grabbed, Attached, Retracting0, Retracting1, Retracting2}
+use Rattle.snap_obj.specs.declared.PlayerInput.{PlayerInput}
+use Rattle.tiles.specs.declared.Sides.{Sides}
+use Rattle.tuning.specs.declared.Tuning.{Tuning}
+use Rattle.controls.specs.Controls.{grounded, clampSpeed}
+use Rattle.hooking.specs.Hooking.{hold, dragged}
+use Rattle.meeting.specs.Meeting.{push, held, meet}
+use Rattle.meeting.specs.declared.Velocities.{Velocities}
+use Rattle.character.specs.declared.Character.{Character}
+use Rattle.character.specs.declared.Slot.{Slot}
+use Rattle.character.specs.declared.tick.HookFlight.{HookFlight}
+use Rattle.character.specs.declared.tick.HookFlight.the-variants.{TooFar, To}
+use Rattle.character.specs.declared.tick.Met.{Met}
+use Rattle.character.specs.declared.tick.Ticked.{Ticked}
+use Rattle.character.specs.Tick.{slotAt, nowhere, withHook, withVel, withCharacter, steer, flight, metAt, meetTurn, meetAll, ticked, tickAt}
+use Rattle.physics.proofs.Slots.{set-own}
+
+same : (v : Velocities) (b : Bool) → cond b v v ≡ v
+same v true = refl
+same v false = refl
+
+module _ (t : Tuning) (collision : ne (t .«player_collision») c0 ≡ false) (hooking : ne (t .«player_hooking») c0 ≡ false) where
+  -- nobody changes anybody's velocity
+  meet-alone : (p v : vec2) (h : Hook) (q u : vec2) (cid : ℕ) → meet p v h q u cid t ≡ record { me = v; other = u }
+  unfolding meet push held
+  meet-alone p v Retracted q u cid = rw collision
+  meet-alone p v Idle q u cid = rw collision
+  meet-alone p v (Flying a b) q u cid = rw collision
+  meet-alone p v (Grabbed c k) q u cid = rw (collision, hooking) (same (record { me = v; other = u }) (eqb (c .0) cid))
+  meet-alone p v (Attached a) q u cid = rw collision
+  meet-alone p v (Retracting0 a) q u cid = rw collision
+  meet-alone p v (Retracting1 a) q u cid = rw collision
+  meet-alone p v (Retracting2 a) q u cid = rw collision
+
+  met-alone : (ss : List Slot) (j : ℕ) (v : vec2) → metAt ss j (record { me = v; other = slotAt ss j .character .vel }) ≡ record { vel = v; slots = ss }
+  met-alone ss j v = ap (λ (us : List Slot). record { vel = v; slots = us }) (set-own ss j nowhere)
+
+  turn-alone : (id : ℕ) (p : vec2) (h : Hook) (j : ℕ) (m : Met) → meetTurn id p h t j m ≡ m
+  turn-alone id p h j m = go (eqb j id) (slotAt (m .slots) j .present)
+    where
+      go : (b d : Bool) → cond b m (cond d (metAt (m .slots) j (meet p (m .vel) h (slotAt (m .slots) j .character .pos) (slotAt (m .slots) j .character .vel) j t)) m) ≡ m
+      go true d = refl
+      go false true = ap (metAt (m .slots) j) (meet-alone p (m .vel) h (slotAt (m .slots) j .character .pos) (slotAt (m .slots) j .character .vel) j) ∙ met-alone (m .slots) j (m .vel)
+      go false false = refl
+
+  pub meet-all-alone : (n : ℕ) (ss : List Slot) (id : ℕ) (p v : vec2) (h : Hook) → meetAll n ss id p v h t ≡ record { vel = v; slots = ss }
+  unfolding meetAll
+  meet-all-alone n ss id p v h = fold-kept (meetTurn id p h t) (λ m. m ≡ record { vel = v; slots = ss }) (λ j m e. turn-alone id p h j m ∙ e) n 0 (record { vel = v; slots = ss }) refl
+
+  -- a hook passes everybody
+  pub flight-alone : (n : ℕ) (h : Hook) (p : vec2) (id : ℕ) (ss us : List Slot) (s : Sides) (ts : List ℕ) → flight n h p id ss s ts t ≡ flight n h p id us s ts t
+  unfolding flight
+  flight-alone n Retracted p id ss us s ts = refl
+  flight-alone n Idle p id ss us s ts = refl
+  flight-alone n (Flying a b) p id ss us s ts = rw hooking
+  flight-alone n (Grabbed c k) p id ss us s ts = refl
+  flight-alone n (Attached a) p id ss us s ts = refl
+  flight-alone n (Retracting0 a) p id ss us s ts = refl
+  flight-alone n (Retracting1 a) p id ss us s ts = refl
+  flight-alone n (Retracting2 a) p id ss us s ts = refl
+
+  ticked-alone : (n : ℕ) (before c : Character) (id : ℕ) (ss us : List Slot) (f : HookFlight) → ticked n before c id ss t f ≡ record { number = ticked n before c id us t f .number; me = ticked n before c id us t f .me; slots = ss }
+  ticked-alone n before c id ss us TooFar = refl
+  ticked-alone n before c id ss us (To h) =
+      let p = before .pos in
+      let v = dragged h p (c .vel) (c .«move_direction») t in
+      rw (meet-all-alone n ss id p v (hold h), meet-all-alone n us id p v (hold h))
+
+  -- the same answer and the same character whoever else is there, and everybody as before
+  pub tick-alone : (n : ℕ) (c : Character) (id : ℕ) (ss us : List Slot) (s : Sides) (ts : List ℕ) (i : PlayerInput)
+      → tickAt n c id ss s ts i t ≡ record { number = tickAt n c id us s ts i t .number; me = tickAt n c id us s ts i t .me; slots = ss }
+  unfolding tickAt
+  tick-alone n c id ss us s ts i =
+      let k = steer c (grounded s ts (c .pos)) i t in
+      rw (flight-alone n (k .hook) (c .pos) id ss us s ts) (ticked-alone n c k id ss us (flight n (k .hook) (c .pos) id us s ts t))

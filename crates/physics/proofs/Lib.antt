@@ -1,0 +1,4 @@
+pub mod Slots
+pub mod Alone
+pub mod Others
+pub mod Moved

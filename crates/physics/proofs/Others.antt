@@ -1,0 +1,66 @@
+-- A tick changes nobody's position, and of the others nothing but velocities. Assumes nothing.
+use mathlib.Core.Path.{_≡_, refl, sym, ap, _∙_}
+use mathlib.Core.Bool.{Bool, true, false, cond}
+use mathlib.Core.List.{List}
+use Prim.Native.Nat.{ℕ}
+use lib.Dec.{eqb}
+use lib.ListN.{set}
+use Rattle.turns.proofs.Kept.{fold-kept}
+use Rattle.vector.specs.declared.vec2.{vec2}
+use Rattle.hook.specs.declared.Hook.{Hook}
+use Rattle.snap_obj.specs.declared.PlayerInput.{PlayerInput}
+use Rattle.tiles.specs.declared.Sides.{Sides}
+use Rattle.tuning.specs.declared.Tuning.{Tuning}
+use Rattle.controls.specs.Controls.{grounded}
+use Rattle.hooking.specs.Hooking.{hold, dragged}
+use Rattle.meeting.specs.Meeting.{meet}
+use Rattle.meeting.specs.declared.Velocities.{Velocities}
+use Rattle.character.specs.declared.Character.{Character}
+use Rattle.character.specs.declared.Slot.{Slot}
+use Rattle.character.specs.declared.tick.HookFlight.{HookFlight}
+use Rattle.character.specs.declared.tick.HookFlight.the-variants.{TooFar, To}
+use Rattle.character.specs.declared.tick.Met.{Met}
+use Rattle.character.specs.Tick.{slotAt, nowhere, withVel, withCharacter, steer, flight, metAt, meetTurn, meetAll, ticked, tickAt}
+use Rattle.physics.proofs.Slots.{set-kept}
+
+-- s and u differ in the character's velocity at most
+abbrev pub SameButVel : Slot → Slot → Type 0
+SameButVel s u = u ≡ withCharacter s (withVel (s .character) (u .character .vel))
+
+module _ (ss : List Slot) where
+  -- every slot, that of the ticking character and those past the end included
+  abbrev Kept : List Slot → Type 0
+  Kept us = (k : ℕ) → SameButVel (slotAt ss k) (slotAt us k)
+
+  set-vel : (us : List Slot) (j : ℕ) (v : vec2) → Kept us → Kept (set us j (withCharacter (slotAt us j) (withVel (slotAt us j .character) v)))
+  set-vel us j v h = set-kept SameButVel ss us j (withCharacter (slotAt us j) (withVel (slotAt us j .character) v)) nowhere h (ap (λ (s : Slot). withCharacter s (withVel (s .character) v)) (h j))
+
+  turn-kept : (id : ℕ) (p : vec2) (h : Hook) (t : Tuning) (j : ℕ) (m : Met) → Kept (m .slots) → Kept (meetTurn id p h t j m .slots)
+  turn-kept id p h t j m k = go (eqb j id) (slotAt (m .slots) j .present) (meet p (m .vel) h (slotAt (m .slots) j .character .pos) (slotAt (m .slots) j .character .vel) j t)
+    where
+      go : (b d : Bool) (v : Velocities) → Kept (cond b m (cond d (metAt (m .slots) j v) m) .slots)
+      go true d v = k
+      go false true v = set-vel (m .slots) j (v .other) k
+      go false false v = k
+
+  meet-all-kept : (n id : ℕ) (p v : vec2) (h : Hook) (t : Tuning) → Kept (meetAll n ss id p v h t .slots)
+  unfolding meetAll
+  meet-all-kept n id p v h t = fold-kept (meetTurn id p h t) (λ m. Kept (m .slots)) (turn-kept id p h t) n 0 (record { vel = v; slots = ss }) (λ k. refl)
+
+  ticked-kept : (n : ℕ) (before c : Character) (id : ℕ) (t : Tuning) (f : HookFlight) → Kept (ticked n before c id ss t f .slots)
+  ticked-kept n before c id t TooFar = λ k. refl
+  ticked-kept n before c id t (To h) = meet-all-kept n id (before .pos) (dragged h (before .pos) (c .vel) (c .«move_direction») t) (hold h) t
+
+  -- who is present, where everybody is and what everybody's hook and input are: as before
+  pub tick-others : (n : ℕ) (c : Character) (id : ℕ) (s : Sides) (ts : List ℕ) (i : PlayerInput) (t : Tuning) (k : ℕ) → SameButVel (slotAt ss k) (slotAt (tickAt n c id ss s ts i t .slots) k)
+  unfolding tickAt
+  tick-others n c id s ts i t = let d = steer c (grounded s ts (c .pos)) i t in ticked-kept n c d id t (flight n (d .hook) (c .pos) id ss s ts t)
+
+-- the ticking character stays where it is
+ticked-pos : (n : ℕ) (before c : Character) (id : ℕ) (ss : List Slot) (t : Tuning) (f : HookFlight) → c .pos ≡ before .pos → ticked n before c id ss t f .me .pos ≡ before .pos
+ticked-pos n before c id ss t TooFar e = refl
+ticked-pos n before c id ss t (To h) e = e
+
+pub tick-pos : (n : ℕ) (c : Character) (id : ℕ) (ss : List Slot) (s : Sides) (ts : List ℕ) (i : PlayerInput) (t : Tuning) → tickAt n c id ss s ts i t .me .pos ≡ c .pos
+unfolding tickAt steer
+tick-pos n c id ss s ts i t = let d = steer c (grounded s ts (c .pos)) i t in ticked-pos n c d id ss t (flight n (d .hook) (c .pos) id ss s ts t) refl
