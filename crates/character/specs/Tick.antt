@@ -72,7 +72,8 @@ steer c onGround i t =
       «jumped_already» = jumped .«jumped_already»;
       «used_airjump» = landed onGround (jumped .«used_airjump»);
       angle = aim i;
-      «move_direction» = direction }
+      «move_direction» = direction;
+    }
 
 -- the slot j, if it is another's and somebody is there, is looked at
 abbrev pub nearestTurn : List Slot → ℕ → vec2 → vec2 → ℕ → Nearest → Nearest

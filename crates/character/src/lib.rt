@@ -2,13 +2,13 @@
 mod tick;
 mod walk;
 
-pub use tick::Ticked;
-pub use walk::Moved;
 use direction::Angle;
 use direction::MoveDirection;
 use hook::Hook;
 use snap_obj::PlayerInput;
+pub use tick::Ticked;
 use vector::vec2;
+pub use walk::Moved;
 ghost use mathlib.Core.Path.{_≡_};
 ghost use Rattle.character.specs.Character.{spawn};
 

@@ -223,7 +223,14 @@ fn nearest(slots: [Slot; SEATS], id: usize, from: vec2, to: vec2) -> Nearest
 }
 
 // The others by rising id, each as it stands then.
-fn meet_all(slots: [Slot; SEATS], id: usize, pos: vec2, vel: vec2, hook: Hook, tuning: Tuning) -> Met
+fn meet_all(
+    slots: [Slot; SEATS],
+    id: usize,
+    pos: vec2,
+    vel: vec2,
+    hook: Hook,
+    tuning: Tuning,
+) -> Met
     ensures { λ r. ⌜ r ≡ meetAll seats slots id pos vel hook tuning ⌝ }
 {
     let mut mine = vel;

@@ -102,7 +102,14 @@ fn player_walk(slots: [Slot; SEATS], id: usize, from: vec2, to: vec2) -> PlayerW
     PlayerWalk::At(walk_among(slots, id, from, to, distance, turns as u32))
 }
 
-fn walk_among(slots: [Slot; SEATS], id: usize, from: vec2, to: vec2, distance: f32, turns: u32) -> vec2
+fn walk_among(
+    slots: [Slot; SEATS],
+    id: usize,
+    from: vec2,
+    to: vec2,
+    distance: f32,
+    turns: u32,
+) -> vec2
     requires { ⌜ turns ≤ 65536 ⌝ }
     ensures { λ r. ⌜ r ≡ walkAmong seats slots id from to distance turns ⌝ }
 {

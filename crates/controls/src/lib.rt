@@ -91,7 +91,12 @@ pub fn walk(vel_x: f32, direction: MoveDirection, control: Control) -> f32
     ensures { λ r. ⌜ r ≡ walk «vel_x» direction control ⌝ }
 {
     let max_speed = control.max_speed;
-    let walked = saturated_add(-max_speed, max_speed, vel_x, direction.as_float() * control.accel);
+    let walked = saturated_add(
+        -max_speed,
+        max_speed,
+        vel_x,
+        direction.as_float() * control.accel,
+    );
     if let MoveDirection::None = direction {
         walked * control.friction
     } else {

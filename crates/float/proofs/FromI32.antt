@@ -66,8 +66,13 @@ module _ (s : Bool) (n : ℕ) (over : 2 ^ 24 < n) (under : n < 2 ^ 31) where
       let p : q * 2 ^ i * 2 ^ 149 ≡ q * 2 ^ k * 1 = mul-assoc q (2 ^ i) (2 ^ 149) ∙ ap (λ (x : ℕ). q * x) (sym (pow-add 2 i 149) ∙ ap (λ (x : ℕ). 2 ^ x) (sym c)) ∙ sym (mul-one (q * 2 ^ k)) in
       let r : q * 2 ^ i ≤ 2 ^ 31 = le-trans (mul-le-mul-right (2 ^ i) f) (le-trans (mul-le-mul-left (2 ^ 24) (pow-mono {j = 7} (omega arith))) (lit≤ tt)) in
       let t : q * 2 ^ k < 2 ^ 277 = lt-of-le-of-lt (mul-le-mul-right (2 ^ k) f) (lt-of-le-of-lt (mul-le-mul-left (2 ^ 24) (pow-mono {j = 156} (omega arith))) (lit< tt)) in
-      record { m = q * 2 ^ i; has = kept-digits q i f (omega arith); most = r; lead = λ h. mul-pos g (pow-pos i);
-               value = subst (λ (x : Float). HasValue x s (q * 2 ^ i) 1) (sym (round-is binary32 s n 1)) (rescale (units binary32 s q k) s (q * 2 ^ k) (2 ^ 149) (q * 2 ^ i) 1 (pow-pos 149) p (units-val binary32 s q k t)) }
+      record {
+        m = q * 2 ^ i;
+        has = kept-digits q i f (omega arith);
+        most = r;
+        lead = λ h. mul-pos g (pow-pos i);
+        value = subst (λ (x : Float). HasValue x s (q * 2 ^ i) 1) (sym (round-is binary32 s n 1)) (rescale (units binary32 s q k) s (q * 2 ^ k) (2 ^ 149) (q * 2 ^ i) 1 (pow-pos 149) p (units-val binary32 s q k t));
+      }
 
 nearest-whole : (s : Bool) (n : ℕ) → n ≤ 2 ^ 31 → Nearest s n
 nearest-whole s n h = go (decLe n (2 ^ 24)) (eq-or-lt-of-le h)

@@ -1,2 +1,2 @@
-pub mod Cases
+pub mod Variants
 pub mod States

@@ -98,7 +98,13 @@ impl Hook {
         cast_signed(cid.0)
     }
 
-    pub fn from_net(hook_state: i32, pos: vec2, dir: vec2, hooked_player: i32, hook_tick: Tick) -> Hook
+    pub fn from_net(
+        hook_state: i32,
+        pos: vec2,
+        dir: vec2,
+        hooked_player: i32,
+        hook_tick: Tick,
+    ) -> Hook
         ensures { λ r. ⌜ r ≡ hookFromNet «hook_state» pos dir «hooked_player» «hook_tick» ⌝ }
     {
         match hook_state {
@@ -119,7 +125,10 @@ impl Hook {
         if hooked_player == -1 {
             Hook::Attached(pos)
         } else {
-            Hook::Grabbed(CharacterId(cast_unsigned(hooked_player)), cast_unsigned(hook_tick.0))
+            Hook::Grabbed(
+                CharacterId(cast_unsigned(hooked_player)),
+                cast_unsigned(hook_tick.0),
+            )
         }
     }
 }

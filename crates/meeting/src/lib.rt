@@ -29,7 +29,10 @@ fn pushed(pos: vec2, vel: vec2, other: vec2, distance: f32) -> vec2
     let dir_to_self = pos.sub(other).normalize();
     let arbitrary_factor = 28.0 * 1.45 - distance;
     let additional_vel = additional_vel(vel, dir_to_self);
-    let push = dir_to_self.mul(arbitrary_factor).mul(additional_vel).mul(0.75);
+    let push = dir_to_self
+        .mul(arbitrary_factor)
+        .mul(additional_vel)
+        .mul(0.75);
     vel.add(push).mul(0.85)
 }
 
@@ -58,7 +61,13 @@ pub fn pull(vel: vec2, accel: f32, dir: vec2, factor: f32, speed: f32) -> vec2
 }
 
 // What a hook does to both, the one that holds and the one that is held.
-fn dragged(pos: vec2, other_pos: vec2, before: Velocities, distance: f32, tuning: Tuning) -> Velocities
+fn dragged(
+    pos: vec2,
+    other_pos: vec2,
+    before: Velocities,
+    distance: f32,
+    tuning: Tuning,
+) -> Velocities
     ensures { λ r. ⌜ r ≡ dragged pos «other_pos» before distance tuning ⌝ }
 {
     let dir = pos.sub(other_pos).normalize();
@@ -85,7 +94,15 @@ fn held(pos: vec2, other_pos: vec2, before: Velocities, distance: f32, tuning: T
 }
 
 // A tick's meeting with the character in the slot cid: a collision, then the drag of a hook that holds it.
-pub fn meet(pos: vec2, vel: vec2, hook: Hook, other_pos: vec2, other_vel: vec2, cid: u32, tuning: Tuning) -> Velocities
+pub fn meet(
+    pos: vec2,
+    vel: vec2,
+    hook: Hook,
+    other_pos: vec2,
+    other_vel: vec2,
+    cid: u32,
+    tuning: Tuning,
+) -> Velocities
     ensures { λ r. ⌜ r ≡ meet pos vel hook «other_pos» «other_vel» cid tuning ⌝ }
 {
     let distance = vec2::distance(pos, other_pos);

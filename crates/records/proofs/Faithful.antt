@@ -20,7 +20,8 @@ core-faithful c fx fy = record {
   x = round-near (c .pos .x);
   y = round-near (c .pos .y);
   vel-x = 256ths-near (c .vel .x) fx;
-  vel-y = 256ths-near (c .vel .y) fy }
+  vel-y = 256ths-near (c .vel .y) fy;
+}
 
 pub core-clear : (s : Sides) (ts : List ℕ) (c : Character) → T (isMap s ts) → T (fits binary32 (c .pos .x)) → T (fits binary32 (c .pos .y)) → checkBox s ts (fromNet (coreOf c) .pos) characterBox ≡ checkBox s ts (c .pos) characterBox
 unfolding fromNet coreOf vquantize quantize

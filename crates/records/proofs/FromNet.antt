@@ -79,7 +79,8 @@ from-net-representable n a e =
       pos = (record { number = n .x; in-i32 = a .x; is = refl }, record { number = n .y; in-i32 = a .y; is = refl });
       vel = (record { number = n .«vel_x»; in-i32 = a .vel-x; is = refl }, record { number = n .«vel_y»; in-i32 = a .vel-y; is = refl });
       hook = hook-representable _ _ (n .«hooked_player») (n .«hook_tick») p d (a .hooked-player) (a .hook-tick) (n .«hook_state») (λ s f k t. e (record { state = s; somebody = f; less = k; ticks = t }));
-      angle = record { number = n .angle; in-i32 = a .angle; is = refl } }
+      angle = record { number = n .angle; in-i32 = a .angle; is = refl };
+    }
 
 -- any record goes to a character that goes to a record and back with no bit changed
 pub from-net-back : (n : CharacterCore) → AllI32 n → (HeldBelowZero n → ⊥) → quantize (fromNet n) ≡ quantized.To (fromNet n)
@@ -112,9 +113,18 @@ player-i32 (Retracting2 p) = lit< tt
 core-i32 : (c : Character) → tickOf (c .hook) ≤ mostTick → AllI32 (coreOf c)
 unfolding coreOf to256ths angleToNet
 core-i32 c h = record {
-  x = whole-in 1 _; y = whole-in 1 _; vel-x = whole-in 1 _; vel-y = whole-in 1 _; angle = whole-in 0 _;
-  hooked-player = player-i32 (c .hook); hook-tick = suc-le-suc h;
-  hook-x = whole-in 1 _; hook-y = whole-in 1 _; hook-dx = whole-in 1 _; hook-dy = whole-in 1 _ }
+  x = whole-in 1 _;
+  y = whole-in 1 _;
+  vel-x = whole-in 1 _;
+  vel-y = whole-in 1 _;
+  angle = whole-in 0 _;
+  hooked-player = player-i32 (c .hook);
+  hook-tick = suc-le-suc h;
+  hook-x = whole-in 1 _;
+  hook-y = whole-in 1 _;
+  hook-dx = whole-in 1 _;
+  hook-dy = whole-in 1 _;
+}
 
 core-not-below : (c : Character) → HeldBelowZero (coreOf c) → ⊥
 unfolding coreOf
@@ -155,4 +165,5 @@ spawn-representable x y h k = record {
   pos = (record { number = x; in-i32 = h; is = refl }, record { number = y; in-i32 = k; is = refl });
   vel = (zero-256ths, zero-256ths);
   hook = tt;
-  angle = zero-256ths }
+  angle = zero-256ths;
+}

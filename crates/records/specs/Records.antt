@@ -43,7 +43,8 @@ coreOf c = record {
   «hook_x» = roundToI32 (netPos (c .hook) .x);
   «hook_y» = roundToI32 (netPos (c .hook) .y);
   «hook_dx» = to256ths (netDir (c .hook) .x);
-  «hook_dy» = to256ths (netDir (c .hook) .y) }
+  «hook_dy» = to256ths (netDir (c .hook) .y);
+}
 
 -- the largest tick that a record holds
 abbrev pub mostTick : ℕ
@@ -62,7 +63,8 @@ fromNet n = record {
   «jumped_already» = jumpedAlreadyFromNet (n .jumped);
   «used_airjump» = usedAirjumpFromNet (n .jumped);
   angle = angleFromNet (n .angle);
-  «move_direction» = fromInt (n .direction) }
+  «move_direction» = fromInt (n .direction);
+}
 
 -- into a record and back
 abbrev pub back : Net → Quantized

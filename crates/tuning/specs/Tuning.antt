@@ -31,4 +31,5 @@ tuningOf ts = record {
   «velramp_range» = tuningAt ts 14;
   «velramp_curvature» = tuningAt ts 15;
   «player_collision» = tuningAt ts 16;
-  «player_hooking» = tuningAt ts 17 }
+  «player_hooking» = tuningAt ts 17;
+}

@@ -1,6 +1,6 @@
 -- `hooking::dragged` meets its contract. Assumes nothing.
 use borrow.Author.Needs.{needs}
-use Rattle.hook.proofs.Cases.{not-attached}
+use Rattle.hook.proofs.Variants.{not-attached}
 use Rattle.hooking.specs.Hooking.{dragged}
 use Rattle.hooking.proofs.dragged.Statement.{statement}
 use Rattle.hooking.proofs.dragged.Tie as tie

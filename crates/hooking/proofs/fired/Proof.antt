@@ -1,6 +1,6 @@
 -- `hooking::fired` meets its contract. Assumes nothing.
 use borrow.Author.Needs.{needs}
-use Rattle.hooking.proofs.Cases.{not-idle}
+use Rattle.hooking.proofs.Unchanged.{not-idle}
 use Rattle.hooking.specs.Hooking.{fired}
 use Rattle.hooking.proofs.fired.Statement.{statement}
 use Rattle.hooking.proofs.fired.Tie as tie

@@ -1,6 +1,6 @@
 -- `hooking::retract` meets its contract. Assumes nothing.
 use borrow.Author.Needs.{needs}
-use Rattle.hooking.proofs.Cases.{not-retracting}
+use Rattle.hooking.proofs.Unchanged.{not-retracting}
 use Rattle.hooking.specs.Hooking.{retract}
 use Rattle.hooking.proofs.retract.Statement.{statement}
 use Rattle.hooking.proofs.retract.Tie as tie

@@ -1,6 +1,6 @@
 -- `hooking::strike` meets its contract. Assumes nothing.
 use borrow.Author.Needs.{needs}
-use Rattle.hooking.proofs.Cases.{not-struck}
+use Rattle.hooking.proofs.Unchanged.{not-struck}
 use Rattle.hooking.specs.Hooking.{strike}
 use Rattle.hooking.proofs.strike.Statement.{statement}
 use Rattle.hooking.proofs.strike.Tie as tie

@@ -1,7 +1,7 @@
 -- `meeting::meet` meets its contract. Assumes nothing.
 use borrow.Author.Needs.{needs}
 use borrow.Author.Tests.{eq-eqb, ne-eqb}
-use Rattle.hook.proofs.Cases.{not-grabbed}
+use Rattle.hook.proofs.Variants.{not-grabbed}
 use Rattle.meeting.specs.Meeting.{meet}
 use Rattle.meeting.proofs.meet.Statement.{statement}
 use Rattle.meeting.proofs.meet.Tie as tie

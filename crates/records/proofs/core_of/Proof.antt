@@ -85,21 +85,22 @@ returns c =
     let c15 = c14 .before in
     let c16 = c15 .before in
     let c17 = c16 .before in
-    rw
-    (held (c13 .round-to-i32 .result) (c13 .round-to-i32 .ok) (c13 .round-to-i32 .ensures),
-    held (c12 .round-to-i322 .result) (c12 .round-to-i322 .ok) (c12 .round-to-i322 .ensures),
-    held (c11 .to-256ths .result) (c11 .to-256ths .ok) (c11 .to-256ths .ensures),
-    held (c10 .to-256ths2 .result) (c10 .to-256ths2 .ok) (c10 .to-256ths2 .ensures),
-    held (c9 .to-net .result) (c9 .to-net .ok) (c9 .to-net .ensures),
-    held (c8 .as-int .result) (c8 .as-int .ok) (c8 .as-int .ensures),
-    held (c7 .net-jumped .result) (c7 .net-jumped .ok) (c7 .net-jumped .ensures),
-    held (c6 .net-hooked-player .result) (c6 .net-hooked-player .ok) (c6 .net-hooked-player .ensures),
-    held (c5 .net-state .result) (c5 .net-state .ok) (c5 .net-state .ensures),
-    toZ-pos w32 (lt-of-le-of-lt (le-of-eq (c4 .tick .ensures)) (suc-le-suc (c17 .pre))) ∙ ap pos (c4 .tick .ensures),
-    held (c3 .round-to-i323 .result) (c3 .round-to-i323 .ok) (c3 .round-to-i323 .ensures ∙ ap (λ (p : vec2). roundToI32 (p .x)) (c15 .net-pos .ensures)),
-    held (c2 .round-to-i324 .result) (c2 .round-to-i324 .ok) (c2 .round-to-i324 .ensures ∙ ap (λ (p : vec2). roundToI32 (p .y)) (c15 .net-pos .ensures)),
-    held (c1 .to-256ths3 .result) (c1 .to-256ths3 .ok) (c1 .to-256ths3 .ensures ∙ ap (λ (p : vec2). to256ths (p .x)) (c14 .net-dir .ensures)),
-    held (c .to-256ths4 .result) (c .to-256ths4 .ok) (c .to-256ths4 .ensures ∙ ap (λ (p : vec2). to256ths (p .y)) (c14 .net-dir .ensures)))
+    rw (
+      held (c13 .round-to-i32 .result) (c13 .round-to-i32 .ok) (c13 .round-to-i32 .ensures),
+      held (c12 .round-to-i322 .result) (c12 .round-to-i322 .ok) (c12 .round-to-i322 .ensures),
+      held (c11 .to-256ths .result) (c11 .to-256ths .ok) (c11 .to-256ths .ensures),
+      held (c10 .to-256ths2 .result) (c10 .to-256ths2 .ok) (c10 .to-256ths2 .ensures),
+      held (c9 .to-net .result) (c9 .to-net .ok) (c9 .to-net .ensures),
+      held (c8 .as-int .result) (c8 .as-int .ok) (c8 .as-int .ensures),
+      held (c7 .net-jumped .result) (c7 .net-jumped .ok) (c7 .net-jumped .ensures),
+      held (c6 .net-hooked-player .result) (c6 .net-hooked-player .ok) (c6 .net-hooked-player .ensures),
+      held (c5 .net-state .result) (c5 .net-state .ok) (c5 .net-state .ensures),
+      toZ-pos w32 (lt-of-le-of-lt (le-of-eq (c4 .tick .ensures)) (suc-le-suc (c17 .pre))) ∙ ap pos (c4 .tick .ensures),
+      held (c3 .round-to-i323 .result) (c3 .round-to-i323 .ok) (c3 .round-to-i323 .ensures ∙ ap (λ (p : vec2). roundToI32 (p .x)) (c15 .net-pos .ensures)),
+      held (c2 .round-to-i324 .result) (c2 .round-to-i324 .ok) (c2 .round-to-i324 .ensures ∙ ap (λ (p : vec2). roundToI32 (p .y)) (c15 .net-pos .ensures)),
+      held (c1 .to-256ths3 .result) (c1 .to-256ths3 .ok) (c1 .to-256ths3 .ensures ∙ ap (λ (p : vec2). to256ths (p .x)) (c14 .net-dir .ensures)),
+      held (c .to-256ths4 .result) (c .to-256ths4 .ok) (c .to-256ths4 .ensures ∙ ap (λ (p : vec2). to256ths (p .y)) (c14 .net-dir .ensures)),
+    )
 
 pub core-of-spec : {M : Type 1} → statement M
 core-of-spec =

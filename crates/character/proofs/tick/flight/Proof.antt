@@ -2,7 +2,7 @@
 use borrow.Author.Needs.{needs}
 use Rattle.character.proofs.TooFar.{not-too-far}
 use Rattle.character.specs.Tick.{flight}
-use Rattle.hook.proofs.Cases.{not-flying}
+use Rattle.hook.proofs.Variants.{not-flying}
 use Rattle.character.proofs.tick.flight.Statement.{statement}
 use Rattle.character.proofs.tick.flight.Tie as tie
 

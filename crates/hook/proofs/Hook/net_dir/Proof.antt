@@ -1,6 +1,6 @@
 -- `hook::Hook::net_dir` meets its contract. Assumes nothing.
 use borrow.Author.Needs.{needs}
-use Rattle.hook.proofs.Cases.{not-flying}
+use Rattle.hook.proofs.Variants.{not-flying}
 use Rattle.hook.specs.Hook.{netDir}
 use Rattle.hook.proofs.Hook.net_dir.Statement.{statement}
 use Rattle.hook.proofs.Hook.net_dir.Tie as tie

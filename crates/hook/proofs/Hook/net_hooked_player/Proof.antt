@@ -3,7 +3,7 @@ use mathlib.Core.Path.{_∙_}
 use mir.Facts.{toZ-ofZ}
 use mir.Syntax.{w32}
 use borrow.Author.Needs.{needs}
-use Rattle.hook.proofs.Cases.{not-grabbed}
+use Rattle.hook.proofs.Variants.{not-grabbed}
 use Rattle.hook.specs.Hook.{netHookedPlayer}
 use Rattle.hook.proofs.Hook.net_hooked_player.Statement.{statement}
 use Rattle.hook.proofs.Hook.net_hooked_player.Tie as tie

@@ -1,6 +1,6 @@
 -- `hook::Hook::tick` meets its contract. Assumes nothing.
 use borrow.Author.Needs.{needs}
-use Rattle.hook.proofs.Cases.{not-grabbed}
+use Rattle.hook.proofs.Variants.{not-grabbed}
 use Rattle.hook.specs.Hook.{tickOf}
 use Rattle.hook.proofs.Hook.tick.Statement.{statement}
 use Rattle.hook.proofs.Hook.tick.Tie as tie
