@@ -1,8 +1,10 @@
 // Runs the recorded answers of the Rust for `to_net`, `from_net` and `quantize`, prints the lines that are answered otherwise, and
 // tells how many agree. rust/world/record_records prints the lines: s or r, a state, the number, a record, the state of the record.
-mod states;
+mod cores;
 
 use character::Character;
+use cores::core_of;
+use cores::is_core;
 use libc::STDIN_FILENO;
 use records::Net;
 use records::Quantized;
@@ -10,9 +12,7 @@ use records::from_net;
 use records::quantize;
 use records::to_net;
 use states::character_of;
-use states::core_of;
 use states::is_character;
-use states::is_core;
 use vectors::Counts;
 use vectors::Outcome;
 use vectors::word;

@@ -7,13 +7,12 @@ use tiles::Sides;
 use tiles::Tile;
 use vectors::Counts;
 use vectors::Outcome;
-use vectors::hex;
+use vectors::area;
+use vectors::byte;
 use vectors::is_point;
 use vectors::nth;
 use vectors::point;
-ghost use mathlib.Core.Path.{_≡_};
-ghost use Prim.Native.Nat.{_<_};
-ghost use lib.ListN.{length};
+use vectors::tiles_of;
 
 // The length of a line; where the sides, the tiles and the patterns begin in it.
 const LINE: usize = 172;
@@ -65,19 +64,6 @@ fn line_agrees(line: &[u8]) -> bool {
     )
 }
 
-// The number of two digits.
-fn byte(high: u8, low: u8) -> u32
-    ensures { λ r. ⌜ r < 256 ⌝ }
-{
-    hex(high) * 16 + hex(low)
-}
-
-fn area(width: u32, height: u32) -> usize
-    requires { ⌜ (width < 256) × (height < 256) ⌝ }
-{
-    (width * height) as usize
-}
-
 // The map's tiles are the first n of those that are lent.
 fn case_agrees(op: u8, sides: Sides, tiles: &[u8], n: usize, patterns: &[u8]) -> bool {
     if tiles.len() < n {
@@ -88,18 +74,6 @@ fn case_agrees(op: u8, sides: Sides, tiles: &[u8], n: usize, patterns: &[u8]) ->
     } else {
         box_case(sides, &tiles[0..n], patterns)
     }
-}
-
-fn tiles_of(digits: &[u8]) -> [u8; 64]
-    ensures { λ r. ⌜ 64 ≡ length r ⌝ }
-{
-    let mut tiles = [0u8; 64];
-    for i in 0..64usize {
-        if i < digits.len() {
-            tiles[i] = hex(digits[i]) as u8;
-        }
-    }
-    tiles
 }
 
 fn line_case(sides: Sides, tiles: &[u8], patterns: &[u8]) -> bool {

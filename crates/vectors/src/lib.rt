@@ -1,9 +1,13 @@
 // Reading recorded vectors: a pattern is 8 hexadecimal digits, and any not-a-number counts as any other.
 mod counts;
+mod map;
 
 use casts::cast_signed;
 pub use counts::Counts;
 pub use counts::Outcome;
+pub use map::area;
+pub use map::byte;
+pub use map::tiles_of;
 use vector::vec2;
 ghost use Prim.Native.Nat.{_<_};
 ghost use mathlib.Core.Path.{_≡_};
@@ -41,11 +45,16 @@ pub fn hex(byte: u8) -> u32
 
 // The word with the number k; each ends with a byte of its own.
 pub fn nth(words: &[u8], k: usize) -> u32 {
+    word(after(words, k))
+}
+
+// The words from the number k on.
+pub fn after(words: &[u8], k: usize) -> &[u8] {
     if k < words.len() / 9 {
         let start = k * 9;
-        return word(&words[start..]);
+        return &words[start..];
     }
-    0
+    &words[0..0]
 }
 
 // Any not-a-number counts as any other, so its pattern is not kept.

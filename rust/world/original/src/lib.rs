@@ -1,10 +1,10 @@
-//! `world` of libtw2 as published, and its characters as plain numbers.
+//! `world` of libtw2 as published but for document 01's stand-ins, and its characters as plain numbers.
 
 // What is included is not edited here, so its style is not judged either.
 #![allow(clippy::all)]
 
 mod state;
 
-pub use state::State;
+pub use state::{STATE_WORDS, State, hook_of};
 
-include!(concat!(env!("LIBTW2_SRC"), "/world/src/lib.rs"));
+include!(concat!(env!("OUT_DIR"), "/world.rs"));

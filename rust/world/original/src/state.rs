@@ -1,6 +1,9 @@
 //! All that a character holds. Its own fields are private to `world`.
 
-use crate::{Angle, Character, Hook, MoveDirection, vec2};
+use crate::{Angle, Character, CharacterId, Hook, MoveDirection, vec2};
+use reference::Bits;
+
+pub const STATE_WORDS: usize = 12;
 
 #[derive(Clone, Copy)]
 pub struct State {
@@ -13,6 +16,71 @@ pub struct State {
     pub angle: f32,
     /// 0 left, 1 none, 2 right.
     pub direction: u32,
+}
+
+impl State {
+    /// As words of 32 bits.
+    pub fn words(self) -> [u32; STATE_WORDS] {
+        let [x, y] = bits(self.pos);
+        let [vel_x, vel_y] = bits(self.vel);
+        let (case, [a, b, c, d]) = hook_words(self.hook);
+        let jumped = u32::from(self.jumped_already) + 2 * u32::from(self.used_airjump);
+        let angle = self.angle.to_pattern();
+        [
+            x,
+            y,
+            vel_x,
+            vel_y,
+            case,
+            a,
+            b,
+            c,
+            d,
+            jumped,
+            angle,
+            self.direction,
+        ]
+    }
+}
+
+/// The number of the hook's case, and what the case holds.
+fn hook_words(hook: Hook) -> (u32, [u32; 4]) {
+    let with_pos = |pos: vec2| {
+        let [x, y] = bits(pos);
+        [x, y, 0, 0]
+    };
+    match hook {
+        Hook::Retracted => (0, [0; 4]),
+        Hook::Idle => (1, [0; 4]),
+        Hook::Flying(pos, dir) => {
+            let ([x, y], [dx, dy]) = (bits(pos), bits(dir));
+            (2, [x, y, dx, dy])
+        }
+        Hook::Grabbed(id, tick) => (3, [id.0, tick, 0, 0]),
+        Hook::Attached(pos) => (4, with_pos(pos)),
+        Hook::Retracting0(pos) => (5, with_pos(pos)),
+        Hook::Retracting1(pos) => (6, with_pos(pos)),
+        Hook::Retracting2(pos) => (7, with_pos(pos)),
+    }
+}
+
+/// The hook whose case has that number, with as much of the rest as it holds.
+pub fn hook_of(case: u32, pos: vec2, dir: vec2, id: u32, tick: u32) -> Hook {
+    match case {
+        0 => Hook::Retracted,
+        1 => Hook::Idle,
+        2 => Hook::Flying(pos, dir),
+        3 => Hook::Grabbed(CharacterId(id), tick),
+        4 => Hook::Attached(pos),
+        5 => Hook::Retracting0(pos),
+        6 => Hook::Retracting1(pos),
+        7 => Hook::Retracting2(pos),
+        other => panic!("no hook has the number {other}"),
+    }
+}
+
+fn bits(pair: vec2) -> [u32; 2] {
+    [pair.x.to_pattern(), pair.y.to_pattern()]
 }
 
 impl From<State> for Character {

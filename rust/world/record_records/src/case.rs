@@ -1,8 +1,8 @@
 //! A state or a record, the answer of the original, and both as a line of text.
 
-use crate::words::{CORE_WORDS, STATE_WORDS, core_words, state_words};
+use crate::words::{CORE_WORDS, core_words};
 use libtw2_gamenet::snap_obj::CharacterCore;
-use original::{Character, Hook, State};
+use original::{Character, Hook, STATE_WORDS, State};
 
 const ACCEPTED: u32 = 0;
 const TICK_TOO_LARGE: u32 = 10;
@@ -20,14 +20,14 @@ impl Case {
         match *self {
             Case::State(state) if number(state) == ACCEPTED => {
                 let core = Character::from(state).to_net();
-                let after = state_words(quantized(state));
-                assert_eq!(after, state_words(from_net(core)));
-                line('s', state_words(state), ACCEPTED, core_words(core), after)
+                let after = quantized(state).words();
+                assert_eq!(after, from_net(core).words());
+                line('s', state.words(), ACCEPTED, core_words(core), after)
             }
-            Case::State(state) => line('s', state_words(state), number(state), no_core, no_state),
+            Case::State(state) => line('s', state.words(), number(state), no_core, no_state),
             Case::Record(core) => {
                 let after = from_net(core);
-                let words = state_words(after);
+                let words = after.words();
                 line('r', no_state, number(after), core_words(core), words)
             }
         }

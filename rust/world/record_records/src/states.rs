@@ -2,7 +2,7 @@
 
 use crate::case::Case;
 use crate::values::floats;
-use original::{CharacterId, Hook, State, vec2};
+use original::{CharacterId, Hook, State, hook_of, vec2};
 use reference::Xorshift;
 
 const HOOKS: u32 = 8;
@@ -108,23 +108,10 @@ fn state_from(tag: u32, small: u32, next: &mut impl FnMut() -> f32) -> State {
     State {
         pos,
         vel,
-        hook: hook_from(tag, hook_pos, hook_dir, small),
+        hook: hook_of(tag, hook_pos, hook_dir, small % 16, small % 61),
         jumped_already: small.is_multiple_of(2),
         used_airjump: (small / 2).is_multiple_of(2),
         angle: next(),
         direction: small / 4 % DIRECTIONS,
-    }
-}
-
-fn hook_from(tag: u32, pos: vec2, dir: vec2, small: u32) -> Hook {
-    match tag {
-        0 => Hook::Retracted,
-        1 => Hook::Idle,
-        2 => Hook::Flying(pos, dir),
-        3 => Hook::Grabbed(CharacterId(small % 16), small % 61),
-        4 => Hook::Attached(pos),
-        5 => Hook::Retracting0(pos),
-        6 => Hook::Retracting1(pos),
-        _ => Hook::Retracting2(pos),
     }
 }

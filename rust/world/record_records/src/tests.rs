@@ -2,7 +2,6 @@
 
 use crate::all_cases;
 use crate::case::{Case, from_net, number};
-use crate::words::state_words;
 use original::{Character, State};
 use std::panic::catch_unwind;
 
@@ -21,8 +20,8 @@ fn every_hook_is_given_and_made() {
     let (mut given, mut made) = (Vec::new(), Vec::new());
     for case in all_cases() {
         match case {
-            Case::State(state) => given.push(state_words(state)[HOOK]),
-            Case::Record(core) => made.push(state_words(from_net(core))[HOOK]),
+            Case::State(state) => given.push(state.words()[HOOK]),
+            Case::Record(core) => made.push(from_net(core).words()[HOOK]),
         }
     }
     for hook in 0..8 {
@@ -42,7 +41,7 @@ fn the_original_panics_where_a_tick_is_refused() {
 fn a_state_is_read_back_as_it_was() {
     for state in all_states() {
         let read = State::from(Character::from(state));
-        assert_eq!(state_words(read), state_words(state));
+        assert_eq!(read.words(), state.words());
     }
 }
 

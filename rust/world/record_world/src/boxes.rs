@@ -1,11 +1,11 @@
 //! Boxes for `move_box`.
 
 use crate::case::Case;
-use crate::draw::{between, pair_within, pick, solid_middle, somewhere, tile_edge};
 use crate::maps::{open_tile, pillar, solid_tile};
 use original::{Collision, vec2};
 use reference::Xorshift;
 use tile_map::Map;
+use tile_map::draw::{between, pair_within, pick, solid_middle, somewhere, tile_edge};
 
 type Kind = fn(&Map, &mut Xorshift) -> (vec2, vec2, vec2);
 

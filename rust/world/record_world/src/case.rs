@@ -1,14 +1,9 @@
 //! A call on a map, the answer of the original, and both as a line of text.
 
 use original::{Collision, CollisionType, vec2};
-use reference::{Bits, round_to_i32, trunc_to_i32};
+use reference::Bits;
 use tile_map::Map;
-
-/// A line of vectors has room for this many tiles.
-const MOST_TILES: usize = 64;
-
-/// A walk of more turns is refused.
-const MOST_TURNS: i64 = 65536;
+use tile_map::turns::{MOST_TURNS, box_turns, line_turns};
 
 const NOTHING: u32 = 0;
 const NORMAL: u32 = 1;
@@ -56,17 +51,10 @@ impl Case {
         }
     }
 
-    /// The turns that the walk is due, measured before it.
-    pub fn turns(&self) -> i64 {
+    fn turns(&self) -> i64 {
         match self.call {
-            Call::Line { from, to } => {
-                // This 1 is part of a float sum, so it may round up.
-                i64::from(trunc_to_i32(vec2::distance(from, to) + 1.0)).max(0)
-            }
-            Call::Box { vel, .. } if vel.length() > 0.00001 => {
-                i64::from(round_to_i32(vel.length())) + 1
-            }
-            Call::Box { .. } => 0,
+            Call::Line { from, to } => line_turns(from, to),
+            Call::Box { vel, .. } => box_turns(vel),
         }
     }
 
@@ -81,19 +69,7 @@ impl Case {
             .chain(self.answer())
             .map(|word| format!("{word:08x}"))
             .collect();
-        format!(
-            "{op} {:02x} {:02x} {} {}",
-            self.map.width,
-            self.map.height,
-            self.tile_digits(),
-            values.join(" ")
-        )
-    }
-
-    fn tile_digits(&self) -> String {
-        assert!(self.map.tiles.len() <= MOST_TILES);
-        let digits: String = self.map.tiles.iter().map(|t| format!("{t:x}")).collect();
-        format!("{digits:0<MOST_TILES$}")
+        format!("{op} {} {}", self.map.text(), values.join(" "))
     }
 }
 

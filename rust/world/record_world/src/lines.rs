@@ -1,11 +1,11 @@
 //! Lines for `check_line`.
 
 use crate::case::Case;
-use crate::draw::{below, between, pair_within, pick, solid_middle, somewhere, tile_edge};
 use crate::maps::{open_tile, pillar, solid_tile};
 use original::vec2;
 use reference::Xorshift;
 use tile_map::Map;
+use tile_map::draw::{below, between, pair_within, pick, solid_middle, somewhere, tile_edge};
 
 type Kind = fn(&Map, &mut Xorshift) -> (vec2, vec2);
 

@@ -3,7 +3,6 @@
 
 mod boxes;
 mod case;
-mod draw;
 mod lines;
 mod maps;
 #[cfg(test)]

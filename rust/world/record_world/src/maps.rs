@@ -1,8 +1,8 @@
 //! The maps on which the calls are recorded.
 
-use crate::draw::{below, pick};
 use reference::Xorshift;
 use tile_map::Map;
+use tile_map::draw::{below, pick};
 
 const SIZES: [(usize, usize); 9] = [
     (8, 8),

@@ -1,9 +1,15 @@
 //! A tile map by the point rule of document 01.
 
+pub mod draw;
+pub mod turns;
+
 use original::{Collision, CollisionType, vec2};
 use reference::round_to_i32;
 
 const TILE: i32 = 32;
+
+/// A line of vectors has room for this many tiles.
+const MOST_TILES: usize = 64;
 
 const NORMAL: u8 = 1;
 const UNHOOKABLE: u8 = 3;
@@ -44,6 +50,14 @@ impl Map {
     fn middle(&self, index: usize) -> vec2 {
         let along = |number: usize| number as f32 * TILE as f32 + TILE as f32 / 2.0;
         vec2::new(along(index % self.width), along(index / self.width))
+    }
+
+    /// Width, height and tiles in the digits of a line of vectors.
+    pub fn text(&self) -> String {
+        assert!(self.tiles.len() <= MOST_TILES);
+        let digits: String = self.tiles.iter().map(|t| format!("{t:x}")).collect();
+        let (width, height) = (self.width, self.height);
+        format!("{width:02x} {height:02x} {digits:0<MOST_TILES$}")
     }
 
     /// Width and height as the points count them.

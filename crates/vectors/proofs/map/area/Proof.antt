@@ -1,10 +1,10 @@
--- `tiles_vectors::area` is safe. Assumes nothing.
+-- `vectors::map::area` meets its contract. Assumes nothing.
 use Prim.Native.Nat.{_*_, _≤_}
 use native.Mathlib.Nat.{le-of-lt, le-trans, mul-le-mul-left, mul-le-mul-right}
 use native.Mathlib.Omega.{arith}
 use borrow.Author.Needs.{needs}
-use Rattle.tiles_vectors.proofs.area.Statement.{statement}
-use Rattle.tiles_vectors.proofs.area.Tie as tie
+use Rattle.vectors.proofs.map.area.Statement.{statement}
+use Rattle.vectors.proofs.map.area.Tie as tie
 
 product : (c : tie.Start) → c .args .width * c .args .height ≤ 256 * 256
 product c = le-trans (mul-le-mul-right (c .args .height) (le-of-lt (c .pre .0))) (mul-le-mul-left 256 (le-of-lt (c .pre .1)))

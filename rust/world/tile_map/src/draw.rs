@@ -1,8 +1,8 @@
 //! What the random cases are drawn with.
 
+use crate::Map;
 use original::vec2;
 use reference::Xorshift;
-use tile_map::Map;
 
 /// Points are drawn up to this far outside the map.
 const MARGIN: f32 = 40.0;

@@ -1,0 +1,22 @@
+-- `vectors::map::byte` meets its contract. Assumes nothing.
+use native.Mathlib.Omega.{arith}
+use Rattle.vectors.proofs.map.byte.Statement.{statement}
+use Rattle.vectors.proofs.map.byte.Tie as tie
+
+hex-requires : tie.Need-hex-requires
+hex-requires c κs = tt
+
+mul-result : tie.Need-mul-result
+mul-result c = omega arith
+
+hex-requires-2 : tie.Need-hex-requires-2
+hex-requires-2 c κs = tt
+
+add-result : tie.Need-add-result
+add-result c = omega arith
+
+returns : tie.Need-returns
+returns c = omega arith
+
+pub byte-spec : {M : Type 1} → statement M
+byte-spec = tie.close (tie.spec hex-requires mul-result hex-requires-2 add-result returns)
