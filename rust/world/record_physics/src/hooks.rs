@@ -13,6 +13,9 @@ use tile_map::draw::{below, between, pair_within, pick};
 
 const MIDDLE: vec2 = vec2 { x: 200.0, y: 50.0 };
 
+/// From here distances are kept to the last digit.
+const ORIGIN: vec2 = vec2 { x: 0.0, y: 0.0 };
+
 /// Others beside a hook's way are grabbed up to this distance.
 const SIDES: [f32; 7] = [0.0, 5.0, 27.9, 27.999998, 28.0, 28.000002, 28.1];
 
@@ -76,25 +79,25 @@ fn grabbed() -> Vec<Scene> {
     scenes
 }
 
-fn flying(pos: vec2, dir: vec2) -> State {
+fn flying(me: vec2, pos: vec2, dir: vec2) -> State {
     let hook = Hook::Flying(pos, dir);
-    State { hook, ..at(MIDDLE) }
+    State { hook, ..at(me) }
 }
 
 /// Before, beside and behind the way.
 fn beside_the_way() -> Vec<Scene> {
-    let start = MIDDLE + vec2::new(42.0, 0.0);
+    let start = ORIGIN + vec2::new(42.0, 0.0);
     let mut scenes = Vec::new();
     for side in SIDES {
         for along in [-20.0, 0.0, 50.0, 80.0, 100.0] {
             let other = at(start + vec2::new(along, side));
-            let scene = Scene::new(&open(), 2, flying(start, vec2::new(1.0, 0.0)));
+            let scene = Scene::new(&open(), 2, flying(ORIGIN, start, vec2::new(1.0, 0.0)));
             scenes.push(scene.with(9, other));
         }
     }
     for along in [-28.0, -27.999998, 107.99999, 108.0] {
         let other = at(start + vec2::new(along, 0.0));
-        let scene = Scene::new(&open(), 2, flying(start, vec2::new(1.0, 0.0)));
+        let scene = Scene::new(&open(), 2, flying(ORIGIN, start, vec2::new(1.0, 0.0)));
         scenes.push(scene.clone().with(9, other).tuned(PLAYER_HOOKING, 0));
         scenes.push(scene.with(9, other));
     }
@@ -108,7 +111,7 @@ fn equally_far() -> Vec<Scene> {
     let mut scenes = Vec::new();
     for first in offsets {
         for second in offsets {
-            let me = flying(start, vec2::new(0.0, -1.0));
+            let me = flying(MIDDLE, start, vec2::new(0.0, -1.0));
             let beside = |(x, y)| at(start + vec2::new(x, y));
             let scene = Scene::new(&open(), 6, me).with(1, beside(first));
             scenes.push(scene.clone().with(4, beside(second)));
@@ -123,7 +126,7 @@ fn among_many(random: &mut Xorshift) -> Vec<Scene> {
     for _ in 0..30 {
         let dir = pair_within(random, 1.0).normalize();
         let start = MIDDLE + dir * between(random, 0.0, 200.0);
-        let mut scene = Scene::new(&open(), below(random, SEATS), flying(start, dir));
+        let mut scene = Scene::new(&open(), below(random, SEATS), flying(MIDDLE, start, dir));
         for _ in 0..1 + below(random, 12) {
             let along = between(random, -40.0, 120.0);
             let side = vec2::new(-dir.y, dir.x) * random.within(40.0);
@@ -140,12 +143,12 @@ fn at_the_length() -> Vec<Scene> {
     for map in [open(), floor()] {
         for distance in [299.9, 300.0, 300.00003, 300.1, 379.0, 380.0, 500.0] {
             let right = vec2::new(1.0, 0.0);
-            let me = flying(MIDDLE + right * distance, right);
+            let me = flying(MIDDLE, MIDDLE + right * distance, right);
             scenes.push(Scene::new(&map, 0, me));
         }
         for distance in [30.0, 50.0, 100.0, 300.0, 400.0] {
             let down = vec2::new(0.0, 1.0);
-            let me = flying(MIDDLE + down * distance, down);
+            let me = flying(MIDDLE, MIDDLE + down * distance, down);
             let scene = Scene::new(&map, 0, me);
             scenes.push(scene.clone().tuned(HOOK_LENGTH, 4600));
             scenes.push(scene.tuned(HOOK_LENGTH, 4700));
@@ -187,7 +190,7 @@ fn without_a_way() -> Vec<Scene> {
             (start, vec2::new(f32::INFINITY, 0.0)),
             (MIDDLE, vec2::new(1e-30, 0.0)),
         ] {
-            let scene = Scene::new(&map, 4, flying(pos, dir)).with(8, at(start));
+            let scene = Scene::new(&map, 4, flying(MIDDLE, pos, dir)).with(8, at(start));
             scenes.push(scene.clone().tuned(HOOK_FIRE_SPEED, 0));
             scenes.push(scene.clone().tuned(HOOK_LENGTH, 0));
             scenes.push(scene);
@@ -204,10 +207,10 @@ fn attached(random: &mut Xorshift) -> Vec<Scene> {
         for (x, y) in ways {
             let me = State {
                 vel: pick(random, &[0.0, 8.0, 14.9, 20.0].map(|x| vec2::new(-x, x))),
-                hook: Hook::Attached(MIDDLE + vec2::new(x, y) * distance),
-                ..at(MIDDLE)
+                hook: Hook::Attached(ORIGIN + vec2::new(x, y) * distance),
+                ..at(ORIGIN)
             };
-            let scene = Scene::new(&open(), 11, me).with(10, at(MIDDLE + vec2::new(30.0, 0.0)));
+            let scene = Scene::new(&open(), 11, me).with(10, at(ORIGIN + vec2::new(30.0, 0.0)));
             let input = PlayerInput {
                 direction: pick(random, &[-1, 0, 1]),
                 ..scene.input
@@ -237,11 +240,8 @@ fn at_the_drag_speed() -> Vec<Scene> {
 fn refused() -> Vec<Scene> {
     let mut scenes = Vec::new();
     for length in [0x477f_fffe, 0x477f_ffff, 0x4780_0000].map(f32::from_bits) {
-        for start in [vec2::default(), vec2::new(0.0, length)] {
-            let me = State {
-                pos: vec2::default(),
-                ..flying(start, vec2::new(length / 80.0, 0.0))
-            };
+        for start in [ORIGIN, vec2::new(0.0, length)] {
+            let me = flying(ORIGIN, start, vec2::new(length / 80.0, 0.0));
             let scene = Scene::new(&open(), 1, me).tuned(HOOK_LENGTH, i32::MAX);
             scenes.push(scene.clone().with(0, at(vec2::new(5.0, 5.0))));
             // A way that is cut to the hook's length from far behind.

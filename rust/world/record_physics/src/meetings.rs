@@ -13,6 +13,9 @@ use tile_map::draw::pair_within;
 
 const MIDDLE: vec2 = vec2 { x: 80.0, y: 40.0 };
 
+/// From here distances are kept to the last digit.
+const ORIGIN: vec2 = vec2 { x: 0.0, y: 0.0 };
+
 /// The same place, nearly so, and about 28, 35 and 42.
 const DISTANCES: [f32; 16] = [
     0.0, 1e-30, 0.001, 1.0, 27.9, 28.0, 28.1, 34.9, 34.999996, 35.0, 35.000004, 40.6, 41.9, 42.0,
@@ -38,9 +41,9 @@ fn one_other() -> Vec<Scene> {
             let me = State {
                 vel: vec2::new(x, y),
                 hook: Hook::Grabbed(CharacterId(14), 20),
-                ..at(MIDDLE)
+                ..at(ORIGIN)
             };
-            let other = at(MIDDLE + vec2::new(way.0, way.1) * distance);
+            let other = at(ORIGIN + vec2::new(way.0, way.1) * distance);
             scenes.push(Scene::new(&open(), 13, me).with(14, other));
         }
     }
