@@ -1,0 +1,14 @@
+use mathlib.Core.Path.{refl}
+use Rattle.world.specs.World.{freshTunings}
+use Rattle.calls.proofs.fresh_tunings.Statement.{statement}
+use Rattle.calls.proofs.fresh_tunings.Tie as tie
+use Rattle.calls.proofs.fresh_tunings.Reads as reads
+use Rattle.calls.proofs.fresh_tunings.Lts as lts
+
+-- src/lib.rt:33:1
+returns : tie.Need-returns
+unfolding freshTunings
+returns c = refl
+
+pub fresh-tunings-spec : {M : Type 1} → statement M
+fresh-tunings-spec = tie.close (tie.spec returns)

@@ -1,0 +1,67 @@
+-- Join, leave, input and tune on a world of n slots, with the numbers of document 01's refusals. Definitions only.
+use Prim.Native.Nat.{ℕ}
+use mathlib.Core.Bool.{Bool, true, cond, _&&_}
+use mathlib.Core.List.{List}
+use lib.Dec.{leb, ltb}
+use lib.IntN.{ℤ, pos, negsuc, natAbs}
+use Rattle.float.specs.Convert.{i32ToF32}
+use Rattle.vector.specs.Vec2.{vnew}
+use Rattle.vector.specs.declared.vec2.{vec2}
+use Rattle.tiles.specs.Map.{isMap}
+use Rattle.tiles.specs.declared.Sides.{Sides}
+use Rattle.boxes.specs.Box.{checkBox, characterBox}
+use Rattle.snap_obj.specs.declared.PlayerInput.{PlayerInput}
+use Rattle.character.specs.Character.{spawn}
+use Rattle.character.specs.Tick.{slotAt}
+use Rattle.world.specs.World.{noInput, emptySlot, tuningCount, withSlot, withTuning}
+use Rattle.world.specs.declared.Answer.{Answer}
+use Rattle.world.specs.declared.World.{World}
+
+-- a refusal's number, and the world as it was
+abbrev pub refused : World → ℕ → Answer
+refused w k = record { number = k; world = w }
+
+abbrev pub accepted : World → Answer
+accepted w = record { number = 0; world = w }
+
+-- which of n places z names; n where it names none
+unfoldable pub placeOf : ℕ → ℤ → ℕ
+placeOf n (pos k) = cond (ltb k n) k n
+placeOf n (negsuc k) = n
+
+-- from -100,000 to 100,000
+unfoldable pub inReach : ℤ → Bool
+inReach z = leb (natAbs z) 100000
+
+-- whole coordinates as a pair of floats
+unfoldable pub pointOf : ℤ → ℤ → vec2
+pointOf x y = vnew (i32ToF32 x) (i32ToF32 y)
+
+-- join of a seat at a point: 5 where the box isn't clear, 7 where somebody is there
+unfoldable pub joinAt : World → Sides → List ℕ → ℕ → vec2 → Answer
+joinAt w s ts k p =
+    cond (checkBox s ts p characterBox) (refused w 5)
+    (cond (slotAt (w .slots) k .present) (refused w 7) (accepted (withSlot w k (record { present = true; character = spawn p; input = noInput }))))
+
+-- 1 where the map is none, 2 where the id has no slot, 4 where x or y is out of reach
+unfoldable pub join : ℕ → World → Sides → List ℕ → ℤ → ℤ → ℤ → Answer
+join n w s ts id x y =
+    cond (isMap s ts)
+    (cond (ltb (placeOf n id) n) (cond (inReach x && inReach y) (joinAt w s ts (placeOf n id) (pointOf x y)) (refused w 4)) (refused w 2))
+    (refused w 1)
+
+-- what leave and input do at a seat: 8 where nobody is there
+abbrev pub ifPresent : World → ℕ → World → Answer
+ifPresent w k next = cond (slotAt (w .slots) k .present) (accepted next) (refused w 8)
+
+-- its slot is again as every fresh one; hooks that hold it are not touched
+unfoldable pub leave : ℕ → World → ℤ → Answer
+leave n w id = let k = placeOf n id in cond (ltb k n) (ifPresent w k (withSlot w k emptySlot)) (refused w 2)
+
+-- stored
+unfoldable pub input : ℕ → World → ℤ → PlayerInput → Answer
+input n w id i = let k = placeOf n id in cond (ltb k n) (ifPresent w k (withSlot w k (record { present = true; character = slotAt (w .slots) k .character; input = i }))) (refused w 2)
+
+-- any i32; 3 where the index has no tuning
+unfoldable pub tune : World → ℤ → ℤ → Answer
+tune w index z = let k = placeOf tuningCount index in cond (ltb k tuningCount) (accepted (withTuning w k z)) (refused w 3)

@@ -1,0 +1,90 @@
+-- Step on a world of n slots. Definitions only.
+use Prim.Native.Nat.{ℕ}
+use mathlib.Core.Bool.{Bool, true, false, cond}
+use mathlib.Core.List.{List}
+use lib.Dec.{eqb}
+use lib.IntN.{pos}
+use lib.ListN.{set, replicate}
+use Rattle.turns.specs.Turns.{Turn, more, stop, next, run}
+use Rattle.tiles.specs.Map.{isMap}
+use Rattle.tiles.specs.declared.Sides.{Sides}
+use Rattle.tuning.specs.Tuning.{tuningOf}
+use Rattle.tuning.specs.declared.Tuning.{Tuning}
+use Rattle.snap_obj.specs.declared.CharacterCore.{CharacterCore}
+use Rattle.character.specs.Tick.{slotAt, withCharacter, tickAt}
+use Rattle.character.specs.Walk.{moveAt, moveNumber}
+use Rattle.character.specs.declared.Character.{Character}
+use Rattle.character.specs.declared.Slot.{Slot}
+use Rattle.character.specs.declared.tick.Ticked.{Ticked}
+use Rattle.character.specs.declared.walk.Moved.{Moved}
+use Rattle.character.specs.declared.walk.Moved.the-variants as moved
+use Rattle.records.specs.Records.{toNet, fromNet}
+use Rattle.records.specs.declared.Net.{Net}
+use Rattle.records.specs.declared.Net.the-variants as net
+use Rattle.world.specs.declared.Published.{Published}
+use Rattle.world.specs.declared.Stepped.{Stepped}
+use Rattle.world.specs.declared.World.{World}
+
+-- ---- every present id by rising id ticks
+
+-- the slots after the tick of the id j, or the number that refuses it
+abbrev pub afterTick : ℕ → Ticked → Turn (List Slot) ℕ
+afterTick j k = cond (eqb (k .number) 0) (more (set (k .slots) j (withCharacter (slotAt (k .slots) j) (k .me)))) (stop (k .number))
+
+abbrev pub tickTurn : ℕ → Sides → List ℕ → Tuning → ℕ → List Slot → Turn (List Slot) ℕ
+tickTurn n s ts t j ss = cond (slotAt ss j .present) (afterTick j (tickAt n (slotAt ss j .character) j ss s ts (slotAt ss j .input) t)) (more ss)
+
+unfoldable pub tickAll : ℕ → List Slot → Sides → List ℕ → Tuning → Turn (List Slot) ℕ
+tickAll n ss s ts t = run (tickTurn n s ts t) n 0 ss
+
+-- ---- then by rising id each moves and is quantized
+
+-- the slots, and the records that are published so far
+pub record Moving : Type 0 where
+  pub slots : List Slot
+  pub records : List Published
+
+-- no record: for a seat where nobody is
+abbrev pub noCore : CharacterCore
+noCore = record { tick = pos 0; x = pos 0; y = pos 0; «vel_x» = pos 0; «vel_y» = pos 0; angle = pos 0; direction = pos 0; jumped = pos 0; «hooked_player» = pos 0; «hook_state» = pos 0; «hook_tick» = record { 0 = pos 0 }; «hook_x» = pos 0; «hook_y» = pos 0; «hook_dx» = pos 0; «hook_dy» = pos 0 }
+
+abbrev pub unpublished : Published
+unpublished = record { present = false; core = noCore }
+
+-- the record of what the move left of j is published, and j is what the record reads as
+abbrev pub publish : Moving → ℕ → Net → Turn Moving ℕ
+publish m j net.TickTooLarge = stop 10
+publish m j (net.Core core) = more (record { slots = set (m .slots) j (withCharacter (slotAt (m .slots) j) (fromNet core)); records = set (m .records) j (record { present = true; core = core }) })
+
+abbrev pub afterMove : Moving → ℕ → Moved → Turn Moving ℕ
+afterMove m j moved.BadMap = stop (moveNumber moved.BadMap)
+afterMove m j moved.BadId = stop (moveNumber moved.BadId)
+afterMove m j moved.TooFar = stop (moveNumber moved.TooFar)
+afterMove m j (moved.To c) = publish m j (toNet c)
+
+-- what `move_` gives the id j among the slots as they stand
+abbrev pub moveIn : ℕ → Sides → List ℕ → Tuning → List Slot → ℕ → Moved
+moveIn n s ts t ss j = moveAt n (slotAt ss j .character) j ss s ts t
+
+abbrev pub moveTurn : ℕ → Sides → List ℕ → Tuning → ℕ → Moving → Turn Moving ℕ
+moveTurn n s ts t j m = cond (slotAt (m .slots) j .present) (afterMove m j (moveIn n s ts t (m .slots) j)) (more m)
+
+unfoldable pub moveAll : ℕ → List Slot → Sides → List ℕ → Tuning → Turn Moving ℕ
+moveAll n ss s ts t = run (moveTurn n s ts t) n 0 (record { slots = ss; records = replicate n unpublished })
+
+-- ---- both, on a map that is one
+
+-- a refusal anywhere in a step gives the world as it was, and no record
+abbrev pub stepRefused : ℕ → World → ℕ → Stepped
+stepRefused n w k = record { number = k; world = w; records = replicate n unpublished }
+
+abbrev pub stepAnswer : ℕ → World → Turn Moving ℕ → Stepped
+stepAnswer n w (stop k) = stepRefused n w k
+stepAnswer n w (more m) = record { number = 0; world = record { slots = m .slots; tunings = w .tunings }; records = m .records }
+
+unfoldable pub stepOn : ℕ → World → Sides → List ℕ → Stepped
+stepOn n w s ts = let t = tuningOf (w .tunings) in stepAnswer n w (next (λ ss. moveAll n ss s ts t) (tickAll n (w .slots) s ts t))
+
+-- refused with 1 where the map is none
+unfoldable pub step : ℕ → World → Sides → List ℕ → Stepped
+step n w s ts = cond (isMap s ts) (stepOn n w s ts) (stepRefused n w 1)

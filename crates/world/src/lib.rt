@@ -1,0 +1,29 @@
+// The world of document 01: the slots and the tunings, what its calls answer, and the demand on all of them. Types only; the rules stand in specs/.
+use character::SEATS;
+use character::Slot;
+use snap_obj::CharacterCore;
+use tuning::TUNINGS;
+
+pub struct World {
+    pub slots: [Slot; SEATS],
+    pub tunings: [i32; TUNINGS],
+}
+
+// What join, leave, input and tune answer: 0 and the next world, or a refusal's number and the world as it was.
+pub struct Answer {
+    pub number: u32,
+    pub world: World,
+}
+
+// The record of a seat, where somebody is there.
+pub struct Published {
+    pub present: bool,
+    pub core: CharacterCore,
+}
+
+// What step answers: the records too.
+pub struct Stepped {
+    pub number: u32,
+    pub world: World,
+    pub records: [Published; SEATS],
+}
