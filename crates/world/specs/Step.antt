@@ -18,10 +18,12 @@ use Rattle.character.specs.declared.Slot.{Slot}
 use Rattle.character.specs.declared.tick.Ticked.{Ticked}
 use Rattle.character.specs.declared.walk.Moved.{Moved}
 use Rattle.character.specs.declared.walk.Moved.the-variants as moved
-use Rattle.records.specs.Records.{toNet, fromNet}
+use Rattle.records.specs.Records.{toNet, fromNet, netNumber}
 use Rattle.records.specs.declared.Net.{Net}
 use Rattle.records.specs.declared.Net.the-variants as net
 use Rattle.world.specs.declared.Published.{Published}
+use Rattle.world.specs.declared.Recorded.{Recorded}
+use Rattle.world.specs.declared.Recorded.the-variants.{Refused, Core}
 use Rattle.world.specs.declared.Stepped.{Stepped}
 use Rattle.world.specs.declared.World.{World}
 
@@ -51,26 +53,35 @@ noCore = record { tick = pos 0; x = pos 0; y = pos 0; «vel_x» = pos 0; «vel_y
 abbrev pub unpublished : Published
 unpublished = record { present = false; core = noCore }
 
--- the record of what the move left of j is published, and j is what the record reads as
-abbrev pub publish : Moving → ℕ → Net → Turn Moving ℕ
-publish m j net.TickTooLarge = stop 10
-publish m j (net.Core core) = more (record { slots = set (m .slots) j (withCharacter (slotAt (m .slots) j) (fromNet core)); records = set (m .records) j (record { present = true; core = core }) })
+abbrev pub ofNet : Net → Recorded
+ofNet net.TickTooLarge = Refused (netNumber net.TickTooLarge)
+ofNet (net.Core core) = Core core
 
-abbrev pub afterMove : Moving → ℕ → Moved → Turn Moving ℕ
-afterMove m j moved.BadMap = stop (moveNumber moved.BadMap)
-afterMove m j moved.BadId = stop (moveNumber moved.BadId)
-afterMove m j moved.TooFar = stop (moveNumber moved.TooFar)
-afterMove m j (moved.To c) = publish m j (toNet c)
+-- the record of what a move left, or the number that refuses it
+unfoldable pub recordOf : Moved → Recorded
+recordOf moved.BadMap = Refused (moveNumber moved.BadMap)
+recordOf moved.BadId = Refused (moveNumber moved.BadId)
+recordOf moved.TooFar = Refused (moveNumber moved.TooFar)
+recordOf (moved.To c) = ofNet (toNet c)
+
+-- the record is published, and the id j is what it reads as
+abbrev pub publish : Moving → ℕ → Recorded → Turn Moving ℕ
+publish m j (Refused k) = stop k
+publish m j (Core core) = more (record { slots = set (m .slots) j (withCharacter (slotAt (m .slots) j) (fromNet core)); records = set (m .records) j (record { present = true; core = core }) })
 
 -- what `move_` gives the id j among the slots as they stand
 abbrev pub moveIn : ℕ → Sides → List ℕ → Tuning → List Slot → ℕ → Moved
 moveIn n s ts t ss j = moveAt n (slotAt ss j .character) j ss s ts t
 
 abbrev pub moveTurn : ℕ → Sides → List ℕ → Tuning → ℕ → Moving → Turn Moving ℕ
-moveTurn n s ts t j m = cond (slotAt (m .slots) j .present) (afterMove m j (moveIn n s ts t (m .slots) j)) (more m)
+moveTurn n s ts t j m = cond (slotAt (m .slots) j .present) (publish m j (recordOf (moveIn n s ts t (m .slots) j))) (more m)
+
+-- nothing is published yet
+abbrev pub movingFrom : ℕ → List Slot → Moving
+movingFrom n ss = record { slots = ss; records = replicate n unpublished }
 
 unfoldable pub moveAll : ℕ → List Slot → Sides → List ℕ → Tuning → Turn Moving ℕ
-moveAll n ss s ts t = run (moveTurn n s ts t) n 0 (record { slots = ss; records = replicate n unpublished })
+moveAll n ss s ts t = run (moveTurn n s ts t) n 0 (movingFrom n ss)
 
 -- ---- both, on a map that is one
 

@@ -21,6 +21,12 @@ pub struct Published {
     pub core: CharacterCore,
 }
 
+// What becomes of a move: the record of what it left, or the number that refuses it.
+pub enum Recorded {
+    Refused(u32),
+    Core(CharacterCore),
+}
+
 // What step answers: the records too.
 pub struct Stepped {
     pub number: u32,

@@ -1,11 +1,9 @@
+-- `calls::fresh_tunings` meets its contract. Assumes nothing.
 use mathlib.Core.Path.{refl}
 use Rattle.world.specs.World.{freshTunings}
 use Rattle.calls.proofs.fresh_tunings.Statement.{statement}
 use Rattle.calls.proofs.fresh_tunings.Tie as tie
-use Rattle.calls.proofs.fresh_tunings.Reads as reads
-use Rattle.calls.proofs.fresh_tunings.Lts as lts
 
--- src/lib.rt:33:1
 returns : tie.Need-returns
 unfolding freshTunings
 returns c = refl

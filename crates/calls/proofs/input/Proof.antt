@@ -1,17 +1,12 @@
+-- `calls::input` meets its contract. Assumes nothing.
 use Rattle.character.specs.Tick.{seats}
 use borrow.Author.Tests.{lt-ltb, le-ltb}
 use mir.Facts.{toZ-ofZ}
-use mathlib.Core.Path.{_≡_, refl, sym, ap, _∙_}
+use mathlib.Core.Path.{_≡_, ap, _∙_}
 use Rattle.world.specs.Calls.{placeOf, input}
 use borrow.Author.Needs.{needs}
 use Rattle.calls.proofs.input.Statement.{statement}
 use Rattle.calls.proofs.input.Tie as tie
-use Rattle.calls.proofs.input.Reads as reads
-use Rattle.calls.proofs.input.Lts as lts
-use Rattle.calls.proofs.accepted.Reads as accepted-reads
-use Rattle.calls.proofs.place_of.Reads as place-of-reads
-use Rattle.calls.proofs.refused.Reads as refused-reads
-use Rattle.calls.proofs.with_slot.Reads as with-slot-reads
 
 place-of-requires : tie.Need-place-of-requires
 place-of-requires c κs = search needs

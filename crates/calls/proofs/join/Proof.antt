@@ -1,22 +1,14 @@
+-- `calls::join` meets its contract. Assumes nothing.
 use mathlib.Core.Logic.{⊎-elim}
 use lib.Dec.{T}
 use Rattle.character.specs.Tick.{seats}
 use borrow.Author.Tests.{lt-ltb, le-ltb}
 use mir.Facts.{toZ-ofZ}
-use mathlib.Core.Path.{_≡_, refl, sym, ap, _∙_, subst}
+use mathlib.Core.Path.{_≡_, sym, ap, _∙_, subst}
 use Rattle.world.specs.Calls.{placeOf, inReach, pointOf, join}
 use borrow.Author.Needs.{needs}
 use Rattle.calls.proofs.join.Statement.{statement}
 use Rattle.calls.proofs.join.Tie as tie
-use Rattle.calls.proofs.join.Reads as reads
-use Rattle.calls.proofs.join.Lts as lts
-use Rattle.calls.proofs.in_reach.Reads as in-reach-reads
-use Rattle.calls.proofs.join_at.Reads as join-at-reads
-use Rattle.calls.proofs.place_of.Reads as place-of-reads
-use Rattle.calls.proofs.refused.Reads as refused-reads
-use Rattle.float.proofs.i32_to_f32.Reads as i32-to-f32-reads
-use Rattle.tiles.proofs.is_map.Reads as is-map-reads
-use Rattle.vector.proofs.vec2.new.Reads as new-reads
 
 is-map-requires : tie.Need-is-map-requires
 is-map-requires c κs = search needs
@@ -62,8 +54,8 @@ returns-2 c =
     let x : c .before .before .in-reach .result ≡ inReach (a .args .x) = c .before .before .in-reach .ensures ∙ ap inReach (toZ-ofZ (a .fits .x)) in
     ⊎-elim
     (λ w.
-      let y : _ ≡ inReach (a .args .y) = w .1 .ensures ∙ ap inReach (toZ-ofZ (a .fits .y)) in
-      simp (← c .before .before .before .before .before .before .is-map .ensures, c .before .before .before .before .before .if1 .taken, ← p, lt-ltb _ _ (c .before .before .before .if2 .taken), ← x, w .0 .taken, ← y, w .2 .left, ← c .refused .ensures))
+    let y : _ ≡ inReach (a .args .y) = w .1 .ensures ∙ ap inReach (toZ-ofZ (a .fits .y)) in
+    simp (← c .before .before .before .before .before .before .is-map .ensures, c .before .before .before .before .before .if1 .taken, ← p, lt-ltb _ _ (c .before .before .before .if2 .taken), ← x, w .0 .taken, ← y, w .2 .left, ← c .refused .ensures))
     (λ w. simp (← c .before .before .before .before .before .before .is-map .ensures, c .before .before .before .before .before .if1 .taken, ← p, lt-ltb _ _ (c .before .before .before .if2 .taken), ← x, w .left, ← c .refused .ensures))
     (c .before .if3 .came)
 

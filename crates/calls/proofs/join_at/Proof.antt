@@ -1,16 +1,8 @@
+-- `calls::join_at` meets its contract. Assumes nothing.
 use Rattle.world.specs.Calls.{joinAt}
 use borrow.Author.Needs.{needs}
 use Rattle.calls.proofs.join_at.Statement.{statement}
 use Rattle.calls.proofs.join_at.Tie as tie
-use Rattle.calls.proofs.join_at.Reads as reads
-use Rattle.calls.proofs.join_at.Lts as lts
-use Rattle.boxes.proofs.check_box.Reads as check-box-reads
-use Rattle.calls.proofs.accepted.Reads as accepted-reads
-use Rattle.calls.proofs.no_input.Reads as no-input-reads
-use Rattle.calls.proofs.refused.Reads as refused-reads
-use Rattle.calls.proofs.with_slot.Reads as with-slot-reads
-use Rattle.character.proofs.Character.spawn.Reads as spawn-reads
-use Rattle.vector.proofs.vec2.new.Reads as new-reads
 
 new-requires : tie.Need-new-requires
 new-requires c κs = search needs

@@ -1,3 +1,4 @@
+-- `calls::tune` meets its contract. Assumes nothing.
 use mathlib.Core.Path.{_≡_, ap, _∙_}
 use mir.Facts.{toZ-ofZ}
 use Rattle.world.specs.World.{tuningCount}
@@ -6,11 +7,6 @@ use borrow.Author.Needs.{needs}
 use borrow.Author.Tests.{lt-ltb, le-ltb}
 use Rattle.calls.proofs.tune.Statement.{statement}
 use Rattle.calls.proofs.tune.Tie as tie
-use Rattle.calls.proofs.tune.Reads as reads
-use Rattle.calls.proofs.tune.Lts as lts
-use Rattle.calls.proofs.accepted.Reads as accepted-reads
-use Rattle.calls.proofs.place_of.Reads as place-of-reads
-use Rattle.calls.proofs.refused.Reads as refused-reads
 
 place-of-requires : tie.Need-place-of-requires
 place-of-requires c κs = search needs
