@@ -1,6 +1,7 @@
 //! Random characters in numbers from two to sixteen.
 
-use crate::scene::{SEATS, Scene};
+use crate::scene::Scene;
+use harness::SEATS;
 use libtw2_gamenet::snap_obj::PlayerInput;
 use original::{State, hook_of};
 use reference::Xorshift;

@@ -3,9 +3,10 @@
 use crate::case::Case;
 use crate::crowd::crowd;
 use crate::maps::{all, open};
-use crate::scene::{
-    HOOK_DRAG_ACCEL, HOOK_DRAG_SPEED, HOOK_LENGTH, PLAYER_COLLISION, PLAYER_HOOKING, SEATS, Scene,
-    at,
+use crate::scene::{Scene, at};
+use harness::SEATS;
+use harness::tunings::{
+    HOOK_DRAG_ACCEL, HOOK_DRAG_SPEED, HOOK_LENGTH, PLAYER_COLLISION, PLAYER_HOOKING,
 };
 use original::{CharacterId, Hook, State, vec2};
 use reference::Xorshift;

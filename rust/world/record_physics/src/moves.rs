@@ -3,7 +3,9 @@
 use crate::case::Case;
 use crate::crowd::crowd;
 use crate::maps::{all, open, room};
-use crate::scene::{PLAYER_COLLISION, RAMP_CURVATURE, RAMP_RANGE, RAMP_START, SEATS, Scene, at};
+use crate::scene::{Scene, at};
+use harness::SEATS;
+use harness::tunings::{PLAYER_COLLISION, RAMP_CURVATURE, RAMP_RANGE, RAMP_START};
 use original::{State, vec2};
 use reference::Xorshift;
 use tile_map::draw::{below, between, pair_within, pick};

@@ -3,7 +3,9 @@
 use crate::case::Case;
 use crate::crowd::crowd;
 use crate::maps::{all, floor, open};
-use crate::scene::{AIR_FRICTION, GRAVITY, SEATS, Scene, TUNINGS, at};
+use crate::scene::{Scene, at};
+use harness::SEATS;
+use harness::tunings::{AIR_FRICTION, GRAVITY, TUNINGS};
 use libtw2_gamenet::snap_obj::PlayerInput;
 use original::{State, vec2};
 use reference::Xorshift;

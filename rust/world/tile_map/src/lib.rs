@@ -66,7 +66,7 @@ impl Map {
     }
 }
 
-impl Collision for Map {
+impl Collision for &Map {
     #[inline]
     fn check_point(&mut self, pos: vec2) -> Option<CollisionType> {
         let column = tile_number(pos.x, self.width);
