@@ -1,7 +1,7 @@
 //! The example of document 01, the order among refusals, and that a refused call changes nothing.
 
 use crate::tunings::{HOOK_FIRE_SPEED, HOOK_LENGTH, ORDINARY};
-use crate::{Refusal, SEATS, World};
+use crate::{Call, Refusal, SEATS, World};
 use libtw2_gamenet::snap_obj::PlayerInput;
 use original::{State, core_numbers, input_numbers};
 use tile_map::Map;
@@ -139,4 +139,28 @@ fn a_step_too_far_gives_the_old_world_back() {
     let before = numbers(&world);
     assert_eq!(world.step(&open()).err(), Some(Refusal::TooFar));
     assert_eq!(numbers(&world), before);
+}
+
+#[test]
+fn numbers_are_read_as_the_call_that_gave_them() {
+    let texts = [
+        [1, 2, 3, 4, 0, 0, 0],
+        [2, 3, 0, 0, 0, 0, 0],
+        [3, 4, 5, 6, 7, 8, 9],
+        [4, 0, 0, 0, 0, 0, 0],
+        [5, 6, 7, 0, 0, 0, 0],
+    ];
+    for numbers in texts {
+        let call = Call::from_numbers(numbers).expect("a call");
+        assert_eq!(call.numbers(), numbers);
+        for spare in (1..7).filter(|&place| numbers[place] == 0) {
+            let mut wrong = numbers;
+            wrong[spare] = -1;
+            assert_eq!(Call::from_numbers(wrong).err(), Some(Refusal::Text));
+        }
+    }
+    for code in [0, 6, -1] {
+        let wrong = Call::from_numbers([code, 0, 0, 0, 0, 0, 0]);
+        assert_eq!(wrong.err(), Some(Refusal::Text));
+    }
 }

@@ -1,5 +1,6 @@
 //! The world and its five calls. A refused call leaves it as it was.
 
+use crate::call::Call;
 use crate::physics::{moved, ticked};
 use crate::refusal::Refusal;
 use crate::slot::{SEATS, Slot, Slots};
@@ -15,6 +16,9 @@ const FARTHEST: i32 = 100_000;
 /// The record of each id that was present.
 pub type Published = [Option<CharacterCore>; SEATS];
 
+/// What every call but a step publishes, and a step with nobody.
+pub const NOTHING: Published = [None; SEATS];
+
 #[derive(Clone)]
 pub struct World {
     pub slots: Slots,
@@ -29,16 +33,25 @@ impl World {
         }
     }
 
-    pub fn join(&mut self, mut map: &Map, id: i32, x: i32, y: i32) -> Result<(), Refusal> {
+    pub fn call(&mut self, map: &Map, call: Call) -> Result<Published, Refusal> {
+        match call {
+            Call::Join { id, x, y } => self.join(map, id, x, y)?,
+            Call::Leave { id } => self.leave(id)?,
+            Call::Input { id, input } => self.input(id, input)?,
+            Call::Step => return self.step(map),
+            Call::Tune { index, hundredths } => self.tune(index, hundredths)?,
+        }
+        Ok(NOTHING)
+    }
+
+    pub fn join(&mut self, map: &Map, id: i32, x: i32, y: i32) -> Result<(), Refusal> {
         check_map(map)?;
         let slot = &mut self.slots[seat(id)?];
         let within = -FARTHEST..=FARTHEST;
         Refusal::Place.when(!within.contains(&x) || !within.contains(&y))?;
-        let pos = vec2::new(x as f32, y as f32);
-        let size = vec2::new(CHARACTER_SIZE, CHARACTER_SIZE);
-        Refusal::NotClear.when(map.check_box(pos, size))?;
+        Refusal::NotClear.when(!is_clear(map, x, y))?;
         Refusal::Present.when(slot.present)?;
-        *slot = Slot::joined(pos);
+        *slot = Slot::joined(place(x, y));
         Ok(())
     }
 
@@ -89,7 +102,7 @@ fn tick_all(map: &Map, tuning: &SvTuneParams, slots: &mut Slots) -> Result<(), R
 
 /// Each is quantized before the next one moves.
 fn move_all(map: &Map, tuning: &SvTuneParams, slots: &mut Slots) -> Result<Published, Refusal> {
-    let mut published = [None; SEATS];
+    let mut published = NOTHING;
     for id in 0..SEATS {
         if slots[id].present {
             let record = moved(map, tuning, slots, id)?.to_net();
@@ -98,6 +111,15 @@ fn move_all(map: &Map, tuning: &SvTuneParams, slots: &mut Slots) -> Result<Publi
         }
     }
     Ok(published)
+}
+
+/// Whether a character's box is clear there.
+pub fn is_clear(mut map: &Map, x: i32, y: i32) -> bool {
+    !map.check_box(place(x, y), vec2::new(CHARACTER_SIZE, CHARACTER_SIZE))
+}
+
+fn place(x: i32, y: i32) -> vec2 {
+    vec2::new(x as f32, y as f32)
 }
 
 fn check_map(map: &Map) -> Result<(), Refusal> {

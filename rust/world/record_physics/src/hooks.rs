@@ -2,7 +2,6 @@
 
 use crate::case::Case;
 use crate::crowd::{HOOKS, crowd, with_hook};
-use crate::maps::{all, floor, open};
 use crate::scene::{Scene, at};
 use harness::SEATS;
 use harness::tunings::{HOOK_DRAG_SPEED, HOOK_FIRE_SPEED, HOOK_LENGTH, PLAYER_HOOKING};
@@ -10,6 +9,7 @@ use libtw2_gamenet::snap_obj::PlayerInput;
 use original::{CharacterId, Hook, State, vec2};
 use reference::Xorshift;
 use tile_map::draw::{below, between, pair_within, pick};
+use tile_map::maps::{all, floor, open};
 
 const MIDDLE: vec2 = vec2 { x: 200.0, y: 50.0 };
 

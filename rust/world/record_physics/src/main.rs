@@ -4,7 +4,6 @@
 mod case;
 mod crowd;
 mod hooks;
-mod maps;
 mod meetings;
 mod moves;
 mod scene;

@@ -2,7 +2,6 @@
 
 use crate::case::Case;
 use crate::crowd::crowd;
-use crate::maps::{all, open};
 use crate::scene::{Scene, at};
 use harness::SEATS;
 use harness::tunings::{
@@ -11,6 +10,7 @@ use harness::tunings::{
 use original::{CharacterId, Hook, State, vec2};
 use reference::Xorshift;
 use tile_map::draw::pair_within;
+use tile_map::maps::{all, open};
 
 const MIDDLE: vec2 = vec2 { x: 80.0, y: 40.0 };
 

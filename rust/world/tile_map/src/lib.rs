@@ -1,6 +1,7 @@
 //! A tile map by the point rule of document 01.
 
 pub mod draw;
+pub mod maps;
 pub mod turns;
 
 use original::{Collision, CollisionType, vec2};
