@@ -16,4 +16,4 @@ pub use call::{CALL_NUMBERS, Call};
 pub use physics::{moved, ticked};
 pub use refusal::Refusal;
 pub use slot::{SEATS, Slot, Slots};
-pub use world::{NOTHING, Published, World};
+pub use world::{LONGEST_SIDE, NOTHING, Published, World};

@@ -10,7 +10,7 @@ use libtw2_gamenet::snap_obj::{CharacterCore, PlayerInput};
 use original::{CHARACTER_SIZE, Character, Collision, vec2};
 use tile_map::Map;
 
-const LONGEST_SIDE: usize = 1024;
+pub const LONGEST_SIDE: usize = 1024;
 const FARTHEST: i32 = 100_000;
 
 /// The record of each id that was present.
