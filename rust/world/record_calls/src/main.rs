@@ -1,22 +1,7 @@
-//! Prints test vectors for the program `world_vectors`: sequences of calls on a
-//! world, with the answers of document 01's world over libtw2. All lines have the same length.
+//! Prints test vectors for the program `world_vectors`: a call on each line. All
+//! lines have the same length.
 
-mod digest;
-mod hooks;
-mod inputs;
-mod leavers;
-mod limits;
-mod maps;
-mod play;
-mod refusals;
-mod sequence;
-mod steering;
-#[cfg(test)]
-mod tests;
-mod too_far;
-
-use reference::Xorshift;
-use sequence::Sequence;
+use record_calls::all_sequences;
 use std::io::{BufWriter, Result, Write, stdout};
 
 fn main() -> Result<()> {
@@ -27,16 +12,4 @@ fn main() -> Result<()> {
         }
     }
     out.flush()
-}
-
-fn all_sequences() -> Vec<Sequence> {
-    let mut random = Xorshift::default();
-    let mut sequences = refusals::refusal_sequences();
-    sequences.extend(too_far::too_far_sequences());
-    sequences.extend(hooks::hook_sequences());
-    sequences.extend(leavers::leaver_sequences());
-    sequences.extend(steering::steering_sequences());
-    sequences.extend(limits::limit_sequences(&mut random));
-    sequences.extend(play::play_sequences(&mut random));
-    sequences
 }
