@@ -10,7 +10,7 @@ use harness::tunings::{
 use tile_map::Map;
 use tile_map::maps::{floor, open};
 
-/// The last two are too far, whole or not.
+/// From the third on they are too far for one tick.
 const FIRE_SPEEDS: [i32; 5] = [6_000_000, 6_553_599, 6_553_600, 6_553_601, i32::MAX];
 
 /// About 65,535.5, from which on a box walks too far.
@@ -71,7 +71,7 @@ fn dragged(
 ) -> Sequence {
     let mut sequence = Sequence::on(&open())
         .tuned(GRAVITY, 0)
-        .tuned(RAMP_START, i32::MAX)
+        .tuned(RAMP_CURVATURE, 100)
         .tuned(HOOK_DRAG_ACCEL, i32::MAX)
         .tuned(HOOK_DRAG_SPEED, speed)
         .tuned(PLAYER_COLLISION, collision)
