@@ -4,7 +4,7 @@ use crate::all_sequences;
 use crate::sequence::Line;
 use harness::draw::is_clear;
 use harness::tunings::{PLAYER_COLLISION, tune_params};
-use harness::{Call, Refusal, SEATS, Slots, World, moved, ticked};
+use harness::{Call, NOTHING, Refusal, SEATS, Slots, World, moved, ticked};
 use original::{Hook, State};
 use std::collections::BTreeSet;
 use tile_map::maps::open;
@@ -237,6 +237,17 @@ fn steps_have_nobody_and_everybody() {
     let steps = lines.iter().filter(|(_, line)| is_step(line));
     let counts: BTreeSet<usize> = steps.map(|(world, _)| count(world)).collect();
     assert!(counts.contains(&0) && counts.contains(&1) && counts.contains(&SEATS));
+}
+
+/// Of one who is dragged so fast that nothing more fits.
+#[test]
+fn the_largest_velocity_is_published() {
+    let largest = |line: &Line| {
+        let published = line.answer.unwrap_or(NOTHING);
+        let mut records = published.into_iter().flatten();
+        records.any(|record| record.vel_x == i32::MAX)
+    };
+    assert!(all_lines().iter().any(|(_, line)| largest(line)));
 }
 
 #[test]

@@ -38,6 +38,7 @@ pub fn too_far_sequences() -> Vec<Sequence> {
     }
     sequences.extend([(50, 1), (1, 100), (99, 1), (-50, 1), (50, -1)].map(ramp));
     sequences.push(length_cut());
+    sequences.push(too_fast_to_move());
     sequences
 }
 
@@ -102,6 +103,18 @@ fn ramp((curvature, range): (i32, i32)) -> Sequence {
         .steps(1)
         .tuned(RAMP_CURVATURE, 140)
         .steps(2)
+}
+
+/// The ramp leaves nothing of the way, and the record holds all that fits of the velocity.
+fn too_fast_to_move() -> Sequence {
+    Sequence::on(&open())
+        .tuned(GRAVITY, 0)
+        .tuned(HOOK_DRAG_ACCEL, i32::MAX)
+        .tuned(HOOK_DRAG_SPEED, i32::MAX)
+        .join(2, 0, 50)
+        .join(3, 100, 50)
+        .told(3, hook(-1, 0))
+        .steps(3)
 }
 
 /// A hook that flew far is cut to its length from behind.
