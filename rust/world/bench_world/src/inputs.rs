@@ -39,9 +39,8 @@ pub fn walled_map(random: &mut Xorshift) -> Map {
 }
 
 /// Clear at first, near a wall, and on their way in any direction.
-pub fn bodies(map: &Map, speed: f32, random: &mut Xorshift) -> Vec<Body> {
+pub fn bodies(mut map: &Map, speed: f32, random: &mut Xorshift) -> Vec<Body> {
     let walls = map.solid_middles();
-    let mut map = map.clone();
     let mut bodies = Vec::new();
     while bodies.len() < BODIES {
         let wall = walls[random.pattern() as usize % walls.len()];

@@ -23,7 +23,7 @@ fn main() {
     }
 }
 
-fn print_move_box(kind: &str, map: &Map, bodies: &[Body]) {
+fn print_move_box(kind: &str, mut map: &Map, bodies: &[Body]) {
     let lent = ponguriena::Map {
         width: map.width as u32,
         height: map.height as u32,
@@ -31,7 +31,6 @@ fn print_move_box(kind: &str, map: &Map, bodies: &[Body]) {
     };
     let size = pair(CHARACTER);
     let port = |body: Body| ponguriena::move_box(lent, pair(body.pos), pair(body.vel), size);
-    let mut map = map.clone();
     let mut reference = |body: Body| {
         let (pos, vel) = map.move_box(body.pos, body.vel, CHARACTER);
         Ok((pair(pos), pair(vel)))

@@ -3,8 +3,10 @@
 // What is included is not edited here, so its style is not judged either.
 #![allow(clippy::all)]
 
+mod records;
 mod state;
 
+pub use records::{CORE_NUMBERS, INPUT_NUMBERS, core_numbers, input_numbers};
 pub use state::{STATE_WORDS, State, hook_of};
 
 include!(concat!(env!("OUT_DIR"), "/world.rs"));

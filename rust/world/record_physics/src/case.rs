@@ -1,14 +1,12 @@
 //! A tick or a move, the answer of the original, and both as a line of text.
 
-use crate::others::Others;
-use crate::scene::{SEATS, Scene, Slot};
-use crate::walks::Walks;
-use libtw2_gamenet::snap_obj::PlayerInput;
-use original::{Character, Hook, State};
+use crate::scene::Scene;
+use harness::tunings::tune_params;
+use harness::{Slot, Slots, moved, ticked};
+use original::{State, input_numbers};
 use reference::Bits;
 
 const ACCEPTED: u32 = 0;
-const TOO_FAR: u32 = 9;
 
 #[derive(Clone, Copy, PartialEq)]
 pub enum Op {
@@ -24,7 +22,7 @@ pub struct Case {
 pub struct Answer {
     pub number: u32,
     pub me: State,
-    pub slots: [Slot; SEATS],
+    pub slots: Slots,
 }
 
 impl Case {
@@ -40,28 +38,23 @@ impl Case {
 
     pub fn answer(&self) -> Answer {
         let scene = &self.scene;
-        let tuning = scene.tune_params();
-        let mut me = Character::from(scene.me());
-        let mut walks = Walks::new(&scene.map, tuning.player_collision.to_float() != 0.0);
-        let mut others = Others::new(scene.id, scene.slots);
-        match self.op {
-            Op::Tick => {
-                me = without_overflow(scene.me()).into();
-                me.tick(&mut walks, &mut others, scene.input, &tuning);
-            }
-            Op::Move => me.move_(&mut walks, &mut others, &tuning),
-        }
-        if walks.refused {
-            return Answer {
-                number: TOO_FAR,
+        let tuning = tune_params(scene.tunings);
+        let mut slots = scene.slots;
+        let me = match self.op {
+            Op::Tick => ticked(&scene.map, &tuning, &mut slots, scene.id),
+            Op::Move => moved(&scene.map, &tuning, &mut slots, scene.id),
+        };
+        match me {
+            Ok(me) => Answer {
+                number: ACCEPTED,
+                me: me.into(),
+                slots,
+            },
+            Err(refusal) => Answer {
+                number: refusal.number(),
                 me: scene.me(),
                 slots: scene.slots,
-            };
-        }
-        Answer {
-            number: ACCEPTED,
-            me: me.into(),
-            slots: others.slots(),
+            },
         }
     }
 
@@ -86,47 +79,30 @@ impl Case {
         assert_only_velocities(&scene.slots, &answer.slots);
         let mut words = vec![scene.id as u32];
         words.extend(scene.tunings.map(i32::to_pattern));
-        words.extend(input_words(scene.input));
+        words.extend(input_numbers(scene.input()).map(i32::to_pattern));
         for slot in scene.slots {
             words.push(slot.present.into());
-            words.extend(slot.state.words());
+            words.extend(state_of(slot).words());
         }
         words.push(answer.number);
         words.extend(answer.me.words());
         for slot in answer.slots {
-            words.extend([slot.state.vel.x.to_pattern(), slot.state.vel.y.to_pattern()]);
+            let vel = state_of(slot).vel;
+            words.extend([vel.x.to_pattern(), vel.y.to_pattern()]);
         }
         words
     }
 }
 
-fn input_words(input: PlayerInput) -> [u32; 5] {
-    [
-        input.direction,
-        input.target_x,
-        input.target_y,
-        input.jump,
-        input.hook,
-    ]
-    .map(i32::to_pattern)
+fn state_of(slot: Slot) -> State {
+    slot.character.into()
 }
 
-/// The sum of the last tick and 1 overflows; by document 01 it is Retracted as with the tick before.
-fn without_overflow(state: State) -> State {
-    match state.hook {
-        Hook::Grabbed(id, u32::MAX) => State {
-            hook: Hook::Grabbed(id, u32::MAX - 1),
-            ..state
-        },
-        _ => state,
-    }
-}
-
-fn assert_only_velocities(before: &[Slot; SEATS], after: &[Slot; SEATS]) {
+fn assert_only_velocities(before: &Slots, after: &Slots) {
     for (before, after) in before.iter().zip(after) {
         assert_eq!(before.present, after.present);
-        let vel = before.state.vel;
-        let state = State { vel, ..after.state };
-        assert_eq!(before.state.words(), state.words());
+        let (before, after) = (state_of(*before), state_of(*after));
+        let vel = before.vel;
+        assert_eq!(before.words(), State { vel, ..after }.words());
     }
 }

@@ -1,7 +1,8 @@
 //! Random characters in numbers from two to sixteen.
 
-use crate::scene::{SEATS, Scene};
-use libtw2_gamenet::snap_obj::PlayerInput;
+use crate::scene::Scene;
+use harness::SEATS;
+use harness::draw::any_input;
 use original::{State, hook_of};
 use reference::Xorshift;
 use tile_map::Map;
@@ -52,14 +53,4 @@ pub fn crowd(map: &Map, count: usize, random: &mut Xorshift) -> Scene {
         scene = scene.with_other(below(random, SEATS), State { pos, ..other });
     }
     scene
-}
-
-pub fn any_input(random: &mut Xorshift) -> PlayerInput {
-    PlayerInput {
-        direction: pick(random, &[-1, 0, 1]),
-        target_x: (random.pattern() % 801) as i32 - 400,
-        target_y: (random.pattern() % 801) as i32 - 400,
-        jump: pick(random, &[0, 1]),
-        hook: pick(random, &[0, 1, 1, 1]),
-    }
 }

@@ -2,14 +2,14 @@
 
 use crate::case::Case;
 use crate::crowd::{HOOKS, crowd, with_hook};
-use crate::maps::{all, floor, open};
-use crate::scene::{
-    HOOK_DRAG_SPEED, HOOK_FIRE_SPEED, HOOK_LENGTH, PLAYER_HOOKING, SEATS, Scene, at,
-};
+use crate::scene::{Scene, at};
+use harness::SEATS;
+use harness::tunings::{HOOK_DRAG_SPEED, HOOK_FIRE_SPEED, HOOK_LENGTH, PLAYER_HOOKING};
 use libtw2_gamenet::snap_obj::PlayerInput;
 use original::{CharacterId, Hook, State, vec2};
 use reference::Xorshift;
 use tile_map::draw::{below, between, pair_within, pick};
+use tile_map::maps::{all, floor, open};
 
 const MIDDLE: vec2 = vec2 { x: 200.0, y: 50.0 };
 
@@ -50,7 +50,7 @@ fn every_hook(random: &mut Xorshift) -> Vec<Scene> {
                 let (id, me) = (scene.id, with_hook(scene.me(), case, random));
                 let input = PlayerInput {
                     hook,
-                    ..scene.input
+                    ..scene.input()
                 };
                 scenes.push(scene.with(id, me).told(input));
             }
@@ -169,7 +169,7 @@ fn onto_tiles(random: &mut Xorshift) -> Vec<Scene> {
             let hook = pick(random, &[Hook::Idle, Hook::Flying(start, dir)]);
             let input = PlayerInput {
                 hook: 1,
-                ..scene.input
+                ..scene.input()
             };
             scenes.push(scene.with(id, State { hook, ..me }).told(input));
         }
@@ -213,7 +213,7 @@ fn attached(random: &mut Xorshift) -> Vec<Scene> {
             let scene = Scene::new(&open(), 11, me).with(10, at(ORIGIN + vec2::new(30.0, 0.0)));
             let input = PlayerInput {
                 direction: pick(random, &[-1, 0, 1]),
-                ..scene.input
+                ..scene.input()
             };
             scenes.push(scene.told(input));
         }

@@ -4,15 +4,12 @@
 mod case;
 mod crowd;
 mod hooks;
-mod maps;
 mod meetings;
 mod moves;
-mod others;
 mod scene;
 mod steering;
 #[cfg(test)]
 mod tests;
-mod walks;
 
 use case::Case;
 use reference::Xorshift;

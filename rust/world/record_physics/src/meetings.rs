@@ -2,14 +2,15 @@
 
 use crate::case::Case;
 use crate::crowd::crowd;
-use crate::maps::{all, open};
-use crate::scene::{
-    HOOK_DRAG_ACCEL, HOOK_DRAG_SPEED, HOOK_LENGTH, PLAYER_COLLISION, PLAYER_HOOKING, SEATS, Scene,
-    at,
+use crate::scene::{Scene, at};
+use harness::SEATS;
+use harness::tunings::{
+    HOOK_DRAG_ACCEL, HOOK_DRAG_SPEED, HOOK_LENGTH, PLAYER_COLLISION, PLAYER_HOOKING,
 };
 use original::{CharacterId, Hook, State, vec2};
 use reference::Xorshift;
 use tile_map::draw::pair_within;
+use tile_map::maps::{all, open};
 
 const MIDDLE: vec2 = vec2 { x: 80.0, y: 40.0 };
 

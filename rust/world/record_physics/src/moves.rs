@@ -2,11 +2,13 @@
 
 use crate::case::Case;
 use crate::crowd::crowd;
-use crate::maps::{all, open, room};
-use crate::scene::{PLAYER_COLLISION, RAMP_CURVATURE, RAMP_RANGE, RAMP_START, SEATS, Scene, at};
+use crate::scene::{Scene, at};
+use harness::SEATS;
+use harness::tunings::{PLAYER_COLLISION, RAMP_CURVATURE, RAMP_RANGE, RAMP_START};
 use original::{State, vec2};
 use reference::Xorshift;
 use tile_map::draw::{below, between, pair_within, pick};
+use tile_map::maps::{all, open, room};
 
 const MIDDLE: vec2 = vec2 { x: 100.0, y: 60.0 };
 

@@ -2,12 +2,15 @@
 
 use crate::case::Case;
 use crate::crowd::crowd;
-use crate::maps::{all, floor, open};
-use crate::scene::{AIR_FRICTION, GRAVITY, SEATS, Scene, TUNINGS, at};
+use crate::scene::{Scene, at};
+use harness::SEATS;
+use harness::draw::extreme_tuning;
+use harness::tunings::{AIR_FRICTION, GRAVITY, TUNINGS};
 use libtw2_gamenet::snap_obj::PlayerInput;
 use original::{State, vec2};
 use reference::Xorshift;
 use tile_map::draw::{below, pick};
+use tile_map::maps::{all, floor, open};
 
 /// Just on the ground of `floor`, just above it, in the air, on the ground.
 const HEIGHTS: [f32; 4] = [76.5, 76.49999, 50.0, 77.0];
@@ -138,10 +141,7 @@ fn all_tunings(random: &mut Xorshift) -> Vec<Scene> {
         let count = 2 + below(random, SEATS - 1);
         let mut scene = crowd(&map, count, random);
         for index in 0..TUNINGS {
-            let any = random.pattern() as i32;
-            let ordinary = scene.tunings[index];
-            let choice = [0, -ordinary, ordinary, any, any % 10000, i32::MIN, i32::MAX];
-            scene = scene.tuned(index, pick(random, &choice));
+            scene = scene.tuned(index, extreme_tuning(index, random));
         }
         scenes.push(scene);
     }

@@ -2,7 +2,8 @@
 
 use crate::all_cases;
 use crate::case::{Case, Op};
-use crate::scene::{PLAYER_COLLISION, SEATS};
+use harness::SEATS;
+use harness::tunings::PLAYER_COLLISION;
 
 const LINE_LENGTH: usize = 2565;
 const HOOK: usize = 4;

@@ -1,8 +1,8 @@
 //! A state or a record, the answer of the original, and both as a line of text.
 
-use crate::words::{CORE_WORDS, core_words};
 use libtw2_gamenet::snap_obj::CharacterCore;
-use original::{Character, Hook, STATE_WORDS, State};
+use original::{CORE_NUMBERS, Character, Hook, STATE_WORDS, State, core_numbers};
+use reference::Bits;
 
 const ACCEPTED: u32 = 0;
 const TICK_TOO_LARGE: u32 = 10;
@@ -16,19 +16,19 @@ impl Case {
     /// Op, the state, the number, the record, the state that the record gives.
     /// A record has no state before it; after a refusal there is nothing.
     pub fn text(&self) -> String {
-        let (no_state, no_core) = ([0; STATE_WORDS], [0; CORE_WORDS]);
+        let (no_state, no_core) = ([0; STATE_WORDS], [0; CORE_NUMBERS]);
         match *self {
             Case::State(state) if number(state) == ACCEPTED => {
                 let core = Character::from(state).to_net();
                 let after = quantized(state).words();
                 assert_eq!(after, from_net(core).words());
-                line('s', state.words(), ACCEPTED, core_words(core), after)
+                line('s', state.words(), ACCEPTED, core_numbers(core), after)
             }
             Case::State(state) => line('s', state.words(), number(state), no_core, no_state),
             Case::Record(core) => {
                 let after = from_net(core);
                 let words = after.words();
-                line('r', no_state, number(after), core_words(core), words)
+                line('r', no_state, number(after), core_numbers(core), words)
             }
         }
     }
@@ -56,9 +56,10 @@ fn line(
     op: char,
     state: [u32; STATE_WORDS],
     number: u32,
-    core: [u32; CORE_WORDS],
+    core: [i32; CORE_NUMBERS],
     after: [u32; STATE_WORDS],
 ) -> String {
+    let core = core.map(i32::to_pattern);
     let words = state.into_iter().chain([number]).chain(core).chain(after);
     let texts: Vec<String> = words.map(|word| format!("{word:08x}")).collect();
     format!("{op} {}", texts.join(" "))

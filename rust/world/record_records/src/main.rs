@@ -7,7 +7,6 @@ mod states;
 #[cfg(test)]
 mod tests;
 mod values;
-mod words;
 
 use case::Case;
 use reference::Xorshift;

@@ -68,15 +68,14 @@ pub fn box_cases(maps: &[Map], random: &mut Xorshift) -> Vec<Case> {
     cases
 }
 
-fn clear_position(map: &Map, size: vec2, random: &mut Xorshift) -> vec2 {
-    let mut map = map.clone();
+fn clear_position(mut map: &Map, size: vec2, random: &mut Xorshift) -> vec2 {
     for _ in 0..TRIES {
-        let pos = somewhere(&map, random);
+        let pos = somewhere(map, random);
         if !map.check_box(pos, size) {
             return pos;
         }
     }
-    somewhere(&map, random)
+    somewhere(map, random)
 }
 
 fn still(map: &Map, random: &mut Xorshift) -> (vec2, vec2, vec2) {
@@ -159,10 +158,10 @@ fn even_corners() -> Vec<Case> {
 fn random_corners(random: &mut Xorshift) -> Vec<Case> {
     let mut cases = Vec::new();
     while cases.len() < CORNER_LINES {
-        let mut map = pillar();
+        let map = pillar();
         let pos = vec2::new(48.0, 48.0) + pair_within(random, 60.0);
         let vel = pair_within(random, 50.0);
-        let clear = !map.check_box(pos, CHARACTER);
+        let clear = !(&map).check_box(pos, CHARACTER);
         let case = Case::moved(&map, pos, vel, CHARACTER);
         if clear && case.answer()[3..] == [0, 0] {
             cases.push(case);

@@ -38,7 +38,7 @@ impl Case {
         if self.turns() > MOST_TURNS {
             return REFUSED;
         }
-        let mut map = self.map.clone();
+        let mut map = &self.map;
         match self.call {
             Call::Line { from, to } => match map.check_line(from, to) {
                 None => [NOTHING; 5],

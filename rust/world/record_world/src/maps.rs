@@ -2,7 +2,7 @@
 
 use reference::Xorshift;
 use tile_map::Map;
-use tile_map::draw::{below, pick};
+use tile_map::draw::random_map;
 
 const SIZES: [(usize, usize); 9] = [
     (8, 8),
@@ -18,11 +18,6 @@ const SIZES: [(usize, usize); 9] = [
 
 /// So many of 32 tiles are solid.
 const SOLID_SHARES: [usize; 3] = [2, 6, 16];
-
-/// Byte 0 most often, and every byte of one digit that is open too.
-const OPEN_TILES: [u8; 20] = [
-    0, 0, 0, 0, 0, 2, 2, 4, 4, 5, 6, 7, 8, 9, 10, 11, 12, 13, 14, 15,
-];
 
 pub fn open_tile() -> Map {
     Map::from_rows(&["0"])
@@ -67,15 +62,4 @@ fn drawn_maps() -> Vec<Map> {
         ],
     ];
     drawn.into_iter().map(Map::from_rows).collect()
-}
-
-fn random_map(width: usize, height: usize, share: usize, random: &mut Xorshift) -> Map {
-    let tiles = (0..width * height).map(|_| {
-        if below(random, 32) < share {
-            pick(random, &[1, 3])
-        } else {
-            pick(random, &OPEN_TILES)
-        }
-    });
-    Map::new(width, height, tiles.collect())
 }

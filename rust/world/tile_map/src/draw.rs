@@ -7,6 +7,11 @@ use reference::Xorshift;
 /// Points are drawn up to this far outside the map.
 const MARGIN: f32 = 40.0;
 
+/// Byte 0 most often, and every byte of one digit that is open too.
+const OPEN_TILES: [u8; 20] = [
+    0, 0, 0, 0, 0, 2, 2, 4, 4, 5, 6, 7, 8, 9, 10, 11, 12, 13, 14, 15,
+];
+
 pub fn below(random: &mut Xorshift, limit: usize) -> usize {
     random.pattern() as usize % limit
 }
@@ -47,4 +52,16 @@ pub fn solid_middle(map: &Map, random: &mut Xorshift) -> vec2 {
     } else {
         pick(random, &middles)
     }
+}
+
+/// So many of 32 tiles are solid.
+pub fn random_map(width: usize, height: usize, share: usize, random: &mut Xorshift) -> Map {
+    let tiles = (0..width * height).map(|_| {
+        if below(random, 32) < share {
+            pick(random, &[1, 3])
+        } else {
+            pick(random, &OPEN_TILES)
+        }
+    });
+    Map::new(width, height, tiles.collect())
 }

@@ -1,6 +1,7 @@
 //! A tile map by the point rule of document 01.
 
 pub mod draw;
+pub mod maps;
 pub mod turns;
 
 use original::{Collision, CollisionType, vec2};
@@ -66,7 +67,7 @@ impl Map {
     }
 }
 
-impl Collision for Map {
+impl Collision for &Map {
     #[inline]
     fn check_point(&mut self, pos: vec2) -> Option<CollisionType> {
         let column = tile_number(pos.x, self.width);

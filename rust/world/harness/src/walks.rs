@@ -1,23 +1,29 @@
 //! A map on which each walk is measured by document 01's formulas before it is
 //! taken. One with too many turns is not taken; what follows then is void.
 
+use crate::refusal::Refusal;
 use original::{Collision, CollisionType, vec2};
 use tile_map::Map;
 use tile_map::turns::{MOST_TURNS, box_turns, line_turns, player_turns};
 
-pub struct Walks {
-    map: Map,
+pub struct Walks<'a> {
+    map: &'a Map,
     player_collision: bool,
-    pub refused: bool,
+    refused: bool,
 }
 
-impl Walks {
-    pub fn new(map: &Map, player_collision: bool) -> Walks {
+impl<'a> Walks<'a> {
+    pub fn new(map: &'a Map, player_collision: bool) -> Walks<'a> {
         Walks {
-            map: map.clone(),
+            map,
             player_collision,
             refused: false,
         }
+    }
+
+    /// Whether all walks were taken.
+    pub fn answer(&self) -> Result<(), Refusal> {
+        Refusal::TooFar.when(self.refused)
     }
 
     fn allows(&mut self, turns: i64) -> bool {
@@ -26,7 +32,7 @@ impl Walks {
     }
 }
 
-impl Collision for Walks {
+impl Collision for Walks<'_> {
     fn check_point(&mut self, pos: vec2) -> Option<CollisionType> {
         self.map.check_point(pos)
     }

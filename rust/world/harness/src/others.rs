@@ -1,27 +1,23 @@
 //! The slots but one, by rising id, each as it stands when it is asked for.
 
-use crate::scene::{SEATS, Slot};
+use crate::slot::{SEATS, Slot, Slots};
 use original::{Character, CharacterId, OtherCharacters};
 use std::cell::Cell;
 
-pub struct Others {
+pub struct Others<'a> {
     /// The one that is left out.
     id: usize,
-    slots: Cell<[Slot; SEATS]>,
+    slots: &'a [Cell<Slot>; SEATS],
 }
 
-impl Others {
-    pub fn new(id: usize, slots: [Slot; SEATS]) -> Others {
-        let slots = Cell::new(slots);
+impl<'a> Others<'a> {
+    pub fn new(id: usize, slots: &'a mut Slots) -> Others<'a> {
+        let slots = Cell::from_mut(slots).as_array_of_cells();
         Others { id, slots }
     }
-
-    pub fn slots(&self) -> [Slot; SEATS] {
-        self.slots.get()
-    }
 }
 
-impl OtherCharacters for Others {
+impl OtherCharacters for Others<'_> {
     /// The id to look at next.
     type Iter = usize;
 
@@ -31,17 +27,19 @@ impl OtherCharacters for Others {
 
     fn get(&self, cid: CharacterId) -> Character {
         assert!(!self.is_self(cid));
-        let slot = self.slots()[cid.0 as usize];
+        let slot = self.slots[cid.0 as usize].get();
         assert!(slot.present);
-        slot.state.into()
+        slot.character
     }
 
     fn modify<F: FnOnce(&mut Character)>(&self, cid: CharacterId, f: F) {
-        let mut other = self.get(cid);
-        f(&mut other);
-        let mut slots = self.slots();
-        slots[cid.0 as usize].state = other.into();
-        self.slots.set(slots);
+        let mut character = self.get(cid);
+        f(&mut character);
+        let slot = &self.slots[cid.0 as usize];
+        slot.set(Slot {
+            character,
+            ..slot.get()
+        });
     }
 
     fn iter(&self) -> usize {
@@ -49,9 +47,8 @@ impl OtherCharacters for Others {
     }
 
     fn next(&self, iter: &mut usize) -> Option<(CharacterId, Character)> {
-        let slots = self.slots();
-        let id = (*iter..SEATS).find(|&id| id != self.id && slots[id].present)?;
+        let id = (*iter..SEATS).find(|&id| id != self.id && self.slots[id].get().present)?;
         *iter = id + 1;
-        Some((CharacterId(id as u32), slots[id].state.into()))
+        Some((CharacterId(id as u32), self.slots[id].get().character))
     }
 }

@@ -1,6 +1,6 @@
 //! The maps on which characters tick and move.
 
-use tile_map::Map;
+use crate::Map;
 
 /// The tiles at the edge go on without end.
 pub fn open() -> Map {

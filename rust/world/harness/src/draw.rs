@@ -1,0 +1,132 @@
+//! What random calls are drawn with.
+
+use crate::call::Call;
+use crate::slot::SEATS;
+use crate::tunings::{ORDINARY, TUNINGS};
+use crate::world::World;
+pub use crate::world::is_clear;
+use libtw2_gamenet::snap_obj::PlayerInput;
+use original::State;
+use reference::Xorshift;
+use tile_map::Map;
+use tile_map::draw::{below, pick, somewhere};
+
+/// So often a clear place is looked for.
+const TRIES: usize = 40;
+
+/// Most often a place where a box is clear.
+pub fn place(map: &Map, random: &mut Xorshift) -> (i32, i32) {
+    let mut draw = || {
+        let pos = somewhere(map, random);
+        (pos.x as i32, pos.y as i32)
+    };
+    let mut places = (0..TRIES).map(|_| draw());
+    let found = places.find(|&(x, y)| is_clear(map, x, y));
+    found.unwrap_or_else(draw)
+}
+
+pub fn any_id(random: &mut Xorshift) -> i32 {
+    below(random, SEATS) as i32
+}
+
+pub fn any_input(random: &mut Xorshift) -> PlayerInput {
+    PlayerInput {
+        direction: pick(random, &[-1, 0, 1]),
+        target_x: (random.pattern() % 801) as i32 - 400,
+        target_y: (random.pattern() % 801) as i32 - 400,
+        jump: pick(random, &[0, 1]),
+        hook: pick(random, &[0, 1, 1, 1]),
+    }
+}
+
+/// Of somebody present, where somebody is.
+pub fn present_id(world: &World, random: &mut Xorshift) -> i32 {
+    let present: Vec<usize> = (0..SEATS).filter(|&id| world.slots[id].present).collect();
+    if present.is_empty() {
+        any_id(random)
+    } else {
+        pick(random, &present) as i32
+    }
+}
+
+/// Aims at somebody present, where somebody is.
+pub fn input_at_somebody(world: &World, id: i32, random: &mut Xorshift) -> PlayerInput {
+    let place = |id: i32| State::from(world.slots[id as usize].character).pos;
+    let way = place(present_id(world, random)) - place(id);
+    PlayerInput {
+        target_x: way.x as i32,
+        target_y: way.y as i32,
+        ..any_input(random)
+    }
+}
+
+/// A step more often than not; now and then a call that is refused.
+pub fn any_call(world: &World, map: &Map, random: &mut Xorshift) -> Call {
+    let id = match below(random, 8) {
+        0 => any_id(random),
+        _ => present_id(world, random),
+    };
+    match below(random, 40) {
+        0..=3 => any_join(map, random),
+        4 => Call::Leave { id },
+        5 => wrong_call(random),
+        6 => mild_tune(random),
+        7..=11 => Call::Input {
+            id,
+            input: any_input(random),
+        },
+        12..=17 => Call::Input {
+            id,
+            input: input_at_somebody(world, id, random),
+        },
+        _ => Call::Step,
+    }
+}
+
+pub fn any_join(map: &Map, random: &mut Xorshift) -> Call {
+    let (id, (x, y)) = (any_id(random), place(map, random));
+    Call::Join { id, x, y }
+}
+
+/// Near what is ordinary, or 0.
+fn mild_tune(random: &mut Xorshift) -> Call {
+    let index = below(random, TUNINGS);
+    let ordinary = ORDINARY[index];
+    let hundredths = pick(random, &[0, ordinary / 2, ordinary, ordinary, ordinary * 2]);
+    let index = index as i32;
+    Call::Tune { index, hundredths }
+}
+
+/// One of the ends, or anything.
+pub fn extreme_tuning(index: usize, random: &mut Xorshift) -> i32 {
+    let ordinary = ORDINARY[index];
+    let any = random.pattern() as i32;
+    let choice = [0, -ordinary, ordinary, any, any % 10000, i32::MIN, i32::MAX];
+    pick(random, &choice)
+}
+
+/// With an argument outside its limits.
+fn wrong_call(random: &mut Xorshift) -> Call {
+    let id = pick(random, &[-1, SEATS as i32, i32::MIN, i32::MAX]);
+    let far = pick(random, &[100_001, -100_001, i32::MAX, i32::MIN]);
+    let (x, y) = pick(random, &[(far, 20), (20, far), (far, far)]);
+    let index = pick(random, &[-1, 18, i32::MIN, i32::MAX]);
+    let calls = [
+        Call::Join { id, x: 20, y: 20 },
+        Call::Join {
+            id: any_id(random),
+            x,
+            y,
+        },
+        Call::Leave { id },
+        Call::Input {
+            id,
+            input: any_input(random),
+        },
+        Call::Tune {
+            index,
+            hundredths: 0,
+        },
+    ];
+    pick(random, &calls)
+}

@@ -1,0 +1,19 @@
+//! The world of document 01 over the characters of libtw2: its slots, its calls and their refusals.
+
+mod call;
+pub mod draw;
+mod others;
+mod physics;
+mod refusal;
+mod slot;
+#[cfg(test)]
+mod tests;
+pub mod tunings;
+mod walks;
+mod world;
+
+pub use call::{CALL_NUMBERS, Call};
+pub use physics::{moved, ticked};
+pub use refusal::Refusal;
+pub use slot::{SEATS, Slot, Slots};
+pub use world::{LONGEST_SIDE, NOTHING, Published, World};

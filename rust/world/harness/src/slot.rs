@@ -1,0 +1,34 @@
+//! The seats of a world.
+
+use libtw2_gamenet::snap_obj::PlayerInput;
+use original::{Character, vec2};
+
+pub const SEATS: usize = 16;
+
+pub type Slots = [Slot; SEATS];
+
+#[derive(Clone, Copy)]
+pub struct Slot {
+    pub present: bool,
+    pub character: Character,
+    pub input: PlayerInput,
+}
+
+impl Slot {
+    /// As every slot of a fresh world is, and one that was left.
+    pub fn absent() -> Slot {
+        Slot {
+            present: false,
+            character: Character::spawn(vec2::default()),
+            input: PlayerInput::default(),
+        }
+    }
+
+    pub fn joined(pos: vec2) -> Slot {
+        Slot {
+            present: true,
+            character: Character::spawn(pos),
+            input: PlayerInput::default(),
+        }
+    }
+}

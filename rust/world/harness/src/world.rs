@@ -1,0 +1,135 @@
+//! The world and its five calls. A refused call leaves it as it was.
+
+use crate::call::Call;
+use crate::physics::{moved, ticked};
+use crate::refusal::Refusal;
+use crate::slot::{SEATS, Slot, Slots};
+use crate::tunings::{ORDINARY, TUNINGS, tune_params};
+use libtw2_gamenet::msg::game::SvTuneParams;
+use libtw2_gamenet::snap_obj::{CharacterCore, PlayerInput};
+use original::{CHARACTER_SIZE, Character, Collision, vec2};
+use tile_map::Map;
+
+pub const LONGEST_SIDE: usize = 1024;
+const FARTHEST: i32 = 100_000;
+
+/// The record of each id that was present.
+pub type Published = [Option<CharacterCore>; SEATS];
+
+/// What every call but a step publishes, and a step with nobody.
+pub const NOTHING: Published = [None; SEATS];
+
+#[derive(Clone)]
+pub struct World {
+    pub slots: Slots,
+    pub tunings: [i32; TUNINGS],
+}
+
+impl World {
+    pub fn fresh() -> World {
+        World {
+            slots: [Slot::absent(); SEATS],
+            tunings: ORDINARY,
+        }
+    }
+
+    pub fn call(&mut self, map: &Map, call: Call) -> Result<Published, Refusal> {
+        match call {
+            Call::Join { id, x, y } => self.join(map, id, x, y)?,
+            Call::Leave { id } => self.leave(id)?,
+            Call::Input { id, input } => self.input(id, input)?,
+            Call::Step => return self.step(map),
+            Call::Tune { index, hundredths } => self.tune(index, hundredths)?,
+        }
+        Ok(NOTHING)
+    }
+
+    pub fn join(&mut self, map: &Map, id: i32, x: i32, y: i32) -> Result<(), Refusal> {
+        check_map(map)?;
+        let slot = &mut self.slots[seat(id)?];
+        let within = -FARTHEST..=FARTHEST;
+        Refusal::Place.when(!within.contains(&x) || !within.contains(&y))?;
+        Refusal::NotClear.when(!is_clear(map, x, y))?;
+        Refusal::Present.when(slot.present)?;
+        *slot = Slot::joined(place(x, y));
+        Ok(())
+    }
+
+    /// Hooks that are held on it stay as they are.
+    pub fn leave(&mut self, id: i32) -> Result<(), Refusal> {
+        *self.present(id)? = Slot::absent();
+        Ok(())
+    }
+
+    pub fn input(&mut self, id: i32, input: PlayerInput) -> Result<(), Refusal> {
+        self.present(id)?.input = input;
+        Ok(())
+    }
+
+    pub fn tune(&mut self, index: i32, hundredths: i32) -> Result<(), Refusal> {
+        let index = usize::try_from(index).map_err(|_| Refusal::TuningIndex)?;
+        let tuning = self.tunings.get_mut(index).ok_or(Refusal::TuningIndex)?;
+        *tuning = hundredths;
+        Ok(())
+    }
+
+    pub fn step(&mut self, map: &Map) -> Result<Published, Refusal> {
+        check_map(map)?;
+        let tuning = tune_params(self.tunings);
+        let mut slots = self.slots;
+        tick_all(map, &tuning, &mut slots)?;
+        let published = move_all(map, &tuning, &mut slots)?;
+        self.slots = slots;
+        Ok(published)
+    }
+
+    fn present(&mut self, id: i32) -> Result<&mut Slot, Refusal> {
+        let slot = &mut self.slots[seat(id)?];
+        Refusal::Absent.when(!slot.present)?;
+        Ok(slot)
+    }
+}
+
+/// Each finds the others as they stand then.
+fn tick_all(map: &Map, tuning: &SvTuneParams, slots: &mut Slots) -> Result<(), Refusal> {
+    for id in 0..SEATS {
+        if slots[id].present {
+            slots[id].character = ticked(map, tuning, slots, id)?;
+        }
+    }
+    Ok(())
+}
+
+/// Each is quantized before the next one moves.
+fn move_all(map: &Map, tuning: &SvTuneParams, slots: &mut Slots) -> Result<Published, Refusal> {
+    let mut published = NOTHING;
+    for id in 0..SEATS {
+        if slots[id].present {
+            let record = moved(map, tuning, slots, id)?.to_net();
+            slots[id].character = Character::from_net(&record);
+            published[id] = Some(record);
+        }
+    }
+    Ok(published)
+}
+
+/// Whether a character's box is clear there.
+pub fn is_clear(mut map: &Map, x: i32, y: i32) -> bool {
+    !map.check_box(place(x, y), vec2::new(CHARACTER_SIZE, CHARACTER_SIZE))
+}
+
+fn place(x: i32, y: i32) -> vec2 {
+    vec2::new(x as f32, y as f32)
+}
+
+fn check_map(map: &Map) -> Result<(), Refusal> {
+    let fits = |side: usize| (1..=LONGEST_SIDE).contains(&side);
+    Refusal::Map.when(!fits(map.width) || !fits(map.height))?;
+    Refusal::Map.when(map.tiles.len() != map.width * map.height)
+}
+
+fn seat(id: i32) -> Result<usize, Refusal> {
+    let seat = usize::try_from(id).map_err(|_| Refusal::Id)?;
+    Refusal::Id.when(seat >= SEATS)?;
+    Ok(seat)
+}

@@ -1,0 +1,32 @@
+//! Sequences of calls on a world, with the answers of document 01's world over libtw2.
+
+mod digest;
+mod hooks;
+mod inputs;
+mod leavers;
+mod limits;
+mod maps;
+mod play;
+mod refusals;
+mod sequence;
+mod steering;
+#[cfg(test)]
+mod tests;
+mod too_far;
+
+pub use sequence::{Line, Sequence};
+pub use too_far::too_far_sequences;
+
+use reference::Xorshift;
+
+pub fn all_sequences() -> Vec<Sequence> {
+    let mut random = Xorshift::default();
+    let mut sequences = refusals::refusal_sequences();
+    sequences.extend(too_far_sequences());
+    sequences.extend(hooks::hook_sequences());
+    sequences.extend(leavers::leaver_sequences());
+    sequences.extend(steering::steering_sequences());
+    sequences.extend(limits::limit_sequences(&mut random));
+    sequences.extend(play::play_sequences(&mut random));
+    sequences
+}

@@ -1,0 +1,119 @@
+//! Calls one after another on a world that was fresh, and each as a line of text.
+
+use crate::digest::{records_digest, world_digest};
+use harness::{Call, Published, Refusal, World};
+use libtw2_gamenet::snap_obj::PlayerInput;
+use reference::Bits;
+use tile_map::Map;
+
+const ACCEPTED: u32 = 0;
+
+pub struct Line {
+    /// Whether the world is a new one.
+    pub fresh: bool,
+    /// Its tiles are lent to the call.
+    pub map: Map,
+    /// As told to the call.
+    pub sides: (u32, u32),
+    pub call: Call,
+    pub answer: Result<Published, Refusal>,
+    pub after: World,
+}
+
+impl Line {
+    /// The answer's number.
+    pub fn number(&self) -> u32 {
+        self.answer.map_or_else(Refusal::number, |_| ACCEPTED)
+    }
+
+    /// Whether fresh, map and words.
+    pub fn text(&self) -> String {
+        let fresh = if self.fresh { 'n' } else { 'c' };
+        let words: Vec<String> = self
+            .words()
+            .iter()
+            .map(|word| format!("{word:08x}"))
+            .collect();
+        format!("{fresh} {} {}", self.map.text(), words.join(" "))
+    }
+
+    /// Sides, code and arguments, answer, digest of the world, digest of the records.
+    fn words(&self) -> Vec<u32> {
+        let mut words = vec![self.sides.0, self.sides.1];
+        words.extend(self.call.numbers().map(i32::to_pattern));
+        words.push(self.number());
+        words.push(world_digest(&self.after));
+        words.push(match (self.call, &self.answer) {
+            (Call::Step, Ok(published)) => records_digest(published),
+            _ => 0,
+        });
+        words
+    }
+}
+
+pub struct Sequence {
+    pub map: Map,
+    pub world: World,
+    pub lines: Vec<Line>,
+}
+
+impl Sequence {
+    pub fn on(map: &Map) -> Sequence {
+        Sequence {
+            map: map.clone(),
+            world: World::fresh(),
+            lines: Vec::new(),
+        }
+    }
+
+    /// With sides that may not be those of the map.
+    pub fn with_sides(&mut self, (width, height): (u32, u32), call: Call) {
+        let map = Map {
+            width: width as usize,
+            height: height as usize,
+            tiles: self.map.tiles.clone(),
+        };
+        let answer = self.world.call(&map, call);
+        self.lines.push(Line {
+            fresh: self.lines.is_empty(),
+            map: self.map.clone(),
+            sides: (width, height),
+            call,
+            answer,
+            after: self.world.clone(),
+        });
+    }
+
+    pub fn call(&mut self, call: Call) {
+        let sides = (self.map.width as u32, self.map.height as u32);
+        self.with_sides(sides, call);
+    }
+
+    pub fn join(mut self, id: i32, x: i32, y: i32) -> Sequence {
+        self.call(Call::Join { id, x, y });
+        self
+    }
+
+    pub fn leave(mut self, id: i32) -> Sequence {
+        self.call(Call::Leave { id });
+        self
+    }
+
+    pub fn told(mut self, id: i32, input: PlayerInput) -> Sequence {
+        self.call(Call::Input { id, input });
+        self
+    }
+
+    pub fn tuned(mut self, index: usize, hundredths: i32) -> Sequence {
+        let index = index as i32;
+        self.call(Call::Tune { index, hundredths });
+        self
+    }
+
+    pub fn steps(mut self, count: usize) -> Sequence {
+        for _ in 0..count {
+            self.call(Call::Step);
+        }
+        self
+    }
+}

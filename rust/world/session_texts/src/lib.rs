@@ -1,0 +1,84 @@
+//! Texts for the session program: games, limits and faults of every kind, by a seed.
+
+mod byte_faults;
+mod faults;
+mod lengths;
+mod line_faults;
+mod maps;
+mod places;
+mod play;
+mod sequences;
+#[cfg(test)]
+mod tests;
+mod word_faults;
+mod written;
+
+use reference::Xorshift;
+
+type Draw = fn(&mut Xorshift) -> Vec<u8>;
+
+pub struct Text {
+    /// What it is about.
+    pub kind: &'static str,
+    pub bytes: Vec<u8>,
+}
+
+/// Texts of games, and how many of each are recorded.
+const GAMES: [(&str, Draw, usize); 13] = [
+    ("ordinary play", play::ordinary, 24),
+    ("every seat", play::full, 8),
+    ("no player collision", play::apart, 12),
+    ("extreme tunings", play::extreme, 20),
+    ("long walks", sequences::too_far, 14),
+    ("limits of arguments", play::limits, 14),
+    ("ends of maps", play::at_map_ends, 14),
+    ("recorded sequences", sequences::recorded, 14),
+    ("nearly the longest text", lengths::nearly_longest, 1),
+    ("the longest text", lengths::longest, 3),
+    ("a text too long", lengths::too_long, 3),
+    ("long play", play::long, 0),
+    ("many calls", lengths::many_calls, 0),
+];
+
+/// Each fault is recorded so often.
+const FAULTS_RECORDED: usize = 3;
+
+/// The example of document 01.
+const EXAMPLE: &str = "width height\n3 3\ntiles\n0 0 0\n0 0 0\n0 0 0\ncall a b c d e f\n\
+                       1 0 48 48 0 0 0\n4 0 0 0 0 0 0\n";
+
+/// The text of that number. Games and faults take turns.
+pub fn drawn(seed: u64, number: u64) -> Text {
+    let mut random = Xorshift::seeded(seed.wrapping_mul(1 << 32).wrapping_add(number));
+    let turn = (number / 2) as usize;
+    if number.is_multiple_of(2) {
+        let (kind, draw, _) = GAMES[turn % GAMES.len()];
+        let bytes = draw(&mut random);
+        return Text { kind, bytes };
+    }
+    let faults = faults::all();
+    let (kind, fault) = faults[turn % faults.len()];
+    let bytes = faults::text_with(fault, &mut random);
+    Text { kind, bytes }
+}
+
+/// Those that the repository holds.
+pub fn recorded() -> Vec<Text> {
+    let mut random = Xorshift::default();
+    let bytes = EXAMPLE.as_bytes().to_vec();
+    let kind = "example";
+    let mut texts = vec![Text { kind, bytes }];
+    for (kind, draw, count) in GAMES {
+        for _ in 0..count {
+            let bytes = draw(&mut random);
+            texts.push(Text { kind, bytes });
+        }
+    }
+    for (kind, fault) in faults::all() {
+        for _ in 0..FAULTS_RECORDED {
+            let bytes = faults::text_with(fault, &mut random);
+            texts.push(Text { kind, bytes });
+        }
+    }
+    texts
+}

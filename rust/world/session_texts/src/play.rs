@@ -1,0 +1,133 @@
+//! Texts of games.
+
+use crate::maps::{end_map, walled_map};
+use crate::written::sequence_text;
+use harness::draw::{any_call, extreme_tuning, input_at_somebody, place, present_id};
+use harness::tunings::{PLAYER_COLLISION, TUNINGS};
+use harness::{Call, SEATS};
+use record_calls::Sequence;
+use reference::Xorshift;
+use tile_map::draw::{below, pick, random_map};
+use tile_map::maps::{open, room};
+
+const SHORT: usize = 70;
+const LONG: usize = 600;
+
+pub fn ordinary(random: &mut Xorshift) -> Vec<u8> {
+    let sequence = Sequence::on(&walled_map(random));
+    played(sequence, SHORT, random)
+}
+
+pub fn long(random: &mut Xorshift) -> Vec<u8> {
+    let sequence = Sequence::on(&walled_map(random));
+    played(sequence, LONG, random)
+}
+
+/// For faults; ends with a step.
+pub fn small(random: &mut Xorshift) -> Vec<u8> {
+    let (width, height) = (2 + below(random, 7), 2 + below(random, 5));
+    let map = random_map(width, height, 3, random);
+    let mut sequence = joined(Sequence::on(&map), 2, random);
+    for _ in 0..below(random, 10) {
+        let call = any_call(&sequence.world, &map, random);
+        sequence.call(call);
+    }
+    sequence_text(&sequence.steps(1))
+}
+
+/// Player collision is off.
+pub fn apart(random: &mut Xorshift) -> Vec<u8> {
+    let sequence = Sequence::on(&walled_map(random)).tuned(PLAYER_COLLISION, 0);
+    played(sequence, SHORT, random)
+}
+
+/// On maps of one row, of one column, and the like.
+pub fn at_map_ends(random: &mut Xorshift) -> Vec<u8> {
+    let sequence = Sequence::on(&end_map(random));
+    played(sequence, SHORT / 2, random)
+}
+
+/// Every seat taken, and everybody told something.
+pub fn full(random: &mut Xorshift) -> Vec<u8> {
+    let mut sequence = joined(Sequence::on(&walled_map(random)), SEATS, random);
+    for id in 0..SEATS as i32 {
+        let input = input_at_somebody(&sequence.world, id, random);
+        sequence = sequence.told(id, input);
+    }
+    sequence_text(&sequence.steps(10))
+}
+
+/// Many tunings, or all, at their ends.
+pub fn extreme(random: &mut Xorshift) -> Vec<u8> {
+    let count = 2 + below(random, 5);
+    let mut sequence = joined(Sequence::on(&walled_map(random)), count, random);
+    let one_in = pick(random, &[1, 2, 6]);
+    for index in 0..TUNINGS {
+        if below(random, one_in) == 0 {
+            sequence = sequence.tuned(index, extreme_tuning(index, random));
+        }
+    }
+    for _ in 0..10 {
+        let id = present_id(&sequence.world, random);
+        let input = input_at_somebody(&sequence.world, id, random);
+        sequence = sequence.told(id, input).steps(1);
+    }
+    sequence_text(&sequence)
+}
+
+/// Every argument at its limits.
+pub fn limits(random: &mut Xorshift) -> Vec<u8> {
+    let map = pick(random, &[open as fn() -> _, room])();
+    let mut sequence = Sequence::on(&map);
+    for _ in 0..SHORT {
+        sequence.call(call_at_limits(random));
+    }
+    sequence_text(&sequence)
+}
+
+fn call_at_limits(random: &mut Xorshift) -> Call {
+    const ENDS: [i32; 5] = [0, 1, -1, i32::MIN, i32::MAX];
+    const PLACES: [i32; 9] = [
+        60,
+        100,
+        100_000,
+        -100_000,
+        100_001,
+        -100_001,
+        99_999,
+        i32::MIN,
+        i32::MAX,
+    ];
+    let id = pick(random, &[0, 0, 1, 1, 15, 15, 16, -1, i32::MIN, i32::MAX]);
+    let index = pick(random, &[-1, 0, 16, 17, 18, i32::MIN, i32::MAX]);
+    let mut end = || pick(random, &ENDS);
+    let [a, b, c, d, e] = [end(), end(), end(), end(), end()];
+    let (x, y) = (pick(random, &PLACES), pick(random, &PLACES));
+    let numbers = match below(random, 8) {
+        0 | 1 => [1, id, x, y, 0, 0, 0],
+        2 => [1, id, 60, 60, 0, 0, 0],
+        3 => [2, id, 0, 0, 0, 0, 0],
+        4 | 5 => [3, id, a, b, c, d, e],
+        6 => [5, index, a, 0, 0, 0, 0],
+        _ => [4, 0, 0, 0, 0, 0, 0],
+    };
+    Call::from_numbers(numbers).expect("a call")
+}
+
+fn joined(mut sequence: Sequence, count: usize, random: &mut Xorshift) -> Sequence {
+    for id in 0..count as i32 {
+        let (x, y) = place(&sequence.map, random);
+        sequence = sequence.join(id, x, y);
+    }
+    sequence
+}
+
+fn played(sequence: Sequence, calls: usize, random: &mut Xorshift) -> Vec<u8> {
+    let count = 1 + below(random, SEATS / 2);
+    let mut sequence = joined(sequence, count, random);
+    for _ in 0..calls {
+        let call = any_call(&sequence.world, &sequence.map, random);
+        sequence.call(call);
+    }
+    sequence_text(&sequence)
+}

@@ -1,0 +1,104 @@
+//! That the texts are what they are meant to be.
+
+use crate::{GAMES, Text, drawn, faults, recorded};
+use session::{MOST_BYTES, run};
+use std::collections::BTreeSet;
+
+const MOST_RECORDED_BYTES: usize = 2_500_000;
+
+/// With these a text may still be well.
+const DOUBTFUL: [&str; 7] = [
+    "other values",
+    "other byte",
+    "side",
+    "line left out",
+    "line twice",
+    "lines exchanged",
+    "cut off",
+];
+
+const TOO_LONG: [&str; 2] = ["a text too long", "many calls"];
+
+fn output(text: &Text) -> String {
+    let mut out = Vec::new();
+    run(&text.bytes, &mut out).expect("a vector takes all");
+    String::from_utf8(out).expect("digits and names")
+}
+
+/// The second word of each line but the first.
+fn answers(output: &str) -> Vec<u32> {
+    let answer = |line: &str| line.split(' ').nth(1)?.parse().ok();
+    output.lines().skip(1).filter_map(answer).collect()
+}
+
+fn is_at_fault(text: &Text) -> bool {
+    answers(&output(text)).last() == Some(&6)
+}
+
+fn is_fault(kind: &str) -> bool {
+    faults::all().iter().any(|(name, _)| *name == kind)
+}
+
+#[test]
+fn the_recorded_set_is_not_too_large() {
+    let texts = recorded();
+    assert!((200..=240).contains(&texts.len()));
+    let sizes = texts
+        .iter()
+        .map(|text| text.bytes.len() + output(text).len());
+    assert!(sizes.sum::<usize>() < MOST_RECORDED_BYTES);
+}
+
+/// A map at fault is text at fault, so 1 is none of them.
+#[test]
+fn every_answer_is_recorded() {
+    let texts = recorded();
+    let given: BTreeSet<u32> = texts
+        .iter()
+        .flat_map(|text| answers(&output(text)))
+        .collect();
+    assert_eq!(given, [0, 2, 3, 4, 5, 6, 7, 8, 9].into());
+}
+
+#[test]
+fn faults_are_at_fault_and_games_are_not() {
+    for text in (0..400).map(|number| drawn(5, number)).chain(recorded()) {
+        if !DOUBTFUL.contains(&text.kind) && !TOO_LONG.contains(&text.kind) {
+            let bytes = text.bytes.escape_ascii();
+            assert_eq!(
+                is_at_fault(&text),
+                is_fault(text.kind),
+                "{}: {bytes}",
+                text.kind
+            );
+        }
+    }
+}
+
+#[test]
+fn every_kind_is_drawn() {
+    let kinds: BTreeSet<&str> = (0..100).map(|number| drawn(1, number).kind).collect();
+    assert_eq!(kinds.len(), GAMES.len() + faults::all().len());
+}
+
+#[test]
+fn lengths_are_at_the_limit() {
+    for text in recorded() {
+        let length = text.bytes.len();
+        match text.kind {
+            "nearly the longest text" => assert_eq!(length, MOST_BYTES - 1),
+            "the longest text" => assert_eq!(length, MOST_BYTES),
+            "a text too long" => assert!(length > MOST_BYTES && is_at_fault(&text)),
+            _ => assert!(length < MOST_BYTES),
+        }
+    }
+}
+
+#[test]
+fn a_seed_gives_the_same_texts_again() {
+    for number in 0..80 {
+        assert_eq!(drawn(9, number).bytes, drawn(9, number).bytes);
+    }
+    assert_ne!(drawn(1, 0).bytes, drawn(2, 0).bytes);
+    assert_ne!(drawn(1, 0).bytes, drawn(1, 26).bytes);
+}
