@@ -25,7 +25,7 @@ use Rattle.character.specs.declared.tick.HookFlight.the-variants.{TooFar, To}
 use Rattle.character.specs.declared.tick.Met.{Met}
 use Rattle.character.specs.declared.tick.Ticked.{Ticked}
 use Rattle.character.specs.Tick.{slotAt, nowhere, withHook, withVel, withCharacter, steer, flight, metAt, meetTurn, meetAll, ticked, tickAt}
-use Rattle.physics.proofs.Slots.{set-own}
+use lib.Seq.{set-getD}
 
 same : (v : Velocities) (b : Bool) → cond b v v ≡ v
 same v true = refl
@@ -45,7 +45,7 @@ module _ (t : Tuning) (collision : ne (t .«player_collision») c0 ≡ false) (h
   meet-alone p v (Retracting2 a) q u cid = rw collision
 
   met-alone : (ss : List Slot) (j : ℕ) (v : vec2) → metAt ss j (record { me = v; other = slotAt ss j .character .vel }) ≡ record { vel = v; slots = ss }
-  met-alone ss j v = ap (λ (us : List Slot). record { vel = v; slots = us }) (set-own ss j nowhere)
+  met-alone ss j v = ap (λ (us : List Slot). record { vel = v; slots = us }) (set-getD ss j nowhere)
 
   turn-alone : (id : ℕ) (p : vec2) (h : Hook) (j : ℕ) (m : Met) → meetTurn id p h t j m ≡ m
   turn-alone id p h j m = go (eqb j id) (slotAt (m .slots) j .present)

@@ -4,7 +4,7 @@ use mathlib.Core.Bool.{Bool, true, false, cond}
 use mathlib.Core.List.{List}
 use Prim.Native.Nat.{ℕ}
 use lib.Dec.{eqb}
-use lib.ListN.{set}
+use lib.ListN.{length, set, length-set}
 use Rattle.turns.proofs.Kept.{fold-kept}
 use Rattle.vector.specs.declared.vec2.{vec2}
 use Rattle.hook.specs.declared.Hook.{Hook}
@@ -55,6 +55,27 @@ module _ (ss : List Slot) where
   pub tick-others : (n : ℕ) (c : Character) (id : ℕ) (s : Sides) (ts : List ℕ) (i : PlayerInput) (t : Tuning) (k : ℕ) → SameButVel (slotAt ss k) (slotAt (tickAt n c id ss s ts i t .slots) k)
   unfolding tickAt
   tick-others n c id s ts i t = let d = steer c (grounded s ts (c .pos)) i t in ticked-kept n c d id t (flight n (d .hook) (c .pos) id ss s ts t)
+
+-- as many slots as before
+module _ (ss : List Slot) where
+  turn-length : (id : ℕ) (p : vec2) (h : Hook) (t : Tuning) (j : ℕ) (m : Met) → length (m .slots) ≡ length ss → length (meetTurn id p h t j m .slots) ≡ length ss
+  turn-length id p h t j m e = go (eqb j id) (slotAt (m .slots) j .present) (meet p (m .vel) h (slotAt (m .slots) j .character .pos) (slotAt (m .slots) j .character .vel) j t)
+    where
+      go : (b d : Bool) (v : Velocities) → length (cond b m (cond d (metAt (m .slots) j v) m) .slots) ≡ length ss
+      go true d v = e
+      go false true v = length-set (m .slots) j (withCharacter (slotAt (m .slots) j) (withVel (slotAt (m .slots) j .character) (v .other))) ∙ e
+      go false false v = e
+
+  ticked-length : (n : ℕ) (before c : Character) (id : ℕ) (t : Tuning) (f : HookFlight) → length (ticked n before c id ss t f .slots) ≡ length ss
+  unfolding meetAll
+  ticked-length n before c id t TooFar = refl
+  ticked-length n before c id t (To h) =
+      let v = dragged h (before .pos) (c .vel) (c .«move_direction») t in
+      fold-kept (meetTurn id (before .pos) (hold h) t) (λ m. length (m .slots) ≡ length ss) (turn-length id (before .pos) (hold h) t) n 0 (record { vel = v; slots = ss }) refl
+
+  pub tick-length : (n : ℕ) (c : Character) (id : ℕ) (s : Sides) (ts : List ℕ) (i : PlayerInput) (t : Tuning) → length (tickAt n c id ss s ts i t .slots) ≡ length ss
+  unfolding tickAt
+  tick-length n c id s ts i t = let d = steer c (grounded s ts (c .pos)) i t in ticked-length n c d id t (flight n (d .hook) (c .pos) id ss s ts t)
 
 -- the ticking character stays where it is
 ticked-pos : (n : ℕ) (before c : Character) (id : ℕ) (ss : List Slot) (t : Tuning) (f : HookFlight) → c .pos ≡ before .pos → ticked n before c id ss t f .me .pos ≡ before .pos

@@ -1,24 +1,39 @@
 -- A list after one of its places is set. Assumes nothing.
-use mathlib.Core.Path.{_≡_, refl, ap}
+use mathlib.Core.Path.{_≡_, ap}
 use mathlib.Core.List.{List, [], _∷_}
-use Prim.Native.Nat.{ℕ, zero, suc}
-use lib.ListN.{getD, set}
+use Prim.Native.Nat.{ℕ, zero, suc, _<_}
+use native.Mathlib.Omega.{arith}
+use lib.ListN.{length, getD, set, replicate}
+
+less : (m n : ℕ) → suc m < suc n → m < n
+less m n h = omega arith
 
 module _ {A : Type 0} where
-  -- set to what it holds, a list stays as it is
-  pub set-own : (xs : List A) (j : ℕ) (d : A) → set xs j (getD xs j d) ≡ xs
-  set-own [] j d = refl
-  set-own (x ∷ xs) zero d = refl
-  set-own (x ∷ xs) (suc j) d = ap (λ (ys : List A). x ∷ ys) (set-own xs j d)
+  -- a fact of each place is kept where the set place has it
+  pub set-every : (P : ℕ → A → Type 0) (xs : List A) (j : ℕ) (a d : A) → ((k : ℕ) → P k (getD xs k d)) → P j a → (k : ℕ) → P k (getD (set xs j a) k d)
+  set-every P [] j a d h r k = h k
+  set-every P (x ∷ xs) zero a d h r zero = r
+  set-every P (x ∷ xs) zero a d h r (suc k) = h (suc k)
+  set-every P (x ∷ xs) (suc j) a d h r zero = h zero
+  set-every P (x ∷ xs) (suc j) a d h r (suc k) = set-every (λ i. P (suc i)) xs j a d (λ i. h (suc i)) r k
+
+  -- inside the list it is enough that the other places have it
+  pub set-others : (P : ℕ → A → Type 0) (xs : List A) (j : ℕ) (a d : A) → j < length xs → ((k : ℕ) → (k ≡ j → ⊥) → P k (getD xs k d)) → P j a → (k : ℕ) → P k (getD (set xs j a) k d)
+  set-others P [] j a d l h r k = absurd (none l)
+    where
+      none : j < 0 → ⊥
+      none q = omega arith
+  set-others P (x ∷ xs) zero a d l h r zero = r
+  set-others P (x ∷ xs) zero a d l h r (suc k) = h (suc k) (λ e. omega arith)
+  set-others P (x ∷ xs) (suc j) a d l h r zero = h zero (λ e. omega arith)
+  set-others P (x ∷ xs) (suc j) a d l h r (suc k) = set-others (λ i. P (suc i)) xs j a d (less j (length xs) l) (λ i q. h (suc i) (λ e. q (omega arith))) r k
 
   -- a relation of each place of a first list to the same place of a second is kept where the set place keeps it
   pub set-kept : (R : A → A → Type 0) (us xs : List A) (j : ℕ) (a d : A) → ((k : ℕ) → R (getD us k d) (getD xs k d)) → R (getD us j d) a → (k : ℕ) → R (getD us k d) (getD (set xs j a) k d)
-  set-kept R us [] j a d h r k = h k
-  set-kept R [] (x ∷ xs) zero a d h r zero = r
-  set-kept R [] (x ∷ xs) zero a d h r (suc k) = h (suc k)
-  set-kept R [] (x ∷ xs) (suc j) a d h r zero = h zero
-  set-kept R [] (x ∷ xs) (suc j) a d h r (suc k) = set-kept R [] xs j a d (λ i. h (suc i)) r k
-  set-kept R (u ∷ us) (x ∷ xs) zero a d h r zero = r
-  set-kept R (u ∷ us) (x ∷ xs) zero a d h r (suc k) = h (suc k)
-  set-kept R (u ∷ us) (x ∷ xs) (suc j) a d h r zero = h zero
-  set-kept R (u ∷ us) (x ∷ xs) (suc j) a d h r (suc k) = set-kept R us xs j a d (λ i. h (suc i)) r k
+  set-kept R us xs j a d = set-every (λ k. R (getD us k d)) xs j a d
+
+  -- a fact of a and of what is read past the end is one of every place of n times a
+  pub replicate-every : (P : A → Type 0) (n : ℕ) (a d : A) → P a → P d → (k : ℕ) → P (getD (replicate n a) k d)
+  replicate-every P zero a d p q k = q
+  replicate-every P (suc n) a d p q zero = p
+  replicate-every P (suc n) a d p q (suc k) = replicate-every P n a d p q k

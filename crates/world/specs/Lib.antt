@@ -1,3 +1,4 @@
 pub mod World
 pub mod Calls
 pub mod Step
+pub mod Demand3

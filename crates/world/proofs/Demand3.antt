@@ -1,0 +1,216 @@
+-- Demand 3 holds, for every number of slots. Assumes nothing.
+use Prim.Native.Nat.{ℕ, suc, _≤_, _<_}
+use native.Mathlib.Omega.{arith}
+use mathlib.Core.Bool.{Bool, true, false, cond, _&&_, _||_, true≢false}
+use mathlib.Core.List.{List, [], _∷_}
+use mathlib.Core.Path.{_≡_, refl, sym, ap, _∙_, subst}
+use lib.Dec.{eqb, ltb}
+use lib.IntN.{ℤ, pos}
+use lib.ListN.{length, getD, set, length-set}
+use lib.Seq.{getD-set-same, getD-set-other}
+use borrow.Author.Tests.{eq-eqb, ne-eqb, eqb-true, eqb-false, ltb-true, ltb-false}
+use Rattle.vector.specs.declared.vec2.{vec2}
+use Rattle.tiles.specs.declared.Sides.{Sides}
+use Rattle.boxes.specs.Box.{Clear, characterBox}
+use Rattle.boxes.proofs.Corners.{character-corners}
+use Rattle.snap_obj.specs.declared.PlayerInput.{PlayerInput}
+use Rattle.character.specs.Character.{spawn}
+use Rattle.character.specs.Tick.{slotAt, nowhere}
+use Rattle.character.specs.declared.Slot.{Slot}
+use Rattle.records.specs.Representable.{Representable}
+use Rattle.records.proofs.Back.{representable-back}
+use Rattle.records.proofs.FromNet.{spawn-representable}
+use Rattle.physics.proofs.Slots.{set-others, replicate-every}
+use Rattle.world.specs.World.{emptySlot, fresh, tuningCount, playerCollision, withSlot, withTuning}
+use Rattle.world.specs.Calls.{refused, accepted, placeOf, pointOf}
+use Rattle.world.specs.Calls as calls
+use Rattle.world.specs.Demand3.{Call, join, leave, input, tune, step, answer, after, collisionAfter, CollisionOff, presentAfter, present, CornersClear, StepFaithful, StepsFaithful, Demand3}
+use Rattle.world.specs.declared.Answer.{Answer}
+use Rattle.world.specs.declared.World.{World}
+use Rattle.world.proofs.Standing.{Standing, representable-fits}
+use Rattle.world.proofs.Reached.{Reached, set-reached, empty-standing, fresh-reached, steps}
+use Rattle.world.proofs.Outcomes.{Outcome, no, yes, reach-i32, joined, Joins, join-outcome, Seated, leave-outcome, input-outcome}
+
+abbrev isStep : Call → Bool
+isStep (join id x y) = false
+isStep (leave id) = false
+isStep (input id i) = false
+isStep (tune index z) = false
+isStep step = true
+
+not-step : (c : Call) → isStep c ≡ false → c ≡ step → ⊥
+not-step c p e = true≢false (sym (ap isStep e) ∙ p)
+
+-- ---- a slot that is set
+module _ (n : ℕ) (w : World) (full : length (w .slots) ≡ n) (j : ℕ) (x : Slot) where
+  -- who is present, where the place j is set to x
+  set-flag : j < n → (k : ℕ) → slotAt (set (w .slots) j x) k .present ≡ cond (eqb j k) (x .present) (slotAt (w .slots) k .present)
+  set-flag l = set-others (λ k y. y .present ≡ cond (eqb j k) (x .present) (slotAt (w .slots) k .present)) (w .slots) j x nowhere (omega (arith, full)) (λ k d. rw (ne-eqb j k (λ e. d (sym e)))) (rw (eq-eqb j j refl))
+
+  with-true : (b : Bool) (u v : Bool) → cond b u v ≡ cond (b && true) u v
+  with-true true u v = refl
+  with-true false u v = refl
+
+  with-false : (b : Bool) (u v : Bool) → v ≡ cond (b && false) u v
+  with-false true u v = refl
+  with-false false u v = refl
+
+  -- an accepted call sets it, a refused one leaves it
+  flags : {F : Type 0} (a : Answer) → Outcome w (withSlot w j x) F a → (F → j < n) → (k : ℕ) → slotAt (a .world .slots) k .present ≡ cond (eqb j k && eqb (a .number) 0) (x .present) (slotAt (w .slots) k .present)
+  flags a (no r e) f k = rw (e, ne-eqb (suc r) 0 (λ q. omega arith)) (with-false (eqb j k) (x .present) (slotAt (w .slots) k .present))
+  flags a (yes q e) f k = rw e (set-flag (f q) k ∙ with-true (eqb j k) (x .present) (slotAt (w .slots) k .present))
+
+module _ (n : ℕ) (s : Sides) (ts : List ℕ) where
+  slot-reached : {F : Type 0} (z : ℤ) (w : World) (j : ℕ) (x : Slot) (a : Answer) → Outcome w (withSlot w j x) F a → Reached n s ts z w → (F → Standing s ts x × (x .present ≡ true → Representable (x .character))) → Reached n s ts z (a .world)
+  slot-reached z w j x a (no r e) h f = rw e h
+  slot-reached z w j x a (yes q e) h f = rw e (set-reached n s ts z w j x h (f q .0) (f q .1))
+
+  -- ---- each call
+  -- what a call leaves of a world that is reached with player collision z
+  record Next (z : ℤ) (w : World) (c : Call) : Type 0 where
+    reached : Reached n s ts (collisionAfter z c) (answer n s ts w c .world)
+    same : (k : ℕ) → slotAt (answer n s ts w c .world .slots) k .present ≡ presentAfter n k (slotAt (w .slots) k .present) (answer n s ts w c .number) c
+    told : c ≡ step → answer n s ts w c .number ≡ 0 → StepFaithful n w s ts
+
+  joined-stands : (w : World) (id x y : ℤ) → Joins n w s ts id x y → Standing s ts (joined (pointOf x y)) × (true ≡ true → Representable (spawn (pointOf x y)))
+  unfolding pointOf spawn
+  joined-stands w id x y f =
+      let r = spawn-representable x y (reach-i32 x (f .x-reach)) (reach-i32 y (f .y-reach)) in
+      let g = representable-fits (spawn (pointOf x y)) r in
+      (record { clear = λ e. f .clear; pos-fits = λ e. g .0; vel-fits = g .1 }, λ e. r)
+
+  join-next : (z : ℤ) (w : World) (id x y : ℤ) → Reached n s ts z w → Next z w (join id x y)
+  join-next z w id x y h =
+      let j = placeOf n id in
+      let a = answer n s ts w (join id x y) in
+      let o = join-outcome n w s ts id x y in
+      record {
+        reached = slot-reached z w j (joined (pointOf x y)) a o h (joined-stands w id x y);
+        same = flags n w (h .seats) j (joined (pointOf x y)) a o (λ f. f .seat);
+        told = λ e. absurd (not-step (join id x y) refl e);
+      }
+
+  leave-next : (z : ℤ) (w : World) (id : ℤ) → Reached n s ts z w → Next z w (leave id)
+  unfolding emptySlot
+  leave-next z w id h =
+      let j = placeOf n id in
+      let a = answer n s ts w (leave id) in
+      let o = leave-outcome n w id in
+      record {
+        reached = slot-reached z w j emptySlot a o h (λ f. (empty-standing n s ts, λ e. absurd (true≢false (sym e))));
+        same = flags n w (h .seats) j emptySlot a o (λ f. f .seat);
+        told = λ e. absurd (not-step (leave id) refl e);
+      }
+
+  -- an input leaves who is present: somebody was there
+  same-flag : (w : World) (j k : ℕ) (b : Bool) → slotAt (w .slots) j .present ≡ true → eqb j k ≡ b → cond b true (slotAt (w .slots) k .present) ≡ slotAt (w .slots) k .present
+  same-flag w j k true p e = sym p ∙ ap (λ (i : ℕ). slotAt (w .slots) i .present) (eqb-true j k e)
+  same-flag w j k false p e = refl
+
+  input-next : (z : ℤ) (w : World) (id : ℤ) (i : PlayerInput) → Reached n s ts z w → Next z w (input id i)
+  input-next z w id i h =
+      let j = placeOf n id in
+      let a = answer n s ts w (input id i) in
+      let x : Slot = record { present = true; character = slotAt (w .slots) j .character; input = i } in
+      record {
+        reached = slot-reached z w j x a (input-outcome n w id i) h (λ f. (record { clear = λ e. h .stands j .clear (f .there); pos-fits = λ e. h .stands j .pos-fits (f .there); vel-fits = h .stands j .vel-fits }, λ e. h .representable j (f .seat) (f .there)));
+        same = stays x a (input-outcome n w id i);
+        told = λ e. absurd (not-step (input id i) refl e);
+      }
+    where
+      stays : (x : Slot) (a : Answer) → Outcome w (withSlot w (placeOf n id) (record { present = true; character = slotAt (w .slots) (placeOf n id) .character; input = i })) (Seated n w id) a → (k : ℕ) → slotAt (a .world .slots) k .present ≡ slotAt (w .slots) k .present
+      stays x a (no r e) k = rw e
+      stays x a (yes f e) k = rw e (set-flag n w (h .seats) (placeOf n id) (record { present = true; character = slotAt (w .slots) (placeOf n id) .character; input = i }) (f .seat) k ∙ same-flag w (placeOf n id) k (eqb (placeOf n id) k) (f .there) refl)
+
+  -- ---- tune
+  module _ (z : ℤ) (w : World) (h : Reached n s ts z w) (k : ℕ) (v : ℤ) where
+    tuned-set : k < tuningCount → (b : Bool) → eqb k playerCollision ≡ b → getD (set (w .tunings) k v) playerCollision (pos 0) ≡ cond b v z
+    tuned-set l true e = ap (λ (i : ℕ). getD (set (w .tunings) i v) playerCollision (pos 0)) (eqb-true k playerCollision e) ∙ getD-set-same (w .tunings) playerCollision v (pos 0) (omega (arith, h .tunings))
+    tuned-set l false e = getD-set-other (w .tunings) k playerCollision v (pos 0) (λ q. eqb-false k playerCollision e (sym q)) ∙ h .tuned
+
+    tuned-next : (b : Bool) → ltb k tuningCount ≡ b → Reached n s ts (cond (eqb k playerCollision) v z) (cond b (accepted (withTuning w k v)) (refused w 3) .world)
+    tuned-next true l = record {
+      seats = h .seats;
+      stands = h .stands;
+      representable = h .representable;
+      tuned = tuned-set (ltb-true k tuningCount l) (eqb k playerCollision) refl;
+      tunings = length-set (w .tunings) k v ∙ h .tunings;
+    }
+    tuned-next false l = rw (ne-eqb k playerCollision (λ e. let g : tuningCount ≤ k = ltb-false k tuningCount l in omega arith)) h
+
+    slots-stay : (b : Bool) → cond b (accepted (withTuning w k v)) (refused w 3) .world .slots ≡ w .slots
+    slots-stay true = refl
+    slots-stay false = refl
+
+  tune-next : (z : ℤ) (w : World) (index v : ℤ) → Reached n s ts z w → Next z w (tune index v)
+  unfolding calls.tune
+  tune-next z w index v h =
+      let k = placeOf tuningCount index in
+      record {
+        reached = tuned-next z w h k v (ltb k tuningCount) refl;
+        same = λ i. ap (λ (us : List Slot). slotAt us i .present) (slots-stay z w h k v (ltb k tuningCount));
+        told = λ e. absurd (not-step (tune index v) refl e);
+      }
+
+  step-next : (z : ℤ) (w : World) → Reached n s ts z w → z ≡ pos 0 → Next z w step
+  step-next z w h e =
+      let x = steps n s ts w (subst (λ (v : ℤ). Reached n s ts v w) e h) in
+      record {
+        reached = subst (λ (v : ℤ). Reached n s ts v (answer n s ts w step .world)) (sym e) (x .reached);
+        same = x .same;
+        told = λ i q. record { published = x .published q; faithful = x .faithful q };
+      }
+
+  next : (z : ℤ) (w : World) (c : Call) → Reached n s ts z w → (c ≡ step → z ≡ pos 0) → Next z w c
+  next z w (join id x y) h o = join-next z w id x y h
+  next z w (leave id) h o = leave-next z w id h
+  next z w (input id i) h o = input-next z w id i h
+  next z w (tune index v) h o = tune-next z w index v h
+  next z w step h o = step-next z w h (o refl)
+
+  -- ---- every list of calls
+  record Upto (w : World) (cs : List Call) : Type 0 where
+    collision : ℤ
+    reached : Reached n s ts collision (after n s ts w cs)
+    same : (k : ℕ) → slotAt (after n s ts w cs .slots) k .present ≡ present n s ts k (slotAt (w .slots) k .present) w cs
+    told : StepsFaithful n s ts w cs
+
+  upto : (cs : List Call) (z : ℤ) (w : World) → Reached n s ts z w → CollisionOff z cs → Upto w cs
+  upto [] z w h o = record { collision = z; reached = h; same = λ k. refl; told = tt }
+  upto (c ∷ cs) z w h o =
+      let x = next z w c h (o .0) in
+      let r = upto cs (collisionAfter z c) (answer n s ts w c .world) (x .reached) (o .1) in
+      record {
+        collision = r .collision;
+        reached = r .reached;
+        same = λ k. r .same k ∙ ap (λ (b : Bool). present n s ts k b (answer n s ts w c .world) cs) (x .same k);
+        told = (x .told, r .told);
+      }
+
+  -- nobody is in a fresh world
+  fresh-absent : (k : ℕ) → slotAt (fresh n .slots) k .present ≡ false
+  unfolding fresh emptySlot
+  fresh-absent = replicate-every (λ (x : Slot). x .present ≡ false) n emptySlot nowhere refl refl
+
+-- ---- the four corners
+all-false : (a b c d : Bool) → a || b || c || d ≡ false → (a ≡ false) × (b ≡ false) × (c ≡ false) × (d ≡ false)
+all-false false false false false e = (refl, refl, refl, refl)
+all-false true b c d e = absurd (true≢false e)
+all-false false true c d e = absurd (true≢false e)
+all-false false false true d e = absurd (true≢false e)
+all-false false false false true e = absurd (true≢false e)
+
+corners-clear : (s : Sides) (ts : List ℕ) (p : vec2) → Clear s ts p characterBox → CornersClear s ts p
+corners-clear s ts p h = let e = all-false _ _ _ _ (sym (character-corners s ts p) ∙ h) in record { right-bottom = e .0; left-top = e .1; right-top = e .2; left-bottom = e .3 }
+
+pub demand3 : (n : ℕ) → Demand3 n
+demand3 n s ts cs o =
+    let u = upto n s ts cs (pos 100) (fresh n) (fresh-reached n s ts) o in
+    record {
+      clear = λ k l p. corners-clear s ts (slotAt (after n s ts (fresh n) cs .slots) k .character .pos) (u .reached .stands k .clear (there u k p));
+      back = λ k l p. representable-back (slotAt (after n s ts (fresh n) cs .slots) k .character) (u .reached .representable k l (there u k p));
+      steps = u .told;
+    }
+  where
+    there : Upto n s ts (fresh n) cs → (k : ℕ) → present n s ts k false (fresh n) cs ≡ true → slotAt (after n s ts (fresh n) cs .slots) k .present ≡ true
+    there u k p = u .same k ∙ ap (λ (b : Bool). present n s ts k b (fresh n) cs) (fresh-absent n s ts k) ∙ p

@@ -1,0 +1,251 @@
+-- What the moves of a step keep and publish, with player collision 0. Assumes nothing.
+use Prim.Native.Nat.{ℕ, zero, suc, _+_, _≤_, _<_}
+use native.Mathlib.Omega.{arith}
+use native.Mathlib.Nat.{eq-or-lt-of-le}
+use mathlib.Core.Logic.{_⊎_, ⊎-elim}
+use mathlib.Core.Bool.{Bool, true, false, cond, true≢false}
+use mathlib.Core.List.{List}
+use mathlib.Core.Path.{_≡_, refl, sym, ap, _∙_, subst}
+use lib.Dec.{T, leb}
+use lib.Ieee.{ne}
+use lib.ListN.{length, set, length-set, length-replicate}
+use Rattle.turns.specs.Turns.{Turn, more, stop, next, run}
+use Rattle.turns.proofs.Kept.{Ends, run-kept}
+use Rattle.number.specs.Number.{c0}
+use Rattle.tiles.specs.Map.{isMap}
+use Rattle.tiles.specs.declared.Sides.{Sides}
+use Rattle.tuning.specs.declared.Tuning.{Tuning}
+use Rattle.boxes.specs.Box.{Clear, characterBox}
+use Rattle.snap_obj.specs.declared.CharacterCore.{CharacterCore}
+use Rattle.hook.specs.Hook.{tickOf}
+use Rattle.character.specs.declared.Character.{Character}
+use Rattle.character.specs.declared.Slot.{Slot}
+use Rattle.character.specs.declared.walk.Moved.{Moved}
+use Rattle.character.specs.declared.walk.Moved.the-variants as moved
+use Rattle.character.specs.Tick.{slotAt, nowhere, withCharacter}
+use Rattle.records.specs.Faithful.{Faithful}
+use Rattle.records.specs.Records.{coreOf, toNet, fromNet, quantize, mostTick}
+use Rattle.records.specs.Representable.{Representable}
+use Rattle.records.specs.declared.Net.{Net}
+use Rattle.records.specs.declared.Net.the-variants as net
+use Rattle.records.specs.declared.Quantized.the-variants as quantized
+use Rattle.records.proofs.FromNet.{quantized-representable}
+use Rattle.records.proofs.Faithful.{core-faithful, core-clear}
+use Rattle.physics.proofs.Slots.{set-others, replicate-every}
+use Rattle.physics.proofs.Moved.{move-clear}
+use Rattle.physics.proofs.FitsTick.{FitsPair}
+use Rattle.physics.proofs.FitsMove.{move-fits}
+use Rattle.world.specs.Step.{Moving, unpublished, ofNet, recordOf, publish, moveIn, moveTurn, movingFrom, moveAll}
+use Rattle.world.specs.Demand3.{leftIn, leftFrom, FaithfulTo, recordAt}
+use Rattle.world.specs.declared.Published.{Published}
+use Rattle.world.proofs.Standing.{representable-fits, Standing}
+
+-- ---- the record of a character
+
+-- only the tick can be in the way of a record
+net-core : (c : Character) (core : CharacterCore) → toNet c ≡ net.Core core → core ≡ coreOf c
+unfolding toNet
+net-core c core e = go (leb (tickOf (c .hook)) mostTick) e
+  where
+    go : (b : Bool) → cond b (net.Core (coreOf c)) net.TickTooLarge ≡ net.Core core → core ≡ coreOf c
+    go true q = cc
+    go false q = let z : _≡_ {A = ℕ} 0 1 = cc in absurd (omega arith)
+
+module _ (s : Sides) (ts : List ℕ) where
+  -- what is read back of a record of c
+  record Read (c : Character) (core : CharacterCore) : Type 0 where
+    faithful : Faithful core (c .pos) (c .vel)
+    representable : Representable (fromNet core)
+    clear : Clear s ts (fromNet core .pos) characterBox
+
+  read : (c : Character) (core : CharacterCore) → T (isMap s ts) → FitsPair (c .pos) → FitsPair (c .vel) → Clear s ts (c .pos) characterBox → toNet c ≡ net.Core core → Read c core
+  unfolding quantize
+  read c core m p v h e =
+      let i = net-core c core e in
+      let q : quantize c ≡ quantized.To (fromNet core) = rw e in
+      record {
+        faithful = subst (λ (k : CharacterCore). Faithful k (c .pos) (c .vel)) (sym i) (core-faithful c (v .0) (v .1));
+        representable = quantized-representable c (fromNet core) q;
+        clear = subst (λ (k : CharacterCore). Clear s ts (fromNet k .pos) characterBox) (sym i) (core-clear s ts c m (p .0) (p .1) ∙ h);
+      }
+
+-- ---- a walk by one turn more
+next-more : {S R : Type 0} (a : Turn S R) → next more a ≡ a
+next-more (more s) = refl
+next-more (stop r) = refl
+
+module _ {S R : Type 0} (f : ℕ → S → Turn S R) where
+  step-last : (n i : ℕ) → ((u : S) → run f (suc n) (suc i) u ≡ next (f (n + suc i)) (run f n (suc i) u)) → (a : Turn S R) → next (run f (suc n) (suc i)) a ≡ next (f (suc n + i)) (next (run f n (suc i)) a)
+  step-last n i h (more u) = h u ∙ ap (λ (j : ℕ). next (f j) (run f n (suc i) u)) (omega arith)
+  step-last n i h (stop r) = refl
+
+  run-last : (n i : ℕ) (s : S) → run f (suc n) i s ≡ next (f (n + i)) (run f n i s)
+  unfolding run
+  run-last zero i s = next-more (f i s) ∙ ap (λ (j : ℕ). f j s) (omega arith)
+  run-last (suc n) i s = step-last n i (run-last n (suc i)) (f i s)
+
+-- the two ways of a turn are apart, and what goes on is one
+stop-or-more : (k : ℕ) (a : Moving) → _≡_ {A = Turn Moving ℕ} (stop k) (more a) → ⊥
+stop-or-more k a e = let z : _≡_ {A = ℕ} 0 1 = cc in omega arith
+
+same-more : (a b : Moving) → _≡_ {A = Turn Moving ℕ} (more a) (more b) → a ≡ b
+same-more a b e = cc
+
+stops : (j k : ℕ) → _≡_ {A = Turn Moving ℕ} (stop (suc j)) (stop k) → 0 < k
+stops j k e = let z : suc j ≡ k = cc in omega arith
+
+-- the last of the indices below i + 1, or one before it
+last-or-below : (k i : ℕ) → k < suc i → (k ≡ i) ⊎ (k < i)
+last-or-below k i h = eq-or-lt-of-le (omega arith)
+
+-- ---- the moves so far
+module _ (n : ℕ) (s : Sides) (ts : List ℕ) (t : Tuning) (ss : List Slot) where
+  -- the record of the id k: there where somebody is, and near to what the move left
+  abbrev pub Told : ℕ → Published → Type 0
+  Told k p = (p .present ≡ slotAt ss k .present) × (slotAt ss k .present ≡ true → FaithfulTo (p .core) (leftFrom n s ts t ss k))
+
+  -- after i moves: every slot stands; those that have moved are representable, and their records are told
+  pub record Sofar (i : ℕ) (m : Moving) : Type 0 where
+    pub reached : run (moveTurn n s ts t) i 0 (movingFrom n ss) ≡ more m
+    pub stands : (k : ℕ) → Standing s ts (slotAt (m .slots) k)
+    pub same : (k : ℕ) → slotAt (m .slots) k .present ≡ slotAt ss k .present
+    pub seats : length (m .slots) ≡ n
+    pub moved : (k : ℕ) → k < i → slotAt ss k .present ≡ true → Representable (slotAt (m .slots) k .character)
+    pub size : length (m .records) ≡ n
+    pub told : (k : ℕ) → k < i → Told k (recordAt (m .records) k)
+    pub untold : (k : ℕ) → i ≤ k → recordAt (m .records) k .present ≡ false
+
+module _ (n : ℕ) (s : Sides) (ts : List ℕ) (t : Tuning) (map : T (isMap s ts)) (off : ne (t .«player_collision») c0 ≡ false) (ss : List Slot) (full : length ss ≡ n) where
+  abbrev Upto : ℕ → Moving → Type 0
+  Upto = Sofar n s ts t ss
+
+  module _ (i : ℕ) (m : Moving) (h : Upto i m) where
+    reaches : (m' : Moving) → moveTurn n s ts t i m ≡ more m' → run (moveTurn n s ts t) (suc i) 0 (movingFrom n ss) ≡ more m'
+    reaches m' e = run-last (moveTurn n s ts t) i 0 (movingFrom n ss) ∙ ap (next (moveTurn n s ts t (i + 0))) (h .reached) ∙ ap (λ (j : ℕ). moveTurn n s ts t j m) (omega arith) ∙ e
+
+    -- nobody there: as before
+    absent : slotAt (m .slots) i .present ≡ false → moveTurn n s ts t i m ≡ more m → Upto (suc i) m
+    absent p e = record {
+      reached = reaches m e;
+      stands = h .stands;
+      same = h .same;
+      seats = h .seats;
+      moved = λ k l. ⊎-elim (λ q. λ r. absurd (true≢false (sym r ∙ nobody k q))) (h .moved k) (last-or-below k i l);
+      size = h .size;
+      told = λ k l. ⊎-elim (λ q. (h .untold k (omega (arith, q)) ∙ sym (nobody k q), λ r. absurd (true≢false (sym r ∙ nobody k q)))) (h .told k) (last-or-below k i l);
+      untold = λ k l. h .untold k (omega arith);
+    }
+      where
+        nobody : (k : ℕ) → k ≡ i → slotAt ss k .present ≡ false
+        nobody k q = rw q (sym (h .same i) ∙ p)
+
+    -- somebody is there: its record is published
+    module _ (l : i < n) (p : slotAt (m .slots) i .present ≡ true) (c : Character) (core : CharacterCore) (q : moveIn n s ts t (m .slots) i ≡ moved.To c) (r : Read s ts c core) where
+      abbrev after : Moving
+      after = record { slots = set (m .slots) i (withCharacter (slotAt (m .slots) i) (fromNet core)); records = set (m .records) i (record { present = true; core = core }) }
+
+      abbrev new : Slot
+      new = withCharacter (slotAt (m .slots) i) (fromNet core)
+
+      slots-in : i < length (m .slots)
+      slots-in = omega (arith, h .seats)
+
+      records-in : i < length (m .records)
+      records-in = omega (arith, h .size)
+
+      left-is : leftFrom n s ts t ss i ≡ moved.To c
+      left-is = ap (leftIn n s ts t i) (h .reached) ∙ q
+
+      standing : Standing s ts new
+      standing = let f = representable-fits (fromNet core) (r .representable) in record { clear = λ e. r .clear; pos-fits = λ e. f .0; vel-fits = f .1 }
+
+      present : moveTurn n s ts t i m ≡ more after → Upto (suc i) after
+      present e = record {
+        reached = reaches after e;
+        stands = set-others (λ k x. Standing s ts x) (m .slots) i new nowhere slots-in (λ k d. h .stands k) standing;
+        same = set-others (λ k x. x .present ≡ slotAt ss k .present) (m .slots) i new nowhere slots-in (λ k d. h .same k) (h .same i);
+        seats = length-set (m .slots) i new ∙ h .seats;
+        moved = λ k b. set-others (λ j x. j < suc i → slotAt ss j .present ≡ true → Representable (x .character)) (m .slots) i new nowhere slots-in (λ j d a. h .moved j (lt-of j d a)) (λ a e. r .representable) k b;
+        size = length-set (m .records) i (record { present = true; core = core }) ∙ h .size;
+        told = set-others (λ j x. j < suc i → Told n s ts t ss j x) (m .records) i (record { present = true; core = core }) unpublished records-in (λ j d a. h .told j (lt-of j d a)) (λ a. (sym p ∙ h .same i, λ e. subst (FaithfulTo core) (sym left-is) (r .faithful)));
+        untold = λ k b. set-others (λ j x. i < j → x .present ≡ false) (m .records) i (record { present = true; core = core }) unpublished records-in (λ j d a. h .untold j (omega arith)) (λ a. absurd (omega arith)) k (omega arith);
+      }
+        where
+          lt-of : (j : ℕ) → (j ≡ i → ⊥) → j < suc i → j < i
+          lt-of j d a = ⊎-elim (λ z. absurd (d z)) (λ z. z) (last-or-below j i a)
+
+    reads : slotAt (m .slots) i .present ≡ true → (c : Character) (core : CharacterCore) → moveIn n s ts t (m .slots) i ≡ moved.To c → toNet c ≡ net.Core core → Read s ts c core
+    reads p c core q w =
+        let me = slotAt (m .slots) i .character in
+        let f = move-fits n me c i (m .slots) s ts t off (h .stands i .pos-fits p) (h .stands i .vel-fits) q in
+        read s ts c core map (f .0) (f .1) (move-clear n me c i (m .slots) s ts t off (h .stands i .clear p) q) w
+
+    -- a turn that goes on, whoever is there
+    turn : i < n → (m' : Moving) → moveTurn n s ts t i m ≡ more m' → Upto (suc i) m'
+    unfolding recordOf
+    turn l m' e = go (slotAt (m .slots) i .present) refl e
+      where
+        named : (c : Character) (o : Net) → moveIn n s ts t (m .slots) i ≡ moved.To c → toNet c ≡ o → slotAt (m .slots) i .present ≡ true → publish m i (ofNet o) ≡ more m' → Upto (suc i) m'
+        named c net.TickTooLarge q w p z = absurd (stop-or-more 10 m' z)
+        named c (net.Core core) q w p z = subst (Upto (suc i)) (same-more (after l p c core q (reads p c core q w)) m' z) (present l p c core q (reads p c core q w) (e ∙ sym z))
+
+        recorded : (d : Moved) → moveIn n s ts t (m .slots) i ≡ d → slotAt (m .slots) i .present ≡ true → publish m i (recordOf d) ≡ more m' → Upto (suc i) m'
+        recorded moved.BadMap q p z = absurd (stop-or-more 1 m' z)
+        recorded moved.BadId q p z = absurd (stop-or-more 2 m' z)
+        recorded moved.TooFar q p z = absurd (stop-or-more 9 m' z)
+        recorded (moved.To c) q p z = named c (toNet c) q refl p z
+
+        go : (b : Bool) → slotAt (m .slots) i .present ≡ b → cond b (publish m i (recordOf (moveIn n s ts t (m .slots) i))) (more m) ≡ more m' → Upto (suc i) m'
+        go true p z = recorded (moveIn n s ts t (m .slots) i) refl p z
+        go false p z = subst (Upto (suc i)) (same-more m m' z) (absent p (e ∙ sym z))
+
+  -- a number that stops the moves is not 0
+  refuses : (i : ℕ) (m : Moving) (k : ℕ) → moveTurn n s ts t i m ≡ stop k → 0 < k
+  unfolding recordOf
+  refuses i m k e = go (slotAt (m .slots) i .present) e
+    where
+      named : (o : Net) → publish m i (ofNet o) ≡ stop k → 0 < k
+      named net.TickTooLarge z = stops 9 k z
+      named (net.Core core) z = absurd (stop-or-more k _ (sym z))
+
+      recorded : (d : Moved) → publish m i (recordOf d) ≡ stop k → 0 < k
+      recorded moved.BadMap z = stops 0 k z
+      recorded moved.BadId z = stops 1 k z
+      recorded moved.TooFar z = stops 8 k z
+      recorded (moved.To c) z = named (toNet c) z
+
+      go : (b : Bool) → cond b (publish m i (recordOf (moveIn n s ts t (m .slots) i))) (more m) ≡ stop k → 0 < k
+      go true z = recorded (moveIn n s ts t (m .slots) i) z
+      go false z = absurd (stop-or-more k m (sym z))
+
+  step-sofar : (i : ℕ) (m : Moving) → (i ≤ n → Upto i m) → Ends (λ m'. suc i ≤ n → Upto (suc i) m') (λ k. 0 < k) (moveTurn n s ts t i m)
+  step-sofar i m h = go (moveTurn n s ts t i m) refl
+    where
+      go : (a : Turn Moving ℕ) → moveTurn n s ts t i m ≡ a → Ends (λ m'. suc i ≤ n → Upto (suc i) m') (λ k. 0 < k) a
+      go (more m') e = λ l. turn i m (h (omega arith)) (omega arith) m' e
+      go (stop k) e = refuses i m k e
+
+  start : ((k : ℕ) → Standing s ts (slotAt ss k)) → Upto 0 (movingFrom n ss)
+  unfolding run
+  start h = record {
+    reached = refl;
+    stands = h;
+    same = λ k. refl;
+    seats = full;
+    moved = λ k l. absurd (none k l);
+    size = length-replicate n unpublished;
+    told = λ k l. absurd (none k l);
+    untold = λ k l. replicate-every (λ (p : Published). p .present ≡ false) n unpublished unpublished refl refl k;
+  }
+    where
+      none : (k : ℕ) → k < 0 → ⊥
+      none k l = omega arith
+
+  all : (a : Turn Moving ℕ) → Ends (λ m. n + 0 ≤ n → Upto (n + 0) m) (λ k. 0 < k) a → Ends (Upto n) (λ k. 0 < k) a
+  all (more m) f = subst (λ (j : ℕ). Upto j m) (omega arith) (f (omega arith))
+  all (stop k) l = l
+
+  -- after all moves; a number that refuses them is not 0
+  pub moves-sofar : ((k : ℕ) → Standing s ts (slotAt ss k)) → Ends (Sofar n s ts t ss n) (λ k. 0 < k) (moveAll n ss s ts t)
+  unfolding moveAll
+  moves-sofar h = all (run (moveTurn n s ts t) n 0 (movingFrom n ss)) (run-kept (moveTurn n s ts t) (λ i m. i ≤ n → Upto i m) (λ k. 0 < k) step-sofar n 0 (movingFrom n ss) (λ l. start h))

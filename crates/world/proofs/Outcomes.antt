@@ -1,0 +1,88 @@
+-- What becomes of a join, a leave and an input: refused, or one slot is set. Assumes nothing.
+use Prim.Native.Nat.{ℕ, suc, _≤_, _<_}
+use native.Mathlib.Omega.{arith}
+use mathlib.Core.Bool.{Bool, true, false, cond, _&&_}
+use mathlib.Core.List.{List}
+use mathlib.Core.Path.{_≡_, refl}
+use lib.Dec.{ltb}
+use lib.IntN.{ℤ, pos, negsuc}
+use borrow.Author.Tests.{ltb-true, leb-true}
+use Rattle.vector.specs.declared.vec2.{vec2}
+use Rattle.tiles.specs.Map.{isMap}
+use Rattle.tiles.specs.declared.Sides.{Sides}
+use Rattle.boxes.specs.Box.{checkBox, Clear, characterBox}
+use Rattle.snap_obj.specs.declared.PlayerInput.{PlayerInput}
+use Rattle.character.specs.Character.{spawn}
+use Rattle.character.specs.Tick.{slotAt}
+use Rattle.character.specs.declared.Slot.{Slot}
+use Rattle.records.specs.Representable.{IsI32}
+use Rattle.world.specs.World.{noInput, emptySlot, withSlot}
+use Rattle.world.specs.Calls.{refused, accepted, placeOf, inReach, pointOf, joinAt, join, ifPresent, leave, input}
+use Rattle.world.specs.declared.Answer.{Answer}
+use Rattle.world.specs.declared.World.{World}
+
+-- a is a refusal that leaves w, or under the facts F it goes on with the world u
+pub data Outcome (w u : World) (F : Type 0) (a : Answer) : Type 0 where
+  no : (r : ℕ) → a ≡ refused w (suc r) → Outcome w u F a
+  yes : F → a ≡ accepted u → Outcome w u F a
+
+-- a coordinate in reach is an i32
+pub reach-i32 : (z : ℤ) → inReach z ≡ true → IsI32 z
+unfolding inReach
+reach-i32 (pos k) e = let h : k ≤ 100000 = leb-true k 100000 e in omega arith
+reach-i32 (negsuc k) e = let h : suc k ≤ 100000 = leb-true (suc k) 100000 e in omega arith
+
+-- ---- join
+abbrev pub joined : vec2 → Slot
+joined p = record { present = true; character = spawn p; input = noInput }
+
+module _ (n : ℕ) (w : World) (s : Sides) (ts : List ℕ) where
+  -- what an accepted join has been tested for
+  pub record Joins (id x y : ℤ) : Type 0 where
+    pub seat : placeOf n id < n
+    pub x-reach : inReach x ≡ true
+    pub y-reach : inReach y ≡ true
+    pub clear : Clear s ts (pointOf x y) characterBox
+
+  join-at : (id x y : ℤ) → placeOf n id < n → inReach x ≡ true → inReach y ≡ true → Outcome w (withSlot w (placeOf n id) (joined (pointOf x y))) (Joins id x y) (joinAt w s ts (placeOf n id) (pointOf x y))
+  unfolding joinAt
+  join-at id x y l a b = go (checkBox s ts (pointOf x y) characterBox) (slotAt (w .slots) (placeOf n id) .present) refl
+    where
+      go : (c d : Bool) → checkBox s ts (pointOf x y) characterBox ≡ c → Outcome w (withSlot w (placeOf n id) (joined (pointOf x y))) (Joins id x y) (cond c (refused w 5) (cond d (refused w 7) (accepted (withSlot w (placeOf n id) (joined (pointOf x y))))))
+      go true d e = no 4 refl
+      go false true e = no 6 refl
+      go false false e = yes (record { seat = l; x-reach = a; y-reach = b; clear = e }) refl
+
+  pub join-outcome : (id x y : ℤ) → Outcome w (withSlot w (placeOf n id) (joined (pointOf x y))) (Joins id x y) (join n w s ts id x y)
+  unfolding join
+  join-outcome id x y = go (isMap s ts) (ltb (placeOf n id) n) (inReach x) (inReach y) refl refl refl
+    where
+      go : (b c d e : Bool) → ltb (placeOf n id) n ≡ c → inReach x ≡ d → inReach y ≡ e → Outcome w (withSlot w (placeOf n id) (joined (pointOf x y))) (Joins id x y) (cond b (cond c (cond (d && e) (joinAt w s ts (placeOf n id) (pointOf x y)) (refused w 4)) (refused w 2)) (refused w 1))
+      go false c d e l p q = no 0 refl
+      go true false d e l p q = no 1 refl
+      go true true false e l p q = no 3 refl
+      go true true true false l p q = no 3 refl
+      go true true true true l p q = join-at id x y (ltb-true (placeOf n id) n l) p q
+
+-- ---- leave and input
+module _ (n : ℕ) (w : World) where
+  -- the seat is one, and somebody is there
+  pub record Seated (id : ℤ) : Type 0 where
+    pub seat : placeOf n id < n
+    pub there : slotAt (w .slots) (placeOf n id) .present ≡ true
+
+  seated : (id : ℤ) (u : World) → Outcome w u (Seated id) (cond (ltb (placeOf n id) n) (ifPresent w (placeOf n id) u) (refused w 2))
+  seated id u = go (ltb (placeOf n id) n) (slotAt (w .slots) (placeOf n id) .present) refl refl
+    where
+      go : (b c : Bool) → ltb (placeOf n id) n ≡ b → slotAt (w .slots) (placeOf n id) .present ≡ c → Outcome w u (Seated id) (cond b (cond c (accepted u) (refused w 8)) (refused w 2))
+      go false c l p = no 1 refl
+      go true false l p = no 7 refl
+      go true true l p = yes (record { seat = ltb-true (placeOf n id) n l; there = p }) refl
+
+  pub leave-outcome : (id : ℤ) → Outcome w (withSlot w (placeOf n id) emptySlot) (Seated id) (leave n w id)
+  unfolding leave
+  leave-outcome id = seated id (withSlot w (placeOf n id) emptySlot)
+
+  pub input-outcome : (id : ℤ) (i : PlayerInput) → Outcome w (withSlot w (placeOf n id) (record { present = true; character = slotAt (w .slots) (placeOf n id) .character; input = i })) (Seated id) (input n w id i)
+  unfolding input
+  input-outcome id i = seated id (withSlot w (placeOf n id) (record { present = true; character = slotAt (w .slots) (placeOf n id) .character; input = i }))

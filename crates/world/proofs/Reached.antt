@@ -1,0 +1,136 @@
+-- What holds of a world between the calls, and that a step with player collision 0 keeps it. Assumes nothing.
+use Prim.Native.Nat.{ℕ, _<_}
+use native.Mathlib.Omega.{arith}
+use mathlib.Core.Bool.{Bool, true, false, cond, true≢false}
+use mathlib.Core.List.{List}
+use mathlib.Core.Path.{_≡_, refl, sym, ap, _∙_, subst}
+use lib.Dec.{T}
+use lib.Ieee.{binary32, ofBits, ofInt, round, div, ne}
+use lib.Ieee.Fits.{nan-fits}
+use lib.Ieee.Bits.{ofBits-fits}
+use lib.IntN.{ℤ, pos}
+use lib.ListN.{length, getD, set, length-set, length-replicate}
+use Rattle.turns.specs.Turns.{Turn, more, stop, next, run}
+use Rattle.turns.proofs.Kept.{Ends}
+use Rattle.number.specs.Number.{c0}
+use Rattle.float.specs.Convert.{hundredthsToF32}
+use Rattle.tiles.specs.Map.{isMap}
+use Rattle.tiles.specs.declared.Sides.{Sides}
+use Rattle.tuning.specs.Tuning.{tuningAt, tuningOf}
+use Rattle.tuning.specs.declared.Tuning.{Tuning}
+use Rattle.character.specs.Character.{spawn}
+use Rattle.character.specs.Tick.{slotAt, nowhere}
+use Rattle.character.specs.declared.Slot.{Slot}
+use Rattle.records.specs.Representable.{Representable}
+use Rattle.physics.proofs.Slots.{set-every, replicate-every}
+use Rattle.world.specs.World.{emptySlot, freshTunings, fresh, tuningCount, playerCollision, withSlot}
+use Rattle.world.specs.Step.{Moving, tickAll, moveAll, moveTurn, movingFrom, stepRefused, stepAnswer, stepOn, step}
+use Rattle.world.specs.Demand3.{left, leftIn, leftFrom, recordAt, FaithfulTo}
+use Rattle.world.specs.declared.Stepped.{Stepped}
+use Rattle.world.specs.declared.World.{World}
+use Rattle.world.proofs.Standing.{Standing, Stands, ticks-stand}
+use Rattle.world.proofs.Moves.{Sofar, moves-sofar}
+
+-- player collision of 0 hundredths is no collision
+collision-off : (tunings : List ℤ) → getD tunings playerCollision (pos 0) ≡ pos 0 → ne (tuningOf tunings .«player_collision») c0 ≡ false
+unfolding tuningOf tuningAt hundredthsToF32 ofBits ofInt round div ne
+collision-off tunings e = rw e refl
+
+module _ (n : ℕ) (s : Sides) (ts : List ℕ) where
+  -- z is player collision
+  pub record Reached (z : ℤ) (w : World) : Type 0 where
+    pub seats : length (w .slots) ≡ n
+    pub stands : (k : ℕ) → Standing s ts (slotAt (w .slots) k)
+    pub representable : (k : ℕ) → k < n → slotAt (w .slots) k .present ≡ true → Representable (slotAt (w .slots) k .character)
+    pub tuned : getD (w .tunings) playerCollision (pos 0) ≡ z
+    pub tunings : length (w .tunings) ≡ tuningCount
+
+  -- ---- a slot set, and a fresh world
+  pub set-reached : (z : ℤ) (w : World) (j : ℕ) (x : Slot) → Reached z w → Standing s ts x → (x .present ≡ true → Representable (x .character)) → Reached z (withSlot w j x)
+  set-reached z w j x h a r = record {
+    seats = length-set (w .slots) j x ∙ h .seats;
+    stands = set-every (λ k y. Standing s ts y) (w .slots) j x nowhere (h .stands) a;
+    representable = set-every (λ k y. k < n → y .present ≡ true → Representable (y .character)) (w .slots) j x nowhere (h .representable) (λ l. r);
+    tuned = h .tuned;
+    tunings = h .tunings;
+  }
+
+  pub empty-standing : Standing s ts emptySlot
+  unfolding emptySlot spawn
+  empty-standing = record { clear = λ e. absurd (true≢false (sym e)); pos-fits = λ e. absurd (true≢false (sym e)); vel-fits = (ofBits-fits binary32 0, ofBits-fits binary32 0) }
+
+  nowhere-standing : Standing s ts nowhere
+  nowhere-standing = record { clear = λ e. absurd (true≢false (sym e)); pos-fits = λ e. absurd (true≢false (sym e)); vel-fits = (nan-fits binary32, nan-fits binary32) }
+
+  pub fresh-reached : Reached (pos 100) (fresh n)
+  unfolding fresh freshTunings emptySlot
+  fresh-reached = record {
+    seats = length-replicate n emptySlot;
+    stands = replicate-every (Standing s ts) n emptySlot nowhere empty-standing nowhere-standing;
+    representable = λ k l. replicate-every (λ (y : Slot). y .present ≡ true → Representable (y .character)) n emptySlot nowhere (λ e. absurd (true≢false (sym e))) (λ e. absurd (true≢false (sym e))) k;
+    tuned = refl;
+    tunings = refl;
+  }
+
+  -- ---- a step
+  -- what a step's answer says of the world before it
+  pub record Steps (z : ℤ) (w : World) (a : Stepped) : Type 0 where
+    pub reached : Reached z (a .world)
+    pub same : (k : ℕ) → slotAt (a .world .slots) k .present ≡ slotAt (w .slots) k .present
+    pub published : a .number ≡ 0 → (j : ℕ) → j < n → recordAt (a .records) j .present ≡ slotAt (w .slots) j .present
+    pub faithful : a .number ≡ 0 → (j : ℕ) → j < n → slotAt (w .slots) j .present ≡ true → FaithfulTo (recordAt (a .records) j .core) (left n w s ts j)
+
+  -- where the moves begin, `left` is what the move leaves from there
+  left-is : (w : World) (us : List Slot) (j : ℕ) → tickAll n (w .slots) s ts (tuningOf (w .tunings)) ≡ more us → leftFrom n s ts (tuningOf (w .tunings)) us j ≡ left n w s ts j
+  left-is w us j e = sym (ap (λ (a : Turn (List Slot) ℕ). leftIn n s ts (tuningOf (w .tunings)) j (next (λ vs. run (moveTurn n s ts (tuningOf (w .tunings))) j 0 (movingFrom n vs)) a)) e)
+
+  module _ (w : World) (map : T (isMap s ts)) (h : Reached (pos 0) w) where
+    abbrev t : Tuning
+    t = tuningOf (w .tunings)
+
+    off : ne (t .«player_collision») c0 ≡ false
+    off = collision-off (w .tunings) (h .tuned)
+
+    -- refused: everything as it was
+    refused : (k : ℕ) → 0 < k → Steps (pos 0) w (stepAnswer n w (stop k))
+    refused k l = record {
+      reached = h;
+      same = λ i. refl;
+      published = λ e. absurd (omega arith);
+      faithful = λ e. absurd (omega arith);
+    }
+
+    accepted : (us : List Slot) (m : Moving) → tickAll n (w .slots) s ts t ≡ more us → Stands s ts n (w .tunings) (w .slots) us → Sofar n s ts t us n m → Steps (pos 0) w (stepAnswer n w (more m))
+    accepted us m e d f = record {
+      reached = record {
+        seats = f .seats;
+        stands = f .stands;
+        representable = λ k l p. f .moved k l (sym (f .same k) ∙ p);
+        tuned = h .tuned;
+        tunings = h .tunings;
+      };
+      same = λ k. f .same k ∙ d .1 k .1;
+      published = λ z j l. f .told j l .0 ∙ d .1 j .1;
+      faithful = λ z j l p. subst (FaithfulTo (recordAt (m .records) j .core)) (left-is w us j e) (f .told j l .1 (d .1 j .1 ∙ p));
+    }
+
+    moved : (us : List Slot) → tickAll n (w .slots) s ts t ≡ more us → Stands s ts n (w .tunings) (w .slots) us → (a : Turn Moving ℕ) → Ends (Sofar n s ts t us n) (λ k. 0 < k) a → Steps (pos 0) w (stepAnswer n w a)
+    moved us e d (stop k) l = refused k l
+    moved us e d (more m) f = accepted us m e d f
+
+    ticked : (a : Turn (List Slot) ℕ) → tickAll n (w .slots) s ts t ≡ a → Ends (Stands s ts n (w .tunings) (w .slots)) (λ k. 0 < k) a → Steps (pos 0) w (stepAnswer n w (next (λ us. moveAll n us s ts t) a))
+    ticked (stop k) e l = refused k l
+    ticked (more us) e d = moved us e d (moveAll n us s ts t) (moves-sofar n s ts t map off us (d .0 ∙ h .seats) (λ k. d .1 k .0))
+
+    step-on : Steps (pos 0) w (stepOn n w s ts)
+    unfolding stepOn
+    step-on = ticked (tickAll n (w .slots) s ts t) refl (ticks-stand s ts n (w .tunings) (w .slots) (h .stands))
+
+  -- refused with 1 where the map is none
+  pub steps : (w : World) → Reached (pos 0) w → Steps (pos 0) w (step n w s ts)
+  unfolding step
+  steps w h = go (isMap s ts) refl
+    where
+      go : (b : Bool) → isMap s ts ≡ b → Steps (pos 0) w (cond b (stepOn n w s ts) (stepRefused n w 1))
+      go true e = step-on w (subst T (sym e) tt) h
+      go false e = record { reached = h; same = λ k. refl; published = λ z. absurd (omega arith); faithful = λ z. absurd (omega arith) }

@@ -1,0 +1,136 @@
+-- Demand 3, as one claim about a whole list of calls. Definitions only; proofs/Demand3.antt proves it.
+use Prim.Native.Nat.{ℕ, _<_}
+use mathlib.Core.Bool.{Bool, true, false, cond, _&&_}
+use mathlib.Core.List.{List, [], _∷_}
+use mathlib.Core.Path.{_≡_}
+use lib.Dec.{eqb}
+use lib.IntN.{ℤ, pos}
+use lib.Ieee.{binary32, add, sub}
+use lib.ListN.{getD}
+use Rattle.turns.specs.Turns.{Turn, more, stop, next, run}
+use Rattle.vector.specs.Vec2.{vnew}
+use Rattle.vector.specs.declared.vec2.{vec2}
+use Rattle.corners.specs.Tile.{c14}
+use Rattle.tiles.specs.Map.{checkPoint, solid}
+use Rattle.tiles.specs.declared.Sides.{Sides}
+use Rattle.tuning.specs.Tuning.{tuningOf}
+use Rattle.tuning.specs.declared.Tuning.{Tuning}
+use Rattle.snap_obj.specs.declared.CharacterCore.{CharacterCore}
+use Rattle.snap_obj.specs.declared.PlayerInput.{PlayerInput}
+use Rattle.character.specs.Tick.{slotAt}
+use Rattle.character.specs.declared.Slot.{Slot}
+use Rattle.character.specs.declared.walk.Moved.{Moved}
+use Rattle.character.specs.declared.walk.Moved.the-variants as moved
+use Rattle.records.specs.Faithful.{Faithful}
+use Rattle.records.specs.Records.{quantize}
+use Rattle.records.specs.declared.Quantized.the-variants as quantized
+use Rattle.world.specs.World.{tuningCount, playerCollision, fresh}
+use Rattle.world.specs.Calls as calls
+use Rattle.world.specs.Step.{Moving, unpublished, tickAll, moveIn, moveTurn, movingFrom}
+use Rattle.world.specs.Step as world
+use Rattle.world.specs.declared.Answer.{Answer}
+use Rattle.world.specs.declared.Published.{Published}
+use Rattle.world.specs.declared.World.{World}
+
+-- ---- every list of calls
+
+-- a call with its arguments, whatever their values
+pub data Call : Type 0 where
+  join : ℤ → ℤ → ℤ → Call
+  leave : ℤ → Call
+  input : ℤ → PlayerInput → Call
+  tune : ℤ → ℤ → Call
+  step : Call
+
+-- a call's number and the world that it leaves
+abbrev pub answer : ℕ → Sides → List ℕ → World → Call → Answer
+answer n s ts w (join id x y) = calls.join n w s ts id x y
+answer n s ts w (leave id) = calls.leave n w id
+answer n s ts w (input id i) = calls.input n w id i
+answer n s ts w (tune index z) = calls.tune w index z
+answer n s ts w step = record { number = world.step n w s ts .number; world = world.step n w s ts .world }
+
+-- each call gets the world that the one before it left
+abbrev pub after : ℕ → Sides → List ℕ → World → List Call → World
+after n s ts w [] = w
+after n s ts w (c ∷ cs) = after n s ts (answer n s ts w c .world) cs
+
+-- ---- player collision zero whenever step is called
+
+-- the value of the last accepted tune of index 16, z before any
+abbrev pub collisionAfter : ℤ → Call → ℤ
+collisionAfter z (join id x y) = z
+collisionAfter z (leave id) = z
+collisionAfter z (input id i) = z
+collisionAfter z (tune index v) = cond (eqb (calls.placeOf tuningCount index) playerCollision) v z
+collisionAfter z step = z
+
+abbrev pub CollisionOff : ℤ → List Call → Type 0
+CollisionOff z [] = Unit {0}
+CollisionOff z (c ∷ cs) = (c ≡ step → z ≡ pos 0) × CollisionOff (collisionAfter z c) cs
+
+-- ---- each character present
+
+-- whether k is joined by an accepted join, with no accepted leave of that id since
+abbrev pub presentAfter : ℕ → ℕ → Bool → ℕ → Call → Bool
+presentAfter n k b number (join id x y) = cond (eqb (calls.placeOf n id) k && eqb number 0) true b
+presentAfter n k b number (leave id) = cond (eqb (calls.placeOf n id) k && eqb number 0) false b
+presentAfter n k b number (input id i) = b
+presentAfter n k b number (tune index z) = b
+presentAfter n k b number step = b
+
+abbrev pub present : ℕ → Sides → List ℕ → ℕ → Bool → World → List Call → Bool
+present n s ts k b w [] = b
+present n s ts k b w (c ∷ cs) = present n s ts k (presentAfter n k b (answer n s ts w c .number) c) (answer n s ts w c .world) cs
+
+-- its position plus or minus 14 in each coordinate, in f32: none of the four is on a solid tile
+pub record CornersClear (s : Sides) (ts : List ℕ) (p : vec2) : Type 0 where
+  pub right-bottom : solid (checkPoint s ts (vnew (add binary32 (p .x) c14) (add binary32 (p .y) c14))) ≡ false
+  pub left-top : solid (checkPoint s ts (vnew (sub binary32 (p .x) c14) (sub binary32 (p .y) c14))) ≡ false
+  pub right-top : solid (checkPoint s ts (vnew (add binary32 (p .x) c14) (sub binary32 (p .y) c14))) ≡ false
+  pub left-bottom : solid (checkPoint s ts (vnew (sub binary32 (p .x) c14) (add binary32 (p .y) c14))) ≡ false
+
+-- ---- every accepted step
+
+-- what `move_` gives the id j when its turn has come: those below it have moved and are quantized
+abbrev pub leftIn : ℕ → Sides → List ℕ → Tuning → ℕ → Turn Moving ℕ → Moved
+leftIn n s ts t j (more m) = moveIn n s ts t (m .slots) j
+leftIn n s ts t j (stop k) = moved.TooFar
+
+abbrev pub leftFrom : ℕ → Sides → List ℕ → Tuning → List Slot → ℕ → Moved
+leftFrom n s ts t ss j = leftIn n s ts t j (run (moveTurn n s ts t) j 0 (movingFrom n ss))
+
+-- what the move left of j in a step on w
+abbrev pub left : ℕ → World → Sides → List ℕ → ℕ → Moved
+left n w s ts j = let t = tuningOf (w .tunings) in leftIn n s ts t j (next (λ ss. run (moveTurn n s ts t) j 0 (movingFrom n ss)) (tickAll n (w .slots) s ts t))
+
+-- a record is within 1/2 and 1/512 of the position and velocity that the move left
+abbrev pub FaithfulTo : CharacterCore → Moved → Type 0
+FaithfulTo core moved.BadMap = ⊥
+FaithfulTo core moved.BadId = ⊥
+FaithfulTo core moved.TooFar = ⊥
+FaithfulTo core (moved.To c) = Faithful core (c .pos) (c .vel)
+
+abbrev pub recordAt : List Published → ℕ → Published
+recordAt rs j = getD rs j unpublished
+
+-- one record for each id present when the step is called
+pub record StepFaithful (n : ℕ) (w : World) (s : Sides) (ts : List ℕ) : Type 0 where
+  pub published : (j : ℕ) → j < n → recordAt (world.step n w s ts .records) j .present ≡ slotAt (w .slots) j .present
+  pub faithful : (j : ℕ) → j < n → slotAt (w .slots) j .present ≡ true → FaithfulTo (recordAt (world.step n w s ts .records) j .core) (left n w s ts j)
+
+abbrev pub StepsFaithful : ℕ → Sides → List ℕ → World → List Call → Type 0
+StepsFaithful n s ts w [] = Unit {0}
+StepsFaithful n s ts w (c ∷ cs) = (c ≡ step → answer n s ts w c .number ≡ 0 → StepFaithful n w s ts) × StepsFaithful n s ts (answer n s ts w c .world) cs
+
+-- ---- the demand
+
+-- after the list, and in every accepted step of it
+pub record Kept (n : ℕ) (s : Sides) (ts : List ℕ) (cs : List Call) : Type 0 where
+  pub clear : (k : ℕ) → k < n → present n s ts k false (fresh n) cs ≡ true → CornersClear s ts (slotAt (after n s ts (fresh n) cs .slots) k .character .pos)
+  pub back : (k : ℕ) → k < n → present n s ts k false (fresh n) cs ≡ true → quantize (slotAt (after n s ts (fresh n) cs .slots) k .character) ≡ quantized.To (slotAt (after n s ts (fresh n) cs .slots) k .character)
+  pub steps : StepsFaithful n s ts (fresh n) cs
+
+-- every map and every list of calls from a fresh world of n slots, with player collision, 100 before any tune, zero whenever step is called
+abbrev pub Demand3 : ℕ → Type 0
+Demand3 n = (s : Sides) (ts : List ℕ) (cs : List Call) → CollisionOff (pos 100) cs → Kept n s ts cs
