@@ -114,6 +114,14 @@ fn with_slot(mut world: World, at: usize, slot: Slot) -> World
     world
 }
 
+fn with_tuning(mut world: World, at: usize, value: i32) -> World
+    requires { ⌜ at < 18 ⌝ }
+    ensures { λ r. ⌜ r ≡ withTuning world at value ⌝ }
+{
+    world.tunings[at] = value;
+    world
+}
+
 pub fn join(world: World, sides: Sides, tiles: &[u8], id: i32, x: i32, y: i32) -> Answer
     ensures { λ r. ⌜ r ≡ join seats world sides (now (tiles .entry)) id x y ⌝ }
 {
@@ -184,9 +192,7 @@ pub fn tune(world: World, index: i32, value: i32) -> Answer
 {
     let at = place_of(TUNINGS, index);
     if at < TUNINGS {
-        let mut next = world;
-        next.tunings[at] = value;
-        return accepted(next);
+        return accepted(with_tuning(world, at, value));
     }
     refused(world, 3)
 }

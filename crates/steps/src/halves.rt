@@ -77,11 +77,11 @@ pub fn tick_all(slots: [Slot; SEATS], sides: Sides, tiles: &[u8], tuning: Tuning
     ensures { λ r. ⌜ r ≡ ticksOf slots (tickAll seats slots sides (now (tiles .entry)) tuning) ⌝ }
 {
     let mut all = slots;
-    for j in 0..SEATS {
-        let slot = all[j];
+    for id in 0..SEATS {
+        let slot = all[id];
         if slot.present {
             let me = slot.character;
-            let ticked = me.tick_at(j, all, sides, tiles, slot.input, tuning);
+            let ticked = me.tick_at(id, all, sides, tiles, slot.input, tuning);
             if ticked.number != 0 {
                 return Ticks {
                     done: false,
@@ -91,7 +91,7 @@ pub fn tick_all(slots: [Slot; SEATS], sides: Sides, tiles: &[u8], tuning: Tuning
             }
             let others = ticked.slots;
             let changed = ticked.me;
-            all = put_back(others, j, changed);
+            all = put_back(others, id, changed);
         }
     }
     Ticks {

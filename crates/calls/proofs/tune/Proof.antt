@@ -1,21 +1,18 @@
 -- `calls::tune` meets its contract. Assumes nothing.
-use mathlib.Core.Path.{_≡_, ap, _∙_}
-use mir.Facts.{toZ-ofZ}
-use Rattle.world.specs.World.{tuningCount}
 use Rattle.world.specs.Calls.{tune, placeOf}
-use borrow.Author.Needs.{needs}
+use Rattle.world.specs.World.{tuningCount}
 use borrow.Author.Tests.{lt-ltb, le-ltb}
+use mir.Facts.{toZ-ofZ}
+use mathlib.Core.Path.{_≡_, ap, _∙_}
+use borrow.Author.Needs.{needs}
 use Rattle.calls.proofs.tune.Statement.{statement}
 use Rattle.calls.proofs.tune.Tie as tie
 
 place-of-requires : tie.Need-place-of-requires
 place-of-requires c κs = search needs
 
-mul-value : tie.Need-mul-value
-mul-value c = search needs
-
-element-set-from-value : tie.Need-element-set-from-value
-element-set-from-value c = search needs
+with-tuning-requires : tie.Need-with-tuning-requires
+with-tuning-requires c κs = search needs
 
 accepted-requires : tie.Need-accepted-requires
 accepted-requires c κs = search needs
@@ -23,8 +20,8 @@ accepted-requires c κs = search needs
 returns : tie.Need-returns
 unfolding tune
 returns c =
-    let p : c .before .before .place-of .result ≡ placeOf tuningCount (c .before .before .before .args .index) = c .before .before .place-of .ensures ∙ ap (placeOf tuningCount) (toZ-ofZ (c .before .before .before .fits .index)) in
-    simp (← p, lt-ltb _ _ (c .before .if1 .taken), c .accepted .ensures, toZ-ofZ (c .before .before .before .fits .value))
+    let p : c .before .before .before .place-of .result ≡ placeOf tuningCount (c .before .before .before .before .args .index) = c .before .before .before .place-of .ensures ∙ ap (placeOf tuningCount) (toZ-ofZ (c .before .before .before .before .fits .index)) in
+    simp (← p, lt-ltb _ _ (c .before .before .if1 .taken), c .accepted .ensures, c .before .with-tuning .ensures, toZ-ofZ (c .before .before .before .before .fits .value))
 
 refused-requires : tie.Need-refused-requires
 refused-requires c κs = search needs
@@ -40,8 +37,7 @@ tune-spec =
     tie.close
     (tie.spec
     place-of-requires
-    mul-value
-    element-set-from-value
+    with-tuning-requires
     accepted-requires
     returns
     refused-requires

@@ -31,10 +31,10 @@ module _ (s : Sides) (ts : List ℕ) (t : Tuning) (j : ℕ) (ss : List Slot) whe
   nobody us p q = simp (p, q)
 
 abbrev Inv-loop : tie.InvT-loop
-Inv-loop slots sides tiles tuning all₀ j₀ all j = Left (tickTurn seats sides tiles tuning) seats j all (tickAll seats all₀ sides tiles tuning)
+Inv-loop slots sides tiles tuning all₀ id₀ all id = Left (tickTurn seats sides tiles tuning) seats id all (tickAll seats all₀ sides tiles tuning)
 
 abbrev μ-loop : tie.MeasureT-loop
-μ-loop slots sides tiles tuning all₀ j₀ all j = seats - j
+μ-loop slots sides tiles tuning all₀ id₀ all id = seats - id
 
 loop-holds : tie.Need-loop-holds Inv-loop μ-loop
 unfolding tickAll
@@ -53,13 +53,13 @@ returns : tie.Need-returns Inv-loop μ-loop
 returns c =
     let a = c .before .before .before .before .before .before .before .before .before .args in
     let l = c .before .before .before .before .before .before .before .loop in
-    sym (ap (ticksOf (a .slots)) (turn-off (l .inv) (c .before .before .before .before .before .before .loop-test .taken) (refuses (a .sides) (a .tiles .now) (a .tuning) (l .j) (l .all) (c .before .before .tick-at .result) (c .before .before .before .before .if1 .taken) (c .before .before .tick-at .ensures) (c .if2 .taken))))
+    sym (ap (ticksOf (a .slots)) (turn-off (l .inv) (c .before .before .before .before .before .before .loop-test .taken) (refuses (a .sides) (a .tiles .now) (a .tuning) (l .id) (l .all) (c .before .before .tick-at .result) (c .before .before .before .before .if1 .taken) (c .before .before .tick-at .ensures) (c .if2 .taken))))
 
 put-back-requires : tie.Need-put-back-requires Inv-loop μ-loop
 put-back-requires c κs = c .before .before .before .before .before .before .before .before .loop-test .taken
 
-add-j : tie.Need-add-j Inv-loop μ-loop
-add-j c = omega arith
+add-id : tie.Need-add-id Inv-loop μ-loop
+add-id c = omega arith
 
 loop-less : tie.Need-loop-less Inv-loop μ-loop
 loop-less c = omega arith
@@ -69,7 +69,7 @@ loop-again c =
     let a = c .before .before .before .before .before .args in
     let l = c .before .before .before .loop in
     turn-on (l .inv) (c .before .before .loop-test .taken)
-    (⊎-elim (λ w. ticks (a .sides) (a .tiles .now) (a .tuning) (l .j) (l .all) (w .2 .result) _ (w .0 .taken) (w .2 .ensures) (w .4 .left) (w .8 ∙ w .7 .ensures)) (λ w. nobody (a .sides) (a .tiles .now) (a .tuning) (l .j) (l .all) _ (w .0 .left) (w .1)) (c .if1 .came))
+    (⊎-elim (λ w. ticks (a .sides) (a .tiles .now) (a .tuning) (l .id) (l .all) (w .2 .result) _ (w .0 .taken) (w .2 .ensures) (w .4 .left) (w .8 ∙ w .7 .ensures)) (λ w. nobody (a .sides) (a .tiles .now) (a .tuning) (l .id) (l .all) _ (w .0 .left) (w .1)) (c .if1 .came))
 
 returns-2 : tie.Need-returns-2 Inv-loop μ-loop
 returns-2 c = sym (ap (ticksOf (c .before .before .before .args .slots)) (turn-end (c .before .loop .inv) (c .loop-test .left)))
@@ -86,7 +86,7 @@ tick-all-spec =
     tick-at-requires
     returns
     put-back-requires
-    add-j
+    add-id
     loop-less
     loop-again
     returns-2)
