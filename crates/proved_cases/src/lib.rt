@@ -1,0 +1,1 @@
+// The proved cases of document 01, as one joint fact. No code.
