@@ -95,3 +95,10 @@ pub value-only : (stop : ℕ) {s : List ℕ} {at next : ℕ} (y z : ℤ) (rest :
 value-only stop {s} {at} {next} y z rest low f g h e =
     let k = value-unique stop y z (drop next s) rest low f g (sym (h .bytes) ∙ e) in
     (k, follows h rest (e ∙ ap (λ (x : ℤ). ended (written x) stop ++ rest) (sym k)))
+
+pub number-only : (stop : ℕ) {s : List ℕ} {at next : ℕ} (m n : ℕ) (rest : List ℕ) → stop < 48 → m ≤ 2 ^ 31 → n ≤ 2 ^ 31 → Stands (ended (digits 10 m) stop) s at next → drop at s ≡ ended (digits 10 n) stop ++ rest → (m ≡ n) × (drop next s ≡ rest)
+number-only stop {s} {at} {next} m n rest low f g h e =
+    let a = number-there stop s at m (drop next s) low f (h .bytes) in
+    let b = number-there stop s at n rest low g e in
+    let k : m ≡ n = cc in
+    (k, follows h rest (e ∙ ap (λ (x : ℕ). ended (digits 10 x) stop ++ rest) (sym k)))

@@ -13,14 +13,14 @@ use borrow.Author.Needs.{needs}
 use Rattle.decimal.specs.Decimal.{written, IsI32}
 use Rattle.decimal.specs.Lines.{endByte, ended}
 use Rattle.decimal.specs.Places.{Stands, Absent}
-use Rattle.decimal.proofs.Lines.{end-low, Begun, begun-none, begun-more, begun-not, begun-whole}
+use Rattle.decimal.proofs.Lines.{front-line, end-low, Begun, begun-none, begun-more, begun-not, begun-whole}
 use Rattle.decimal.proofs.Told.{value-read, value-fault}
 use Rattle.call_lines.specs.Parts.{ValuesAt}
 use Rattle.call_lines.proofs.values.read_values.Statement.{statement}
 use Rattle.call_lines.proofs.values.read_values.Tie as tie
 
 abbrev Inv-loop : tie.InvT-loop
-Inv-loop text at values₀ place₀ i₀ values place i = (i ≤ 7) × (length values ≡ 7) × Begun 7 (take i values) text at place
+Inv-loop text at values₀ place₀ i₀ values place i = (i ≤ 7) × (length values ≡ 7) × Begun endByte 7 (take i values) text at place
 
 abbrev μ-loop : tie.MeasureT-loop
 μ-loop text at values₀ place₀ i₀ values place i = 7 - i
@@ -36,7 +36,7 @@ taken : (l : tie.At-loop Inv-loop μ-loop) → l .loop .i < 7 → length (take (
 taken l h = length-take-le (l .loop .i) (l .loop .values) (omega arith)
 
 loop-holds : tie.Need-loop-holds Inv-loop μ-loop
-loop-holds c = (omega arith, refl, begun-none 7 _ _)
+loop-holds c = (omega arith, refl, begun-none endByte 7 _ _)
 
 sub-end-byte : tie.Need-sub-end-byte Inv-loop μ-loop
 sub-end-byte c = search needs
@@ -61,7 +61,7 @@ returns c =
     let v = l .loop .values in
     let s = l .before .before .args .text .now in
     let n = taken l (k .before .before .loop-test .taken) in
-    λ zs m f. begun-not (l .loop .inv .2) (omega arith) IsI32 (λ z i. i) (λ z i. subst (λ (b : ℕ). Absent (ended (written z) b) s (l .loop .place)) (k .before .end-byte .ensures ∙ stop-is (k .before .before .loop-test .taken) n) (value-fault _ s (l .loop .place) (c .enum-told .given .1) (k .read-value .ensures) z i)) zs m f
+    λ zs m f rest e. begun-not (l .loop .inv .2) (omega arith) end-low IsI32 (λ z i. i) (λ z i. subst (λ (b : ℕ). Absent (ended (written z) b) s (l .loop .place)) (k .before .end-byte .ensures ∙ stop-is (k .before .before .loop-test .taken) n) (value-fault _ s (l .loop .place) (c .enum-told .given .1) (k .read-value .ensures) z i)) zs m f rest (e ∙ ap (λ (w : List ℕ). w ++ rest) (sym (front-line zs)))
 
 mul-values : tie.Need-mul-values Inv-loop μ-loop
 mul-values c = search needs
@@ -88,10 +88,10 @@ loop-again c =
     let n = taken l (k .before .before .loop-test .taken) in
     let b = begun-more (l .loop .inv .2) (omega arith) z next (t .0) (subst (λ (x : ℕ). Stands (ended (written z) x) s (l .loop .place) next) (k .before .end-byte .ensures ∙ stop-is (k .before .before .loop-test .taken) n) (t .1)) in
     let e : take (i + 1) (set v i z) ≡ take i v ++ (z ∷ []) = rw add-one (take-suc-set v i z (omega arith)) in
-    subst (λ (x : ℤ). (i + 1 ≤ 7) × (length (set v i x) ≡ 7) × Begun 7 (take (i + 1) (set v i x)) s (l .before .before .args .at) next) (sym (toZ-ofZ w32 z (record { sfits = t .0 }))) (
+    subst (λ (x : ℤ). (i + 1 ≤ 7) × (length (set v i x) ≡ 7) × Begun endByte 7 (take (i + 1) (set v i x)) s (l .before .before .args .at) next) (sym (toZ-ofZ w32 z (record { sfits = t .0 }))) (
       omega arith,
       length-set v i z ∙ l .loop .inv .1,
-      subst (λ (x : List ℤ). Begun 7 x s (l .before .before .args .at) next) (sym e) b,
+      subst (λ (x : List ℤ). Begun endByte 7 x s (l .before .before .args .at) next) (sym e) b,
     )
 
 returns-2 : tie.Need-returns-2 Inv-loop μ-loop
@@ -100,8 +100,8 @@ returns-2 c =
     let l = c .before in
     let v = l .loop .values in
     let all : take (l .loop .i) v ≡ v = take-all (l .loop .i) v (omega arith) in
-    let b = subst (λ (x : List ℤ). Begun 7 x (l .before .before .args .text .now) (l .before .before .args .at) (l .loop .place)) all (l .loop .inv .2) in
-    (l .loop .inv .1, b .fits, begun-whole b (l .loop .inv .1))
+    let b = subst (λ (x : List ℤ). Begun endByte 7 x (l .before .before .args .text .now) (l .before .before .args .at) (l .loop .place)) all (l .loop .inv .2) in
+    (l .loop .inv .1, b .fits, subst (λ (w : List ℕ). Stands w (l .before .before .args .text .now) (l .before .before .args .at) (l .loop .place)) (front-line v) (begun-whole b (l .loop .inv .1)))
 
 pub read-values-spec : {M : Type 1} → statement M
 read-values-spec =
