@@ -1,0 +1,33 @@
+-- Call lines. Definitions only.
+use Prim.Native.Nat.{ℕ}
+use mathlib.Core.List.{List, [], _∷_}
+use lib.IntN.{ℤ, pos}
+use Rattle.decimal.specs.Decimal.{IsI32}
+use Rattle.decimal.specs.Lines.{line, All}
+use Rattle.decimal.specs.Places.{Stands, Absent}
+use Rattle.call_lines.specs.declared.CallLine.{CallLine}
+use Rattle.call_lines.specs.declared.code.Call.{Call}
+use Rattle.call_lines.specs.declared.code.Call.the-variants.{Join, Leave, Input, Step, Tune}
+use Rattle.call_lines.specs.declared.CallLine.the-variants as callLine
+use Rattle.call_lines.specs.declared.code.Decoded.the-variants as decoded
+
+-- the seven values of a call: its code, its arguments in their order, and 0 for each spare one
+abbrev pub values : Call → List ℤ
+values (Join id x y) = pos 1 ∷ id ∷ x ∷ y ∷ pos 0 ∷ pos 0 ∷ pos 0 ∷ []
+values (Leave id) = pos 2 ∷ id ∷ pos 0 ∷ pos 0 ∷ pos 0 ∷ pos 0 ∷ pos 0 ∷ []
+values (Input id direction x y jump hook) = pos 3 ∷ id ∷ direction ∷ x ∷ y ∷ jump ∷ hook ∷ []
+values Step = pos 4 ∷ pos 0 ∷ pos 0 ∷ pos 0 ∷ pos 0 ∷ pos 0 ∷ pos 0 ∷ []
+values (Tune index value) = pos 5 ∷ index ∷ value ∷ pos 0 ∷ pos 0 ∷ pos 0 ∷ pos 0 ∷ []
+
+-- its arguments are i32
+abbrev pub IsCall : Call → Type 0
+IsCall c = All IsI32 (values c)
+
+-- the bytes of its line
+unfoldable pub callBytes : Call → List ℕ
+callBytes c = line (values c)
+
+-- what reading a call line at `at` answers: the call whose bytes stand there with the place past them, or that none's do
+unfoldable pub CallAt : List ℕ → ℕ → CallLine → Type 0
+CallAt s at (callLine.Read c next) = IsCall c × Stands (callBytes c) s at next
+CallAt s at callLine.Fault = (c : Call) → IsCall c → Absent (callBytes c) s at

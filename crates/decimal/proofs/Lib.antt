@@ -1,0 +1,7 @@
+pub mod Digits
+pub mod Scan
+pub mod Exact
+pub mod Places
+pub mod Told
+pub mod Lines
+mod Minus

@@ -1,0 +1,3 @@
+mod Rows
+mod Heads
+pub mod Maps
