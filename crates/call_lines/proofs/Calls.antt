@@ -14,8 +14,8 @@ use Rattle.decimal.proofs.Lines.{line-unique, line-long}
 use Rattle.call_lines.specs.Calls.{values, IsCall, callBytes, CallAt}
 use Rattle.call_lines.specs.Parts.{SevenAt, ValuesAt, DecodedAs}
 use Rattle.call_lines.specs.declared.CallLine.{CallLine}
-use Rattle.call_lines.specs.declared.code.Call.{Call}
-use Rattle.call_lines.specs.declared.code.Call.the-variants.{Join, Leave, Input, Step, Tune}
+use Rattle.call.specs.declared.Call.{Call}
+use Rattle.call.specs.declared.Call.the-variants.{Join, Leave, Input, Step, Tune}
 use Rattle.call_lines.specs.declared.code.Decoded.{Decoded}
 use Rattle.call_lines.specs.declared.values.Values.{Values}
 use Rattle.call_lines.specs.declared.CallLine.the-variants as callLine

@@ -13,8 +13,8 @@ use borrow.Author.Tests.{eqb-true, ne-eqb}
 use Rattle.decimal.specs.Decimal.{IsI32}
 use Rattle.call_lines.specs.Calls.{values}
 use Rattle.call_lines.specs.Parts.{DecodedAs, allZero, withSpare}
-use Rattle.call_lines.specs.declared.code.Call.{Call}
-use Rattle.call_lines.specs.declared.code.Call.the-variants.{Join, Leave, Input, Step, Tune}
+use Rattle.call.specs.declared.Call.{Call}
+use Rattle.call.specs.declared.Call.the-variants.{Join, Leave, Input, Step, Tune}
 use Rattle.call_lines.specs.declared.code.Decoded.the-variants as decoded
 
 -- a number from its bits

@@ -6,8 +6,8 @@ use Rattle.decimal.specs.Decimal.{IsI32}
 use Rattle.decimal.specs.Lines.{line, All}
 use Rattle.decimal.specs.Places.{Stands, Absent}
 use Rattle.call_lines.specs.declared.CallLine.{CallLine}
-use Rattle.call_lines.specs.declared.code.Call.{Call}
-use Rattle.call_lines.specs.declared.code.Call.the-variants.{Join, Leave, Input, Step, Tune}
+use Rattle.call.specs.declared.Call.{Call}
+use Rattle.call.specs.declared.Call.the-variants.{Join, Leave, Input, Step, Tune}
 use Rattle.call_lines.specs.declared.CallLine.the-variants as callLine
 use Rattle.call_lines.specs.declared.code.Decoded.the-variants as decoded
 

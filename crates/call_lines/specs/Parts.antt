@@ -10,7 +10,7 @@ use Rattle.decimal.specs.Decimal.{IsI32}
 use Rattle.decimal.specs.Lines.{line, All}
 use Rattle.decimal.specs.Places.{Stands, Absent}
 use Rattle.call_lines.specs.Calls.{values}
-use Rattle.call_lines.specs.declared.code.Call.{Call}
+use Rattle.call.specs.declared.Call.{Call}
 use Rattle.call_lines.specs.declared.code.Decoded.{Decoded}
 use Rattle.call_lines.specs.declared.values.Values.{Values}
 use Rattle.call_lines.specs.declared.code.Decoded.the-variants as decoded

@@ -1,31 +1,8 @@
 // Which call seven values stand for.
+use call::Call;
 ghost use mathlib.Core.Path.{_≡_};
 ghost use lib.ListN.{drop};
 ghost use Rattle.call_lines.specs.Parts.{DecodedAs, withSpare};
-
-pub enum Call {
-    Join {
-        id: i32,
-        x: i32,
-        y: i32,
-    },
-    Leave {
-        id: i32,
-    },
-    Input {
-        id: i32,
-        direction: i32,
-        target_x: i32,
-        target_y: i32,
-        jump: i32,
-        hook: i32,
-    },
-    Step,
-    Tune {
-        index: i32,
-        value: i32,
-    },
-}
 
 pub enum Decoded {
     Call(Call),

@@ -2,7 +2,7 @@
 mod code;
 mod values;
 
-pub use code::Call;
+use call::Call;
 use code::Decoded;
 use code::decode;
 use values::read_values;

@@ -7,7 +7,7 @@ use lib.IntN.{pos}
 use lib.ListN.{length, replicate, length-append}
 use Rattle.decimal.specs.Decimal.{digits}
 use Rattle.call_lines.specs.Calls.{callBytes}
-use Rattle.call_lines.specs.declared.code.Call.the-variants.{Join, Step}
+use Rattle.call.specs.declared.Call.the-variants.{Join, Step}
 use Rattle.call_lines.proofs.Calls.{call-long}
 use Rattle.map_text.specs.Map.{tileBytes, mapBytes}
 use Rattle.session_text.specs.Session.{ended, fault, Text, noMap, session, callsBytes, StandsFor, dueCall, textNumber}

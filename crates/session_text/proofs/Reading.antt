@@ -9,7 +9,7 @@ use Rattle.decimal.proofs.Lines.{all-append}
 use Rattle.decimal.proofs.Places.{chain, within}
 use Rattle.call_lines.specs.Calls.{IsCall, callBytes, CallAt}
 use Rattle.call_lines.specs.declared.CallLine.{CallLine}
-use Rattle.call_lines.specs.declared.code.Call.{Call}
+use Rattle.call.specs.declared.Call.{Call}
 use Rattle.call_lines.proofs.Calls.{call-read, call-fault, call-long}
 use Rattle.map_text.specs.Map.{mapBytes}
 use Rattle.map_text.specs.Reading.{MapAt}

@@ -6,7 +6,7 @@ use native.Mathlib.Omega.{arith}
 use lib.ListN.{length, length-append}
 use Rattle.decimal.specs.Lines.{All}
 use Rattle.call_lines.specs.Calls.{IsCall, callBytes}
-use Rattle.call_lines.specs.declared.code.Call.{Call}
+use Rattle.call.specs.declared.Call.{Call}
 use Rattle.call_lines.proofs.Calls.{call-unique, call-long}
 use Rattle.map_text.specs.Map.{mapBytes}
 use Rattle.map_text.proofs.Maps.{map-unique}

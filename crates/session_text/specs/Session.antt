@@ -6,7 +6,7 @@ use lib.ListN.{length}
 use Rattle.decimal.specs.Lines.{All}
 use Rattle.decimal.specs.Places.{Stands}
 use Rattle.call_lines.specs.Calls.{IsCall, callBytes}
-use Rattle.call_lines.specs.declared.code.Call.{Call}
+use Rattle.call.specs.declared.Call.{Call}
 use Rattle.map_text.specs.Map.{mostBytes, IsMap, mapBytes}
 
 -- what stands after the calls: nothing, or text at fault

@@ -13,7 +13,8 @@ use Rattle.vector.specs.declared.vec2.{vec2}
 use Rattle.tiles.specs.declared.Sides.{Sides}
 use Rattle.boxes.specs.Box.{Clear, characterBox}
 use Rattle.boxes.proofs.Corners.{character-corners}
-use Rattle.snap_obj.specs.declared.PlayerInput.{PlayerInput}
+use Rattle.call.specs.declared.Call.{Call}
+use Rattle.call.specs.declared.Call.the-variants.{Join, Leave, Input, Step, Tune}
 use Rattle.character.specs.Character.{spawn}
 use Rattle.character.specs.Tick.{slotAt, nowhere}
 use Rattle.character.specs.declared.Slot.{Slot}
@@ -24,7 +25,7 @@ use Rattle.physics.proofs.Slots.{set-others, replicate-every}
 use Rattle.world.specs.World.{emptySlot, fresh, tuningCount, playerCollision, withSlot, withTuning}
 use Rattle.world.specs.Calls.{refused, accepted, placeOf, pointOf}
 use Rattle.world.specs.Calls as calls
-use Rattle.world.specs.Demand3.{Call, join, leave, input, tune, step, answer, after, collisionAfter, CollisionOff, presentAfter, present, CornersClear, StepFaithful, StepsFaithful, Demand3}
+use Rattle.world.specs.Demand3.{inputOf, answer, after, collisionAfter, CollisionOff, presentAfter, present, CornersClear, StepFaithful, StepsFaithful, Demand3}
 use Rattle.world.specs.declared.Answer.{Answer}
 use Rattle.world.specs.declared.World.{World}
 use Rattle.world.proofs.Standing.{Standing, representable-fits}
@@ -32,13 +33,13 @@ use Rattle.world.proofs.Reached.{Reached, set-reached, empty-standing, 
 use Rattle.world.proofs.Outcomes.{Outcome, no, yes, reach-i32, joined, Joins, join-outcome, Seated, leave-outcome, input-outcome}
 
 abbrev isStep : Call → Bool
-isStep (join id x y) = false
-isStep (leave id) = false
-isStep (input id i) = false
-isStep (tune index z) = false
-isStep step = true
+isStep (Join id x y) = false
+isStep (Leave id) = false
+isStep (Input id d x y j h) = false
+isStep (Tune index z) = false
+isStep Step = true
 
-not-step : (c : Call) → isStep c ≡ false → c ≡ step → ⊥
+not-step : (c : Call) → isStep c ≡ false → c ≡ Step → ⊥
 not-step c p e = true≢false (sym (ap isStep e) ∙ p)
 
 -- ---- a slot that is set
@@ -70,7 +71,7 @@ module _ (n : ℕ) (s : Sides) (ts : List ℕ) where
   record Next (z : ℤ) (w : World) (c : Call) : Type 0 where
     reached : Reached n s ts (collisionAfter z c) (answer n s ts w c .world)
     same : (k : ℕ) → slotAt (answer n s ts w c .world .slots) k .present ≡ presentAfter n k (slotAt (w .slots) k .present) (answer n s ts w c .number) c
-    told : c ≡ step → answer n s ts w c .number ≡ 0 → StepFaithful n w s ts
+    told : c ≡ Step → answer n s ts w c .number ≡ 0 → StepFaithful n w s ts
 
   joined-stands : (w : World) (id x y : ℤ) → Joins n w s ts id x y → Standing s ts (joined (pointOf x y)) × (true ≡ true → Representable (spawn (pointOf x y)))
   unfolding pointOf spawn
@@ -79,27 +80,27 @@ module _ (n : ℕ) (s : Sides) (ts : List ℕ) where
       let g = representable-fits (spawn (pointOf x y)) r in
       (record { clear = λ e. f .clear; pos-fits = λ e. g .0; vel-fits = g .1 }, λ e. r)
 
-  join-next : (z : ℤ) (w : World) (id x y : ℤ) → Reached n s ts z w → Next z w (join id x y)
+  join-next : (z : ℤ) (w : World) (id x y : ℤ) → Reached n s ts z w → Next z w (Join id x y)
   join-next z w id x y h =
       let j = placeOf n id in
-      let a = answer n s ts w (join id x y) in
+      let a = answer n s ts w (Join id x y) in
       let o = join-outcome n w s ts id x y in
       record {
         reached = slot-reached z w j (joined (pointOf x y)) a o h (joined-stands w id x y);
         same = flags n w (h .seats) j (joined (pointOf x y)) a o (λ f. f .seat);
-        told = λ e. absurd (not-step (join id x y) refl e);
+        told = λ e. absurd (not-step (Join id x y) refl e);
       }
 
-  leave-next : (z : ℤ) (w : World) (id : ℤ) → Reached n s ts z w → Next z w (leave id)
+  leave-next : (z : ℤ) (w : World) (id : ℤ) → Reached n s ts z w → Next z w (Leave id)
   unfolding emptySlot
   leave-next z w id h =
       let j = placeOf n id in
-      let a = answer n s ts w (leave id) in
+      let a = answer n s ts w (Leave id) in
       let o = leave-outcome n w id in
       record {
         reached = slot-reached z w j emptySlot a o h (λ f. (empty-standing n s ts, λ e. absurd (true≢false (sym e))));
         same = flags n w (h .seats) j emptySlot a o (λ f. f .seat);
-        told = λ e. absurd (not-step (leave id) refl e);
+        told = λ e. absurd (not-step (Leave id) refl e);
       }
 
   -- an input leaves who is present: somebody was there
@@ -107,20 +108,23 @@ module _ (n : ℕ) (s : Sides) (ts : List ℕ) where
   same-flag w j k true p e = sym p ∙ ap (λ (i : ℕ). slotAt (w .slots) i .present) (eqb-true j k e)
   same-flag w j k false p e = refl
 
-  input-next : (z : ℤ) (w : World) (id : ℤ) (i : PlayerInput) → Reached n s ts z w → Next z w (input id i)
-  input-next z w id i h =
+  input-next : (z : ℤ) (w : World) (id a b c d e : ℤ) → Reached n s ts z w → Next z w (Input id a b c d e)
+  input-next z w id a b c d e h =
       let j = placeOf n id in
-      let a = answer n s ts w (input id i) in
+      let i = inputOf a b c d e in
       let x : Slot = record { present = true; character = slotAt (w .slots) j .character; input = i } in
       record {
-        reached = slot-reached z w j x a (input-outcome n w id i) h (λ f. (record { clear = λ e. h .stands j .clear (f .there); pos-fits = λ e. h .stands j .pos-fits (f .there); vel-fits = h .stands j .vel-fits }, λ e. h .representable j (f .seat) (f .there)));
-        same = stays x a (input-outcome n w id i);
-        told = λ e. absurd (not-step (input id i) refl e);
+        reached = slot-reached z w j x (answer n s ts w (Input id a b c d e)) (input-outcome n w id i) h (λ f. (record { clear = λ q. h .stands j .clear (f .there); pos-fits = λ q. h .stands j .pos-fits (f .there); vel-fits = h .stands j .vel-fits }, λ q. h .representable j (f .seat) (f .there)));
+        same = stays (answer n s ts w (Input id a b c d e)) (input-outcome n w id i);
+        told = λ q. absurd (not-step (Input id a b c d e) refl q);
       }
     where
-      stays : (x : Slot) (a : Answer) → Outcome w (withSlot w (placeOf n id) (record { present = true; character = slotAt (w .slots) (placeOf n id) .character; input = i })) (Seated n w id) a → (k : ℕ) → slotAt (a .world .slots) k .present ≡ slotAt (w .slots) k .present
-      stays x a (no r e) k = rw e
-      stays x a (yes f e) k = rw e (set-flag n w (h .seats) (placeOf n id) (record { present = true; character = slotAt (w .slots) (placeOf n id) .character; input = i }) (f .seat) k ∙ same-flag w (placeOf n id) k (eqb (placeOf n id) k) (f .there) refl)
+      new : Slot
+      new = record { present = true; character = slotAt (w .slots) (placeOf n id) .character; input = inputOf a b c d e }
+
+      stays : (o : Answer) → Outcome w (withSlot w (placeOf n id) new) (Seated n w id) o → (k : ℕ) → slotAt (o .world .slots) k .present ≡ slotAt (w .slots) k .present
+      stays o (no r q) k = rw q
+      stays o (yes f q) k = rw q (set-flag n w (h .seats) (placeOf n id) new (f .seat) k ∙ same-flag w (placeOf n id) k (eqb (placeOf n id) k) (f .there) refl)
 
   -- ---- tune
   module _ (z : ℤ) (w : World) (h : Reached n s ts z w) (k : ℕ) (v : ℤ) where
@@ -142,31 +146,31 @@ module _ (n : ℕ) (s : Sides) (ts : List ℕ) where
     slots-stay true = refl
     slots-stay false = refl
 
-  tune-next : (z : ℤ) (w : World) (index v : ℤ) → Reached n s ts z w → Next z w (tune index v)
+  tune-next : (z : ℤ) (w : World) (index v : ℤ) → Reached n s ts z w → Next z w (Tune index v)
   unfolding calls.tune
   tune-next z w index v h =
       let k = placeOf tuningCount index in
       record {
         reached = tuned-next z w h k v (ltb k tuningCount) refl;
         same = λ i. ap (λ (us : List Slot). slotAt us i .present) (slots-stay z w h k v (ltb k tuningCount));
-        told = λ e. absurd (not-step (tune index v) refl e);
+        told = λ e. absurd (not-step (Tune index v) refl e);
       }
 
-  step-next : (z : ℤ) (w : World) → Reached n s ts z w → z ≡ pos 0 → Next z w step
+  step-next : (z : ℤ) (w : World) → Reached n s ts z w → z ≡ pos 0 → Next z w Step
   step-next z w h e =
       let x = steps n s ts w (subst (λ (v : ℤ). Reached n s ts v w) e h) in
       record {
-        reached = subst (λ (v : ℤ). Reached n s ts v (answer n s ts w step .world)) (sym e) (x .reached);
+        reached = subst (λ (v : ℤ). Reached n s ts v (answer n s ts w Step .world)) (sym e) (x .reached);
         same = x .same;
         told = λ i q. record { published = x .published q; faithful = x .faithful q };
       }
 
-  next : (z : ℤ) (w : World) (c : Call) → Reached n s ts z w → (c ≡ step → z ≡ pos 0) → Next z w c
-  next z w (join id x y) h o = join-next z w id x y h
-  next z w (leave id) h o = leave-next z w id h
-  next z w (input id i) h o = input-next z w id i h
-  next z w (tune index v) h o = tune-next z w index v h
-  next z w step h o = step-next z w h (o refl)
+  next : (z : ℤ) (w : World) (c : Call) → Reached n s ts z w → (c ≡ Step → z ≡ pos 0) → Next z w c
+  next z w (Join id x y) h o = join-next z w id x y h
+  next z w (Leave id) h o = leave-next z w id h
+  next z w (Input id a b c d e) h o = input-next z w id a b c d e h
+  next z w (Tune index v) h o = tune-next z w index v h
+  next z w Step h o = step-next z w h (o refl)
 
   -- ---- every list of calls
   record Upto (w : World) (cs : List Call) : Type 0 where

@@ -17,6 +17,8 @@ use Rattle.tuning.specs.Tuning.{tuningOf}
 use Rattle.tuning.specs.declared.Tuning.{Tuning}
 use Rattle.snap_obj.specs.declared.CharacterCore.{CharacterCore}
 use Rattle.snap_obj.specs.declared.PlayerInput.{PlayerInput}
+use Rattle.call.specs.declared.Call.{Call}
+use Rattle.call.specs.declared.Call.the-variants.{Join, Leave, Input, Step, Tune}
 use Rattle.character.specs.Tick.{slotAt}
 use Rattle.character.specs.declared.Slot.{Slot}
 use Rattle.character.specs.declared.walk.Moved.{Moved}
@@ -34,21 +36,17 @@ use Rattle.world.specs.declared.World.{World}
 
 -- ---- every list of calls
 
--- a call with its arguments, whatever their values
-pub data Call : Type 0 where
-  join : ℤ → ℤ → ℤ → Call
-  leave : ℤ → Call
-  input : ℤ → PlayerInput → Call
-  tune : ℤ → ℤ → Call
-  step : Call
+-- the input of an input call
+abbrev pub inputOf : ℤ → ℤ → ℤ → ℤ → ℤ → PlayerInput
+inputOf direction x y jump hook = record { direction = direction; «target_x» = x; «target_y» = y; jump = jump; hook = hook }
 
--- a call's number and the world that it leaves
+-- a call's number and the world that it leaves, whatever its arguments
 abbrev pub answer : ℕ → Sides → List ℕ → World → Call → Answer
-answer n s ts w (join id x y) = calls.join n w s ts id x y
-answer n s ts w (leave id) = calls.leave n w id
-answer n s ts w (input id i) = calls.input n w id i
-answer n s ts w (tune index z) = calls.tune w index z
-answer n s ts w step = record { number = world.step n w s ts .number; world = world.step n w s ts .world }
+answer n s ts w (Join id x y) = calls.join n w s ts id x y
+answer n s ts w (Leave id) = calls.leave n w id
+answer n s ts w (Input id d x y j h) = calls.input n w id (inputOf d x y j h)
+answer n s ts w (Tune index z) = calls.tune w index z
+answer n s ts w Step = record { number = world.step n w s ts .number; world = world.step n w s ts .world }
 
 -- each call gets the world that the one before it left
 abbrev pub after : ℕ → Sides → List ℕ → World → List Call → World
@@ -59,25 +57,25 @@ after n s ts w (c ∷ cs) = after n s ts (answer n s ts w c .world) cs
 
 -- the value of the last accepted tune of index 16, z before any
 abbrev pub collisionAfter : ℤ → Call → ℤ
-collisionAfter z (join id x y) = z
-collisionAfter z (leave id) = z
-collisionAfter z (input id i) = z
-collisionAfter z (tune index v) = cond (eqb (calls.placeOf tuningCount index) playerCollision) v z
-collisionAfter z step = z
+collisionAfter z (Join id x y) = z
+collisionAfter z (Leave id) = z
+collisionAfter z (Input id d x y j h) = z
+collisionAfter z (Tune index v) = cond (eqb (calls.placeOf tuningCount index) playerCollision) v z
+collisionAfter z Step = z
 
 abbrev pub CollisionOff : ℤ → List Call → Type 0
 CollisionOff z [] = Unit {0}
-CollisionOff z (c ∷ cs) = (c ≡ step → z ≡ pos 0) × CollisionOff (collisionAfter z c) cs
+CollisionOff z (c ∷ cs) = (c ≡ Step → z ≡ pos 0) × CollisionOff (collisionAfter z c) cs
 
 -- ---- each character present
 
 -- whether k is joined by an accepted join, with no accepted leave of that id since
 abbrev pub presentAfter : ℕ → ℕ → Bool → ℕ → Call → Bool
-presentAfter n k b number (join id x y) = cond (eqb (calls.placeOf n id) k && eqb number 0) true b
-presentAfter n k b number (leave id) = cond (eqb (calls.placeOf n id) k && eqb number 0) false b
-presentAfter n k b number (input id i) = b
-presentAfter n k b number (tune index z) = b
-presentAfter n k b number step = b
+presentAfter n k b number (Join id x y) = cond (eqb (calls.placeOf n id) k && eqb number 0) true b
+presentAfter n k b number (Leave id) = cond (eqb (calls.placeOf n id) k && eqb number 0) false b
+presentAfter n k b number (Input id d x y j h) = b
+presentAfter n k b number (Tune index z) = b
+presentAfter n k b number Step = b
 
 abbrev pub present : ℕ → Sides → List ℕ → ℕ → Bool → World → List Call → Bool
 present n s ts k b w [] = b
@@ -121,7 +119,7 @@ pub record StepFaithful (n : ℕ) (w : World) (s : Sides) (ts : List ℕ) : Type
 
 abbrev pub StepsFaithful : ℕ → Sides → List ℕ → World → List Call → Type 0
 StepsFaithful n s ts w [] = Unit {0}
-StepsFaithful n s ts w (c ∷ cs) = (c ≡ step → answer n s ts w c .number ≡ 0 → StepFaithful n w s ts) × StepsFaithful n s ts (answer n s ts w c .world) cs
+StepsFaithful n s ts w (c ∷ cs) = (c ≡ Step → answer n s ts w c .number ≡ 0 → StepFaithful n w s ts) × StepsFaithful n s ts (answer n s ts w c .world) cs
 
 -- ---- the demand
 
