@@ -10,13 +10,15 @@ use halves::unpublished;
 use tiles::Sides;
 use tiles::is_map;
 use tuning::tuning_of;
+use world::Published;
 use world::Stepped;
 use world::World;
 ghost use mathlib.Core.Path.{_≡_};
 ghost use lib.Dec.{T};
+ghost use lib.ListN.{replicate};
 ghost use Rattle.tiles.specs.Map.{isMap};
 ghost use Rattle.character.specs.Tick.{seats};
-ghost use Rattle.world.specs.Step.{stepRefused, stepOn, step};
+ghost use Rattle.world.specs.Step.{unpublished, stepRefused, stepOn, step};
 
 pub fn step(world: World, sides: Sides, tiles: &[u8]) -> Stepped
     ensures { λ r. ⌜ r ≡ step seats world sides (now (tiles .entry)) ⌝ }
@@ -33,8 +35,14 @@ fn refused(world: World, number: u32) -> Stepped
     Stepped {
         number,
         world,
-        records: [unpublished(); SEATS],
+        records: no_records(),
     }
+}
+
+pub fn no_records() -> [Published; SEATS]
+    ensures { λ r. ⌜ r ≡ replicate seats unpublished ⌝ }
+{
+    [unpublished(); SEATS]
 }
 
 // The same for a map that is one.

@@ -3,11 +3,11 @@ use borrow.Author.Needs.{needs}
 use Rattle.steps.proofs.refused.Statement.{statement}
 use Rattle.steps.proofs.refused.Tie as tie
 
-unpublished-requires : tie.Need-unpublished-requires
-unpublished-requires c κs = search needs
+no-records-requires : tie.Need-no-records-requires
+no-records-requires c κs = search needs
 
 returns : tie.Need-returns
-returns c = simp (c .unpublished .ensures)
+returns c = simp (c .no-records .ensures)
 
 pub refused-spec : {M : Type 1} → statement M
-refused-spec = tie.close (tie.spec unpublished-requires returns)
+refused-spec = tie.close (tie.spec no-records-requires returns)
