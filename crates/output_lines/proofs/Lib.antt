@@ -1,0 +1,4 @@
+pub mod Puts
+pub mod Sizes
+mod Rows
+mod Signs

@@ -1,0 +1,35 @@
+-- How long lines are, and lines put one after another. Assumes nothing.
+use Prim.Native.Nat.{ℕ, _+_, _*_, _≤_}
+use mathlib.Core.Path.{_≡_, ap, _∙_, subst}
+use mathlib.Core.List.{List, _∷_, _++_}
+use native.Mathlib.Omega.{arith}
+use lib.IntN.{ℤ, pos, negsuc}
+use lib.ListN.{length, replicate, length-append}
+use Rattle.decimal.specs.Lines.{endByte, line}
+use Rattle.decimal.proofs.Lines.{front-line, front-short}
+use Rattle.output_lines.specs.Output.{numbers, recordBytes, answerBytes}
+use Rattle.output_lines.specs.Put.{put, Put}
+use Rattle.output_lines.proofs.Puts.{put-put}
+use Rattle.snap_obj.specs.declared.CharacterCore.{CharacterCore}
+
+line-short : (zs : List ℤ) → length (line zs) ≤ 12 * length zs
+line-short zs = subst (λ (w : List ℕ). length w ≤ 12 * length zs) (front-line zs) (front-short endByte 0 zs)
+
+-- at most 216 bytes
+pub record-short : (call answer id : ℤ) (n : CharacterCore) → length (recordBytes call answer id n) ≤ 216
+unfolding recordBytes
+record-short call answer id n = line-short (call ∷ answer ∷ id ∷ numbers n)
+
+pub answer-short : (call answer : ℤ) → length (answerBytes call answer) ≤ 216
+unfolding answerBytes
+answer-short call answer = line-short (call ∷ answer ∷ negsuc 0 ∷ replicate 15 (pos 0))
+
+-- some bytes after others
+pub put-after : {d e f v w : List ℕ} {at next end : ℕ} → at ≤ length d → Put d at w e next → Put e next v f end → Put d at (w ++ v) f end
+put-after {d} {e} {f} {v} {w} {at} {next} {end} h a b =
+    let p = a .place in
+    let q = b .place in
+    record {
+      bytes = b .bytes ∙ ap (λ (x : List ℕ). put x next v) (a .bytes) ∙ put-put d at w v next p h;
+      place = omega (arith, length-append w v);
+    }
