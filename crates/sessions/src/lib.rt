@@ -1,4 +1,13 @@
 // A session: what each call of its text does to the world, and the lines that it writes.
 mod calling;
+mod line;
+mod lines;
+mod writing;
 
 pub use calling::run_call;
+pub use line::Session;
+pub use line::Turned;
+pub use line::run_line;
+pub use lines::MOST_ANSWER;
+pub use lines::run_lines;
+pub use writing::put_ran;

@@ -1,0 +1,110 @@
+-- `sessions::line::run_line` meets its contract. Assumes nothing.
+use mathlib.Core.List.{List}
+use mathlib.Core.Path.{_≡_, refl, sym, ap, ap₂, _∙_, subst}
+use Prim.Native.Nat.{ℕ, _+_, _≤_, _<_, _^_}
+use native.Mathlib.Omega.{arith}
+use lib.IntN.{ℤ, pos}
+use mir.Syntax.{w32}
+use mir.Val.{toZ, ofZ}
+use Rattle.output_lines.specs.Output.{answerBytes}
+use Rattle.output_lines.specs.Put.{Put}
+use Rattle.world.specs.declared.Stepped.{Stepped}
+use Rattle.sessions.specs.declared.line.Turned.{Turned}
+use Rattle.casts.proofs.Signed.{read}
+use Rattle.call_lines.specs.Calls.{CallAt}
+use Rattle.character.specs.Tick.{seats}
+use Rattle.sessions.specs.Answers.{ranBytes}
+use Rattle.sessions.specs.Session.{textFault, endedAt, goesOn, end, fault, call}
+use borrow.Author.Needs.{needs}
+use Rattle.sessions.proofs.line.run_line.Statement.{statement}
+use Rattle.sessions.proofs.line.run_line.Tie as tie
+
+written : {d e v w : List ℕ} {at end next : ℕ} → v ≡ w → end ≡ next → Put d at v e end → Put d at w e next
+written q r p = rw (sym q, sym r) p
+
+small : (n : ℕ) → n ≤ 65537 → n < 2 ^ 31
+small n h = omega arith
+
+ended-requires : tie.Need-ended-requires
+ended-requires c κs = search needs
+
+returns : tie.Need-returns
+returns c = end (c .before .if1 .taken) (c .ended .ensures) refl
+
+next-call-requires : tie.Need-next-call-requires
+next-call-requires c κs = search needs
+
+enum-told : tie.Need-enum-told
+enum-told c = search needs
+
+cast-put-answer : tie.Need-cast-put-answer
+cast-put-answer c = search needs
+
+put-answer-requires : tie.Need-put-answer-requires
+put-answer-requires c κs = search needs
+
+ended-requires-2 : tie.Need-ended-requires-2
+ended-requires-2 c κs = search needs
+
+enum-known-line : tie.Need-enum-known-line
+enum-known-line c = search needs
+
+run-call-requires : tie.Need-run-call-requires
+run-call-requires c κs = search needs
+
+cast-put-ran : tie.Need-cast-put-ran
+cast-put-ran c = search needs
+
+put-ran-requires : tie.Need-put-ran-requires
+put-ran-requires c κs = search needs
+
+add-t26 : tie.Need-add-t26
+add-t26 c = search needs
+
+same-length : tie.Need-same-length
+same-length c = search needs
+
+returns-2 : tie.Need-returns-2
+returns-2 c =
+    let a = c .before .before .before .before .before .before .before .before .before .before .before .before .before in
+    let s = a .args .session in
+    let next : c .ended2 .result .next ≡ c .before .before .before .put-answer .result = ap (λ (t : Turned). t .next) (c .ended2 .ensures) in
+    let number : toZ w32 (ofZ w32 (pos (s .call))) ≡ pos (s .call) = read (pos (s .call)) (small (s .call) (a .pre .1)) in
+    fault (c .before .before .before .before .before .before .before .before .if1 .left) (subst (CallAt (a .args .text .now) (s .place)) (c .before .before .before .before .before .enum-told .given .1) (c .before .before .before .before .before .before .before .next-call .ensures))
+    (c .ended2 .ensures ∙ ap (endedAt (s .call) (s .place) (s .world)) (sym next))
+    (written (ap (λ (z : ℤ). answerBytes z (pos textFault)) number) (sym next) (c .before .before .before .put-answer .ensures))
+
+same-length-2 : tie.Need-same-length-2
+same-length-2 c = search needs
+
+returns-3 : tie.Need-returns-3
+returns-3 c =
+    let a = c .before .before .before .before .before .before .before .before .before .before .before .before .before .before .before in
+    let s = a .args .session in
+    let g = c .before .before .before .before .before .before .before .line .given in
+    let r = c .before .before .before .before .before .run-call in
+    let number : toZ w32 (ofZ w32 (pos (s .call))) ≡ pos (s .call) = read (pos (s .call)) (small (s .call) (a .pre .1)) in
+    call (g .0 .0) (g .0 .1 .0) (c .before .before .before .before .before .before .before .before .before .before .if1 .left) (subst (CallAt (a .args .text .now) (s .place)) (g .1) (c .before .before .before .before .before .before .before .before .before .next-call .ensures))
+    (ap (λ (u : Stepped). goesOn (s .call + 1) (g .0 .1 .0) (u .world) (c .before .before .before .put-ran .result)) (r .ensures))
+    (written (ap₂ (ranBytes seats) number (r .ensures)) refl (c .before .before .before .put-ran .ensures))
+
+pub run-line-spec : {M : Type 1} → statement M
+run-line-spec =
+    tie.close
+    (tie.spec
+    ended-requires
+    returns
+    next-call-requires
+    enum-told
+    cast-put-answer
+    put-answer-requires
+    ended-requires-2
+    enum-known-line
+    run-call-requires
+    cast-put-ran
+    put-ran-requires
+    add-t26
+    same-length
+    returns-2
+    same-length-2
+    returns-3)

@@ -1,0 +1,23 @@
+use mathlib.Core.Bool.{true≢false}
+use mathlib.Core.Path.{sym}
+use native.Mathlib.Omega.{arith}
+use borrow.Author.Tests.{leb-true}
+use Rattle.sessions.proofs.lines.goes_on.Statement.{statement}
+use Rattle.sessions.proofs.lines.goes_on.Tie as tie
+use Rattle.sessions.proofs.lines.goes_on.Reads as reads
+use Rattle.sessions.proofs.lines.goes_on.Lts as lts
+
+returns : tie.Need-returns
+returns c = λ e. absurd (true≢false (sym e))
+
+returns-2 : tie.Need-returns-2
+returns-2 c = λ e. absurd (true≢false (sym e))
+
+returns-3 : tie.Need-returns-3
+returns-3 c = λ e. absurd (true≢false (sym e))
+
+returns-4 : tie.Need-returns-4
+returns-4 c = λ e. let h = leb-true _ _ e in (?, ?)
+
+pub goes-on-spec : {M : Type 1} → statement M
+goes-on-spec = tie.close (tie.spec returns returns-2 returns-3 returns-4)

@@ -1,0 +1,58 @@
+// As many lines as a buffer has room for.
+use crate::line::Session;
+use crate::line::Turned;
+use crate::line::run_line;
+use tiles::Sides;
+ghost use mathlib.Core.Bool.{true};
+ghost use mathlib.Core.Path.{_≡_};
+ghost use Prim.Native.Nat.{_+_, _≤_};
+ghost use Rattle.character.specs.Tick.{seats};
+ghost use Rattle.sessions.specs.Session.{LinesRan};
+
+// No answer is longer: a line for each seat.
+pub const MOST_ANSWER: usize = 3456;
+
+// A text has fewer calls.
+pub const MOST_CALLS: u32 = 65536;
+
+// Runs lines until the session has ended or the buffer might be too short for another answer.
+pub fn run_lines(
+    text: &[u8],
+    sides: Sides,
+    tiles: &[u8],
+    session: Session,
+    buf: &mut [u8],
+) -> Turned
+    ensures { λ r. ⌜ LinesRan seats (now (text .entry)) sides (now (tiles .entry)) session (now (buf .entry)) 0 (r .session) (now (buf .exit)) (r .next) ⌝ }
+{
+    let mut now = session;
+    let mut used = 0;
+    for _ in 0..MOST_CALLS {
+        if !goes_on(now.done, now.call, used, buf.len()) {
+            break;
+        }
+        let turned = run_line(text, sides, tiles, now, buf, used);
+        now = turned.session;
+        used = turned.next;
+    }
+    Turned {
+        session: now,
+        next: used,
+    }
+}
+
+// Whether there is another line to run, and room for its answer.
+fn goes_on(done: bool, call: u32, used: usize, len: usize) -> bool
+    ensures { λ r. ⌜ (r ≡ true → (call ≤ 65536) × (used + 3456 ≤ len)) ⌝ }
+{
+    if done {
+        return false;
+    }
+    if call > MOST_CALLS {
+        return false;
+    }
+    if len < MOST_ANSWER {
+        return false;
+    }
+    used <= len - MOST_ANSWER
+}
