@@ -1,5 +1,5 @@
 -- Laws of seven values as a call: its code says which, and its spare values are 0. Assumes nothing.
-use Prim.Native.Nat.{ℕ, _-_, _^_, _≤_, _<_}
+use Prim.Native.Nat.{ℕ, zero, suc, _-_, _^_, _≤_, _<_}
 use mathlib.Core.Path.{_≡_, refl, sym, ap, _∙_}
 use mathlib.Core.Bool.{Bool, true, false, cond, _&&_, true≢false}
 use mathlib.Core.List.{List, [], _∷_}
@@ -15,6 +15,7 @@ use Rattle.call_lines.specs.Calls.{values}
 use Rattle.call_lines.specs.Parts.{DecodedAs, allZero, withSpare}
 use Rattle.call.specs.declared.Call.{Call}
 use Rattle.call.specs.declared.Call.the-variants.{Join, Leave, Input, Step, Tune}
+use Rattle.call_lines.specs.declared.code.Decoded.{Decoded}
 use Rattle.call_lines.specs.declared.code.Decoded.the-variants as decoded
 
 -- a number from its bits
@@ -106,3 +107,21 @@ is-step = seven _ λ z a b c d e f q. decided _ 4 Step q (λ t. let s = zeros (a
 
 pub is-tune : (zs : List ℤ) → length zs ≡ 7 → at zs 0 ≡ pos 5 → DecodedAs zs (withSpare (drop 3 zs) (Tune (at zs 1) (at zs 2)))
 is-tune = seven _ λ z a b c d e f q. decided _ 5 (Tune a b) q (λ t. let s = zeros (c ∷ d ∷ e ∷ f ∷ []) t in cc)
+
+-- seven values stand for a call or for none
+decoded-code : (zs : List ℤ) → length zs ≡ 7 → (n : ℕ) → at zs 0 ≡ pos n → (d : Decoded) × DecodedAs zs d
+decoded-code zs l zero e = (decoded.None, no-code zs (λ m a b q. let f : pos m ≡ pos 0 = sym q ∙ e in let k : m ≡ 0 = cc in omega arith))
+decoded-code zs l (suc zero) e = (_, is-join zs l e)
+decoded-code zs l (suc (suc zero)) e = (_, is-leave zs l e)
+decoded-code zs l (suc (suc (suc zero))) e = (_, is-input zs l e)
+decoded-code zs l (suc (suc (suc (suc zero)))) e = (_, is-step zs l e)
+decoded-code zs l (suc (suc (suc (suc (suc zero))))) e = (_, is-tune zs l e)
+decoded-code zs l (suc (suc (suc (suc (suc (suc n)))))) e =
+    (decoded.None, no-code zs (λ m a b q. let f : pos m ≡ pos (suc (suc (suc (suc (suc (suc n)))))) = sym q ∙ e in let k : m ≡ suc (suc (suc (suc (suc (suc n))))) = cc in omega arith))
+
+pub decoded-some : (zs : List ℤ) → length zs ≡ 7 → (d : Decoded) × DecodedAs zs d
+decoded-some zs l = by (at zs 0) refl
+  where
+    by : (z : ℤ) → at zs 0 ≡ z → (d : Decoded) × DecodedAs zs d
+    by (pos n) e = decoded-code zs l n e
+    by (negsuc n) e = (decoded.None, no-code zs (λ m a b q. let f : pos m ≡ negsuc n = sym q ∙ e in let z : _≡_ {A = ℕ} 0 1 = cc in omega arith))

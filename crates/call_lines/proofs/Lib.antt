@@ -1,2 +1,3 @@
 pub mod Calls
 mod Codes
+pub mod Every

@@ -9,7 +9,6 @@ use Rattle.call_lines.specs.declared.CallLine.{CallLine}
 use Rattle.call.specs.declared.Call.{Call}
 use Rattle.call.specs.declared.Call.the-variants.{Join, Leave, Input, Step, Tune}
 use Rattle.call_lines.specs.declared.CallLine.the-variants as callLine
-use Rattle.call_lines.specs.declared.code.Decoded.the-variants as decoded
 
 -- the seven values of a call: its code, its arguments in their order, and 0 for each spare one
 abbrev pub values : Call → List ℤ

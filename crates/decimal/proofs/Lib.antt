@@ -4,4 +4,5 @@ pub mod Exact
 pub mod Places
 pub mod Told
 pub mod Lines
+pub mod Every
 mod Minus

@@ -54,6 +54,10 @@ number-scanned stop s at number.Fault low h = by (scanNumber stop at (drop at s)
         let t = sound-number stop at (drop at s) n next e in
         absurd (h n (t .0) (t .1 .0) (t .1 .1 ∙ sym (split (digits 10 n) stop (t .1 .0))))
 
+-- every place has an answer
+pub number-some : (stop : ℕ) (s : List ℕ) (at : ℕ) → stop < 48 → (r : Number) × NumberAt stop s at r
+number-some stop s at low = (scanNumber stop at (drop at s), number-told stop s at _ low refl)
+
 pub number-read : (stop : ℕ) (s : List ℕ) (at n next : ℕ) {r : Number} → r ≡ number.Read n next → NumberAt stop s at r → (n ≤ 2 ^ 31) × Stands (ended (digits 10 n) stop) s at next
 unfolding NumberAt
 number-read stop s at n next e h = subst (NumberAt stop s at) e h
@@ -75,6 +79,9 @@ value-told stop s at (value.Read z next) low e =
     (t .0, found (written z) stop s at next (t .1 .0) (t .1 .1) p)
 value-told stop s at value.Fault low e = λ y h rest f. let said = value-there stop s at y rest low h f in let z : _≡_ {A = ℕ} 0 1 = cc in omega arith
 
+pub value-some : (stop : ℕ) (s : List ℕ) (at : ℕ) → stop < 48 → (r : Value) × ValueAt stop s at r
+value-some stop s at low = (scanValue stop at (drop at s), value-told stop s at _ low refl)
+
 pub value-read : (stop : ℕ) (s : List ℕ) (at : ℕ) (z : ℤ) (next : ℕ) {r : Value} → r ≡ value.Read z next → ValueAt stop s at r → IsI32 z × Stands (ended (written z) stop) s at next
 unfolding ValueAt
 value-read stop s at z next e h = subst (ValueAt stop s at) e h
@@ -90,12 +97,7 @@ value-unique stop y z p q low f g e =
     let b = value-there stop (ended (written y) stop ++ p) 0 z q low g e in
     cc
 
--- where one stands, any that is there is that one, and the same follows
-pub value-only : (stop : ℕ) {s : List ℕ} {at next : ℕ} (y z : ℤ) (rest : List ℕ) → stop < 48 → IsI32 y → IsI32 z → Stands (ended (written y) stop) s at next → drop at s ≡ ended (written z) stop ++ rest → (y ≡ z) × (drop next s ≡ rest)
-value-only stop {s} {at} {next} y z rest low f g h e =
-    let k = value-unique stop y z (drop next s) rest low f g (sym (h .bytes) ∙ e) in
-    (k, follows h rest (e ∙ ap (λ (x : ℤ). ended (written x) stop ++ rest) (sym k)))
-
+-- where a number stands, any that is there is that one, and the same follows
 pub number-only : (stop : ℕ) {s : List ℕ} {at next : ℕ} (m n : ℕ) (rest : List ℕ) → stop < 48 → m ≤ 2 ^ 31 → n ≤ 2 ^ 31 → Stands (ended (digits 10 m) stop) s at next → drop at s ≡ ended (digits 10 n) stop ++ rest → (m ≡ n) × (drop next s ≡ rest)
 number-only stop {s} {at} {next} m n rest low f g h e =
     let a = number-there stop s at m (drop next s) low f (h .bytes) in

@@ -1,3 +1,4 @@
 mod Rows
 mod Heads
 pub mod Maps
+pub mod Every

@@ -7,8 +7,9 @@ use native.Mathlib.Omega.{arith}
 use lib.IntN.{ℤ, pos, negsuc, natAbs}
 use lib.ListN.{length, take, drop, length-map, length-drop, take-append-drop}
 use lib.Seq.{length-take-le}
-use Rattle.decimal.specs.Decimal.{IsI32}
-use Rattle.decimal.specs.Lines.{endByte, line, All}
+use Rattle.decimal.specs.Decimal.{digits, written, IsI32}
+use Rattle.decimal.specs.Lines.{endByte, ended, line, All}
+use Rattle.decimal.specs.Places.{Absent}
 use Rattle.decimal.proofs.Lines.{front, front-append, front-unique, front-long, end-low, all-map}
 use Rattle.map_text.specs.Map.{IsTile, tileBytes}
 
@@ -52,6 +53,10 @@ TileValue (negsuc n) = ⊥
 pub tile-i32 : (z : ℤ) → TileValue z → IsI32 z
 tile-i32 (pos t) h = omega arith
 tile-i32 (negsuc n) h = absurd h
+
+pub tile-absent : (s : List ℕ) (stop place : ℕ) → ((t : ℕ) → IsTile t → Absent (ended (digits 10 t) stop) s place) → (z : ℤ) → TileValue z → Absent (ended (written z) stop) s place
+tile-absent s stop place f (pos t) h = f t h
+tile-absent s stop place f (negsuc n) h = absurd h
 
 pub tile-values : (ts : List ℕ) → All IsTile ts → All TileValue (map pos ts)
 tile-values [] a = tt

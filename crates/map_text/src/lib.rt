@@ -15,7 +15,7 @@ ghost use Rattle.map_text.specs.Reading.{MapAt};
 // A longer text is at fault.
 pub const MOST_BYTES: usize = 65536;
 
-// The tiles of no map that a text holds are more.
+// No such text holds more tiles: each takes two bytes.
 pub const MOST_TILES: usize = 32768;
 
 // The sides of a map, with the place past its part of the text.
@@ -28,7 +28,7 @@ pub enum MapPart {
     Fault,
 }
 
-// Reads the map part, with the tiles to the start of `tiles`.
+// Reads the map part, with its tiles to the start of `tiles`. What a fault leaves there, and what stands past the tiles, is not said.
 pub fn read_map(text: &[u8], tiles: &mut [u8]) -> MapPart
     requires { ⌜ 32768 ≤ length (now tiles) ⌝ }
     ensures { λ r. ⌜ MapAt (now (text .entry)) (now (tiles .exit)) r ⌝ }

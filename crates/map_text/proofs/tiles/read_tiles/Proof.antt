@@ -5,11 +5,11 @@ use mathlib.Core.List.{List, [], _∷_, _++_, map, map-append}
 use native.Mathlib.Nat.{lt-of-le-of-lt}
 use native.Mathlib.Numerals.{add-one}
 use native.Mathlib.Omega.{arith}
-use lib.IntN.{ℤ, pos, negsuc}
+use lib.IntN.{ℤ, pos}
 use lib.ListN.{length, take, set, length-set, length-map}
 use lib.Seq.{length-take-le, take-suc-set}
 use borrow.Author.Needs.{needs}
-use Rattle.decimal.specs.Decimal.{digits, written}
+use Rattle.decimal.specs.Decimal.{digits}
 use Rattle.decimal.specs.Lines.{ended, All}
 use Rattle.decimal.specs.Places.{Stands, Absent}
 use Rattle.decimal.proofs.Lines.{end-low, all-append, Begun, begun-none, begun-more, begun-not, begun-whole}
@@ -17,7 +17,7 @@ use Rattle.decimal.proofs.Told.{number-read, number-fault, number-only}
 use Rattle.map_text.specs.Map.{IsTile, tileBytes}
 use Rattle.map_text.specs.Reading.{TilesAt}
 use Rattle.map_text.specs.declared.name.Place.the-variants.{Fault}
-use Rattle.map_text.proofs.Rows.{rowEnd, row-low, tiles-front, TileValue, tile-i32, tile-values}
+use Rattle.map_text.proofs.Rows.{rowEnd, row-low, tiles-front, TileValue, tile-i32, tile-absent, tile-values}
 use Rattle.map_text.proofs.tiles.read_tiles.Statement.{statement}
 use Rattle.map_text.proofs.tiles.read_tiles.Tie as tie
 
@@ -63,14 +63,8 @@ none-next k f =
     let a = l .before .before .before .args in
     λ ts n g rest e.
     begun-not (l .loop .inv .4) (omega (arith, passed l (k .before .before .loop-test .taken))) (row-low (a .width)) TileValue tile-i32 (
-    λ z h. value-absent z h
+    tile-absent (a .text .now) _ (l .loop .place) (λ t h. subst (λ (b : ℕ). Absent (ended (digits 10 t) b) (a .text .now) (l .loop .place)) (stop-is k) (f t h))
     ) (map pos ts) (length-map ts pos ∙ n) (tile-values ts g) rest (e ∙ ap (λ (w : List ℕ). w ++ rest) (tiles-front (a .width) (a .height) ts n))
-  where
-    value-absent : (z : ℤ)
-        → TileValue z
-        → Absent (ended (written z) (rowEnd (k .before .before .before .before .before .before .args .width) (k .before .before .before .before .before .before .args .width * k .before .before .before .before .before .before .args .height - (length (map pos (take (k .before .before .before .loop .i) (k .before .before .before .loop .tiles))) + 1)))) (k .before .before .before .before .before .before .args .text .now) (k .before .before .before .loop .place)
-    value-absent (pos t) h = subst (λ (b : ℕ). Absent (ended (digits 10 t) b) (k .before .before .before .before .before .before .args .text .now) (k .before .before .before .loop .place)) (stop-is k) (f t h)
-    value-absent (negsuc n) h = absurd h
 
 above : {n t : ℕ} → 255 < n → t < 256 → n ≡ t → ⊥
 above a b e = omega arith

@@ -1,3 +1,4 @@
+use Prim.Native.Nat.{_-_}
 use mathlib.Core.Bool.{true≢false}
 use mathlib.Core.Path.{sym}
 use native.Mathlib.Omega.{arith}
@@ -17,7 +18,7 @@ returns-3 : tie.Need-returns-3
 returns-3 c = λ e. absurd (true≢false (sym e))
 
 returns-4 : tie.Need-returns-4
-returns-4 c = λ e. let h = leb-true _ _ e in (?, ?)
+returns-4 c = λ e. let a = c .before .before .before .args in let h = leb-true (a .used) (a .len - 3456) e in (c .before .if2 .left, omega (arith, c .if3 .left))
 
 pub goes-on-spec : {M : Type 1} → statement M
 goes-on-spec = tie.close (tie.spec returns returns-2 returns-3 returns-4)
