@@ -9,6 +9,7 @@ use vectors::float_of;
 use vectors::is_float;
 use vectors::is_point;
 use vectors::nth;
+use vectors::pattern_of;
 use vectors::point;
 
 pub fn character_of(words: &[u8]) -> Character {
@@ -22,6 +23,54 @@ pub fn character_of(words: &[u8]) -> Character {
         angle: Angle::from_radians(float_of(nth(words, 10))),
         move_direction: direction_of(nth(words, 11)),
     }
+}
+
+// The words that `character_of` reads.
+pub fn words_of(character: Character) -> [u32; 12] {
+    let pos = character.pos;
+    let vel = character.vel;
+    let hook = character.hook;
+    let angle = character.angle;
+    let direction = character.move_direction;
+    let hooked = hook_words(hook);
+    [
+        pattern_of(pos.x),
+        pattern_of(pos.y),
+        pattern_of(vel.x),
+        pattern_of(vel.y),
+        hooked[0],
+        hooked[1],
+        hooked[2],
+        hooked[3],
+        hooked[4],
+        jumps(character.jumped_already, character.used_airjump),
+        pattern_of(angle.to_radians()),
+        direction_number(direction),
+    ]
+}
+
+// The hook's case, and what it holds.
+fn hook_words(hook: Hook) -> [u32; 5] {
+    match hook {
+        Hook::Retracted => [0; 5],
+        Hook::Idle => [1, 0, 0, 0, 0],
+        Hook::Flying(pos, dir) => [
+            2,
+            pattern_of(pos.x),
+            pattern_of(pos.y),
+            pattern_of(dir.x),
+            pattern_of(dir.y),
+        ],
+        Hook::Grabbed(id, tick) => [3, id.0, tick, 0, 0],
+        Hook::Attached(pos) => pos_words(4, pos),
+        Hook::Retracting0(pos) => pos_words(5, pos),
+        Hook::Retracting1(pos) => pos_words(6, pos),
+        Hook::Retracting2(pos) => pos_words(7, pos),
+    }
+}
+
+fn pos_words(case: u32, pos: vec2) -> [u32; 5] {
+    [case, pattern_of(pos.x), pattern_of(pos.y), 0, 0]
 }
 
 pub fn is_character(character: Character, words: &[u8]) -> bool {

@@ -68,6 +68,13 @@ pub fn float_of(pattern: u32) -> f32
     }
 }
 
+// Every not-a-number has the same pattern.
+pub fn pattern_of(x: f32) -> u32
+    ensures { λ r. ⌜ ofBits binary32 r ≡ x ⌝ }
+{
+    if x != x { 0x7fc0_0000 } else { f32::to_bits(x) }
+}
+
 pub fn is_float(x: f32, pattern: u32) -> bool
     ensures { λ r. ⌜ (r ≡ true → x ≡ ofBits binary32 pattern) ⌝ }
 {

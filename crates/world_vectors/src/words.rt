@@ -1,0 +1,38 @@
+// Inputs and records as words.
+use casts::cast_unsigned;
+use snap_obj::CharacterCore;
+use snap_obj::PlayerInput;
+
+pub fn flag(set: bool) -> u32 {
+    if set { 1 } else { 0 }
+}
+
+pub fn input_words(input: PlayerInput) -> [u32; 5] {
+    [
+        cast_unsigned(input.direction),
+        cast_unsigned(input.target_x),
+        cast_unsigned(input.target_y),
+        cast_unsigned(input.jump),
+        cast_unsigned(input.hook),
+    ]
+}
+
+pub fn core_words(core: CharacterCore) -> [u32; 15] {
+    [
+        cast_unsigned(core.tick),
+        cast_unsigned(core.x),
+        cast_unsigned(core.y),
+        cast_unsigned(core.vel_x),
+        cast_unsigned(core.vel_y),
+        cast_unsigned(core.angle),
+        cast_unsigned(core.direction),
+        cast_unsigned(core.jumped),
+        cast_unsigned(core.hooked_player),
+        cast_unsigned(core.hook_state),
+        cast_unsigned(core.hook_tick.0),
+        cast_unsigned(core.hook_x),
+        cast_unsigned(core.hook_y),
+        cast_unsigned(core.hook_dx),
+        cast_unsigned(core.hook_dy),
+    ]
+}
