@@ -11,6 +11,8 @@ use vectors::is_point;
 use vectors::nth;
 use vectors::pattern_of;
 use vectors::point;
+ghost use mathlib.Core.Path.{_≡_};
+ghost use Rattle.states.specs.Words.{jumpsOf, directionNumber, posWords, hookWords, wordsOf};
 
 pub fn character_of(words: &[u8]) -> Character {
     let jumps = nth(words, 9);
@@ -26,7 +28,9 @@ pub fn character_of(words: &[u8]) -> Character {
 }
 
 // The words that `character_of` reads.
-pub fn words_of(character: Character) -> [u32; 12] {
+pub fn words_of(character: Character) -> [u32; 12]
+    ensures { λ r. ⌜ r ≡ wordsOf character ⌝ }
+{
     let pos = character.pos;
     let vel = character.vel;
     let hook = character.hook;
@@ -50,7 +54,9 @@ pub fn words_of(character: Character) -> [u32; 12] {
 }
 
 // The hook's case, and what it holds.
-fn hook_words(hook: Hook) -> [u32; 5] {
+fn hook_words(hook: Hook) -> [u32; 5]
+    ensures { λ r. ⌜ r ≡ hookWords hook ⌝ }
+{
     match hook {
         Hook::Retracted => [0; 5],
         Hook::Idle => [1, 0, 0, 0, 0],
@@ -69,7 +75,9 @@ fn hook_words(hook: Hook) -> [u32; 5] {
     }
 }
 
-fn pos_words(case: u32, pos: vec2) -> [u32; 5] {
+fn pos_words(case: u32, pos: vec2) -> [u32; 5]
+    ensures { λ r. ⌜ r ≡ posWords case pos ⌝ }
+{
     [case, pattern_of(pos.x), pattern_of(pos.y), 0, 0]
 }
 
@@ -85,7 +93,9 @@ pub fn is_character(character: Character, words: &[u8]) -> bool {
         && direction_number(direction) == nth(words, 11)
 }
 
-fn jumps(jumped_already: bool, used_airjump: bool) -> u32 {
+fn jumps(jumped_already: bool, used_airjump: bool) -> u32
+    ensures { λ r. ⌜ r ≡ jumpsOf «jumped_already» «used_airjump» ⌝ }
+{
     if used_airjump {
         if jumped_already { 3 } else { 2 }
     } else {
@@ -135,7 +145,9 @@ fn direction_of(number: u32) -> MoveDirection {
     }
 }
 
-fn direction_number(direction: MoveDirection) -> u32 {
+fn direction_number(direction: MoveDirection) -> u32
+    ensures { λ r. ⌜ r ≡ directionNumber direction ⌝ }
+{
     match direction {
         MoveDirection::Left => 0,
         MoveDirection::None => 1,

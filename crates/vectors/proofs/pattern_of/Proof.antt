@@ -4,6 +4,7 @@ use lib.Dec.{T, ltb→lt}
 use lib.Ieee.{binary32, fits}
 use lib.Ieee.Bits.{ofBits-toBits}
 use Rattle.binary32.proofs.Nans.{equal-no-nan, unequal-nan, body-nan}
+use Rattle.vectors.specs.Patterns.{patternOf}
 use Rattle.vectors.proofs.pattern_of.Statement.{statement}
 use Rattle.vectors.proofs.pattern_of.Tie as tie
 
@@ -15,10 +16,12 @@ float-to-bits-result : tie.Need-float-to-bits-result
 float-to-bits-result c = equal-no-nan (c .before .args .x) (c .if1 .left)
 
 returns : tie.Need-returns
-returns c = body-nan binary32 2143289344 (ltb→lt _ _ tt) ∙ sym (unequal-nan (c .before .args .x) (c .if1 .taken))
+unfolding patternOf
+returns c = (simp (c .if1 .taken), body-nan binary32 2143289344 (ltb→lt _ _ tt) ∙ sym (unequal-nan (c .before .args .x) (c .if1 .taken)))
 
 returns-2 : tie.Need-returns-2
-returns-2 c = ofBits-toBits binary32 (c .before .args .x) (held (c .before))
+unfolding patternOf
+returns-2 c = (simp (c .if1 .left), ofBits-toBits binary32 (c .before .args .x) (held (c .before)))
 
 pub pattern-of-spec : {M : Type 1} → statement M
 pattern-of-spec = tie.close (tie.spec float-to-bits-result returns returns-2)
