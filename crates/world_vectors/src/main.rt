@@ -1,13 +1,16 @@
 // Runs the recorded calls of the Rust one after another, prints the lines that are answered otherwise, and tells how many agree.
-// rust/world/record_calls prints the lines: n or c, the map's sides and 64 tiles, then the words that `requests` reads.
+// rust/world/record_calls prints the lines: n or c, the map's sides and 64 tiles, then twelve words.
 mod digest;
 mod requests;
 mod words;
 
 use calls::fresh;
+use casts::cast_signed;
 use digest::world_digest;
 use libc::STDIN_FILENO;
-use requests::run_request;
+use requests::Request;
+use requests::reply_to;
+use tiles::Sides;
 use vectors::Counts;
 use vectors::Outcome;
 use vectors::area;
@@ -15,6 +18,7 @@ use vectors::byte;
 use vectors::nth;
 use vectors::tiles_of;
 use world::World;
+ghost use Prim.Native.Nat.{_<_};
 
 // The length of a line; where the sides, the tiles and the words begin in it.
 const LINE: usize = 181;
@@ -27,7 +31,13 @@ const TILES: usize = 8;
 
 const WORDS: usize = 73;
 
-// Where the answer and the digests stand among the words.
+// Where the sides, the code, the arguments, the answer and the digests stand among the words.
+const SIDES: usize = 0;
+
+const CODE: usize = 2;
+
+const ARGUMENTS: usize = 3;
+
 const ANSWER: usize = 9;
 
 const WORLD: usize = 10;
@@ -112,7 +122,7 @@ fn answer_on(world: World, tiles: &[u8], n: usize, words: &[u8]) -> Answered {
     if tiles.len() < n {
         return disagrees(world);
     }
-    let reply = run_request(world, &tiles[0..n], words);
+    let reply = reply_to(world, &tiles[0..n], request_of(words));
     let left = reply.world;
     Answered {
         agrees: reply.number == nth(words, ANSWER)
@@ -120,4 +130,30 @@ fn answer_on(world: World, tiles: &[u8], n: usize, words: &[u8]) -> Answered {
             && world_digest(left) == nth(words, WORLD),
         world: left,
     }
+}
+
+fn request_of(words: &[u8]) -> Request {
+    Request {
+        sides: sides_of(words),
+        code: nth(words, CODE),
+        a: argument(words, 0),
+        b: argument(words, 1),
+        c: argument(words, 2),
+        d: argument(words, 3),
+        e: argument(words, 4),
+        f: argument(words, 5),
+    }
+}
+
+fn sides_of(words: &[u8]) -> Sides {
+    Sides {
+        width: nth(words, SIDES),
+        height: nth(words, SIDES + 1),
+    }
+}
+
+fn argument(words: &[u8], k: usize) -> i32
+    requires { ⌜ k < 6 ⌝ }
+{
+    cast_signed(nth(words, ARGUMENTS + k))
 }

@@ -1,25 +1,29 @@
-// A call as words, run on a world: the sides, the code, and six arguments.
+// A recorded call, run on a world.
 use crate::digest::records_digest;
 use calls::input;
 use calls::join;
 use calls::leave;
 use calls::tune;
-use casts::cast_signed;
 use snap_obj::PlayerInput;
 use steps::step;
 use tiles::Sides;
-use vectors::nth;
 use world::Answer;
 use world::Stepped;
 use world::World;
-ghost use Prim.Native.Nat.{_<_};
+ghost use mathlib.Core.Path.{_≡_};
+ghost use Rattle.world_vectors.specs.Requests.{replyOf, replyOfStep, inputOf, replyTo};
 
-// Where they stand.
-const SIDES: usize = 0;
-
-const CODE: usize = 2;
-
-const ARGUMENTS: usize = 3;
+// The sides, the code, and six arguments.
+pub struct Request {
+    pub sides: Sides,
+    pub code: u32,
+    pub a: i32,
+    pub b: i32,
+    pub c: i32,
+    pub d: i32,
+    pub e: i32,
+    pub f: i32,
+}
 
 // What a call answers, with the digest of the records for them.
 pub struct Reply {
@@ -28,50 +32,37 @@ pub struct Reply {
     pub records: u32,
 }
 
-pub fn run_request(world: World, tiles: &[u8], words: &[u8]) -> Reply {
-    let sides = sides_of(words);
-    let first = argument(words, 0);
-    match nth(words, CODE) {
-        1 => reply_of(join(
-            world,
-            sides,
-            tiles,
-            first,
-            argument(words, 1),
-            argument(words, 2),
-        )),
-        2 => reply_of(leave(world, first)),
-        3 => reply_of(input(world, first, input_of(words))),
-        4 => reply_of_step(step(world, sides, tiles)),
-        _ => reply_of(tune(world, first, argument(words, 1))),
-    }
-}
-
-fn sides_of(words: &[u8]) -> Sides {
-    Sides {
-        width: nth(words, SIDES),
-        height: nth(words, SIDES + 1),
-    }
-}
-
-fn argument(words: &[u8], k: usize) -> i32
-    requires { ⌜ k < 6 ⌝ }
+pub fn reply_to(world: World, tiles: &[u8], request: Request) -> Reply
+    ensures { λ r. ⌜ r ≡ replyTo world (now (tiles .entry)) request ⌝ }
 {
-    cast_signed(nth(words, ARGUMENTS + k))
+    let sides = request.sides;
+    let id = request.a;
+    let code = request.code;
+    match code {
+        1 => reply_of(join(world, sides, tiles, id, request.b, request.c)),
+        2 => reply_of(leave(world, id)),
+        3 => reply_of(input(world, id, input_of(request))),
+        4 => reply_of_step(step(world, sides, tiles)),
+        _ => reply_of(tune(world, id, request.b)),
+    }
 }
 
 // The arguments after the id.
-fn input_of(words: &[u8]) -> PlayerInput {
+fn input_of(request: Request) -> PlayerInput
+    ensures { λ r. ⌜ r ≡ inputOf request ⌝ }
+{
     PlayerInput {
-        direction: argument(words, 1),
-        target_x: argument(words, 2),
-        target_y: argument(words, 3),
-        jump: argument(words, 4),
-        hook: argument(words, 5),
+        direction: request.b,
+        target_x: request.c,
+        target_y: request.d,
+        jump: request.e,
+        hook: request.f,
     }
 }
 
-fn reply_of(answer: Answer) -> Reply {
+fn reply_of(answer: Answer) -> Reply
+    ensures { λ r. ⌜ r ≡ replyOf answer ⌝ }
+{
     let world = answer.world;
     Reply {
         number: answer.number,
@@ -81,7 +72,9 @@ fn reply_of(answer: Answer) -> Reply {
 }
 
 // A refused step has no records.
-fn reply_of_step(stepped: Stepped) -> Reply {
+fn reply_of_step(stepped: Stepped) -> Reply
+    ensures { λ r. ⌜ r ≡ replyOfStep stepped ⌝ }
+{
     let number = stepped.number;
     let world = stepped.world;
     let records = stepped.records;

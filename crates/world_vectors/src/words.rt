@@ -2,12 +2,18 @@
 use casts::cast_unsigned;
 use snap_obj::CharacterCore;
 use snap_obj::PlayerInput;
+ghost use mathlib.Core.Path.{_≡_};
+ghost use Rattle.world_vectors.specs.Words.{flagWord, inputWords, coreWords};
 
-pub fn flag(set: bool) -> u32 {
+pub fn flag(set: bool) -> u32
+    ensures { λ r. ⌜ r ≡ flagWord set ⌝ }
+{
     if set { 1 } else { 0 }
 }
 
-pub fn input_words(input: PlayerInput) -> [u32; 5] {
+pub fn input_words(input: PlayerInput) -> [u32; 5]
+    ensures { λ r. ⌜ r ≡ inputWords input ⌝ }
+{
     [
         cast_unsigned(input.direction),
         cast_unsigned(input.target_x),
@@ -17,7 +23,9 @@ pub fn input_words(input: PlayerInput) -> [u32; 5] {
     ]
 }
 
-pub fn core_words(core: CharacterCore) -> [u32; 15] {
+pub fn core_words(core: CharacterCore) -> [u32; 15]
+    ensures { λ r. ⌜ r ≡ coreWords core ⌝ }
+{
     [
         cast_unsigned(core.tick),
         cast_unsigned(core.x),

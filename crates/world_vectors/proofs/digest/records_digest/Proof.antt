@@ -1,18 +1,23 @@
--- `world_vectors::digest::records_digest` is safe and ends. Assumes nothing.
-use Prim.Native.Nat.{_-_, _≤_}
+-- `world_vectors::digest::records_digest` meets its contract. Assumes nothing.
+use mathlib.Core.Path.{sym, ap}
+use Rattle.turns.proofs.Loop.{Left, always, fold-first, turn-on, fold-end}
+use Rattle.turns.specs.Turns.{fold, more}
+use Rattle.world_vectors.specs.Digest.{recordTurn, recordsDigest}
+use Rattle.character.specs.Tick.{seats}
+use Prim.Native.Nat.{_-_}
 use native.Mathlib.Omega.{arith}
 use borrow.Author.Needs.{needs}
 use Rattle.world_vectors.proofs.digest.records_digest.Statement.{statement}
 use Rattle.world_vectors.proofs.digest.records_digest.Tie as tie
 
 abbrev Inv-loop : tie.InvT-loop
-Inv-loop records sum₀ j₀ sum j = j ≤ 16
+Inv-loop records sum₀ j₀ sum j = Left (always (recordTurn records)) seats j sum (more (fold (recordTurn records) seats 0 sum₀))
 
 abbrev μ-loop : tie.MeasureT-loop
-μ-loop records sum₀ j₀ sum j = 16 - j
+μ-loop records sum₀ j₀ sum j = seats - j
 
 loop-holds : tie.Need-loop-holds Inv-loop μ-loop
-loop-holds c = omega arith
+loop-holds c = fold-first
 
 mul-with-record : tie.Need-mul-with-record Inv-loop μ-loop
 mul-with-record c = search needs
@@ -30,10 +35,11 @@ loop-less : tie.Need-loop-less Inv-loop μ-loop
 loop-less c = omega arith
 
 loop-again : tie.Need-loop-again Inv-loop μ-loop
-loop-again c = omega arith
+loop-again c = turn-on (c .before .before .before .loop .inv) (c .before .before .loop-test .taken) (ap more (sym (c .with-record .ensures)))
 
 returns : tie.Need-returns Inv-loop μ-loop
-returns c = tt
+unfolding recordsDigest
+returns c = sym (fold-end (c .before .loop .inv) (c .loop-test .left))
 
 pub records-digest-spec : {M : Type 1} → statement M
 records-digest-spec =

@@ -1,18 +1,22 @@
--- `world_vectors::digest::with_all` is safe and ends. Assumes nothing.
-use Prim.Native.Nat.{_-_, _≤_}
+-- `world_vectors::digest::with_all` meets its contract. Assumes nothing.
+use mathlib.Core.Path.{sym, ap}
+use Rattle.turns.proofs.Loop.{Left, always, fold-first, turn-on, fold-end}
+use Rattle.turns.specs.Turns.{fold, more}
+use Rattle.world_vectors.specs.Digest.{wordTurn, mixedAll}
+use Prim.Native.Nat.{_-_}
 use native.Mathlib.Omega.{arith}
 use borrow.Author.Needs.{needs}
 use Rattle.world_vectors.proofs.digest.with_all.Statement.{statement}
 use Rattle.world_vectors.proofs.digest.with_all.Tie as tie
 
 abbrev Inv-loop : tie.InvT-loop
-Inv-loop digest words sum₀ i₀ i-end sum i = i ≤ i-end
+Inv-loop digest words sum₀ i₀ i-end sum i = Left (always (wordTurn words)) i-end i sum (more (fold (wordTurn words) i-end 0 sum₀))
 
 abbrev μ-loop : tie.MeasureT-loop
 μ-loop digest words sum₀ i₀ i-end sum i = i-end - i
 
 loop-holds : tie.Need-loop-holds Inv-loop μ-loop
-loop-holds c = omega arith
+loop-holds c = fold-first
 
 mul-with : tie.Need-mul-with Inv-loop μ-loop
 mul-with c = search needs
@@ -30,10 +34,11 @@ loop-less : tie.Need-loop-less Inv-loop μ-loop
 loop-less c = omega arith
 
 loop-again : tie.Need-loop-again Inv-loop μ-loop
-loop-again c = omega arith
+loop-again c = turn-on (c .before .before .before .loop .inv) (c .before .before .loop-test .taken) (ap more (sym (c .with .ensures)))
 
 returns : tie.Need-returns Inv-loop μ-loop
-returns c = tt
+unfolding mixedAll
+returns c = sym (fold-end (c .before .loop .inv) (c .loop-test .left))
 
 pub with-all-spec : {M : Type 1} → statement M
 with-all-spec =
