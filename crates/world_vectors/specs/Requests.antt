@@ -26,11 +26,14 @@ replyOfStep s = record { number = s .number; world = s .world; records = cond (e
 abbrev pub inputOf : Request → PlayerInput
 inputOf q = record { direction = q .b; «target_x» = q .c; «target_y» = q .d; jump = q .e; hook = q .f }
 
--- 1 join, 2 leave, 3 input, 4 step, else tune
+-- the calls but step: 1 join, 2 leave, 3 input, else tune
+unfoldable pub answerTo : World → List ℕ → Request → Answer
+answerTo w ts q =
+    cond (eqb (q .code) 1) (join seats w (q .sides) ts (q .a) (q .b) (q .c))
+    (cond (eqb (q .code) 2) (leave seats w (q .a))
+    (cond (eqb (q .code) 3) (input seats w (q .a) (inputOf q))
+    (tune w (q .a) (q .b))))
+
+-- 4 step
 unfoldable pub replyTo : World → List ℕ → Request → Reply
-replyTo w ts q =
-    cond (eqb (q .code) 1) (replyOf (join seats w (q .sides) ts (q .a) (q .b) (q .c)))
-    (cond (eqb (q .code) 2) (replyOf (leave seats w (q .a)))
-    (cond (eqb (q .code) 3) (replyOf (input seats w (q .a) (inputOf q)))
-    (cond (eqb (q .code) 4) (replyOfStep (step seats w (q .sides) ts))
-    (replyOf (tune w (q .a) (q .b))))))
+replyTo w ts q = cond (eqb (q .code) 4) (replyOfStep (step seats w (q .sides) ts)) (replyOf (answerTo w ts q))

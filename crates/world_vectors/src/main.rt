@@ -8,6 +8,7 @@ use calls::fresh;
 use casts::cast_signed;
 use digest::world_digest;
 use libc::STDIN_FILENO;
+use requests::Reply;
 use requests::Request;
 use requests::reply_to;
 use tiles::Sides;
@@ -18,7 +19,8 @@ use vectors::byte;
 use vectors::nth;
 use vectors::tiles_of;
 use world::World;
-ghost use Prim.Native.Nat.{_<_};
+ghost use Prim.Native.Nat.{_≤_, _<_};
+ghost use lib.ListN.{length};
 
 // The length of a line; where the sides, the tiles and the words begin in it.
 const LINE: usize = 181;
@@ -50,12 +52,6 @@ pub struct Progress {
     pub world: World,
 }
 
-// Whether a line is answered as recorded, and the world that it left.
-pub struct Answered {
-    pub agrees: bool,
-    pub world: World,
-}
-
 fn main() {
     let counts = count_all();
     counts.print();
@@ -79,35 +75,19 @@ fn next_line(progress: Progress) -> Progress {
     if n < LINE {
         return progress;
     }
+    after_line(progress, &line[..n])
+}
+
+fn after_line(progress: Progress, line: &[u8]) -> Progress
+    requires { ⌜ 181 ≤ length (now line) ⌝ }
+{
     let before = progress.world;
     let counts = progress.counts;
-    let answered = answer_line(before, &line[..n]);
-    let world = answered.world;
-    let outcome = Outcome::of(answered.agrees, &line[..n]);
+    let reply = answer(world_before(line[0], before), line);
+    let world = reply.world;
+    let outcome = Outcome::of(agrees(reply, &line[WORDS..]), line);
     Progress {
         counts: counts.with(outcome),
-        world,
-    }
-}
-
-fn answer_line(world: World, line: &[u8]) -> Answered {
-    if line.len() < LINE {
-        return disagrees(world);
-    }
-    let width = byte(line[WIDTH], line[WIDTH + 1]);
-    let height = byte(line[HEIGHT], line[HEIGHT + 1]);
-    let tiles = tiles_of(&line[TILES..]);
-    answer_on(
-        world_before(line[0], world),
-        &tiles,
-        area(width, height),
-        &line[WORDS..],
-    )
-}
-
-fn disagrees(world: World) -> Answered {
-    Answered {
-        agrees: false,
         world,
     }
 }
@@ -117,19 +97,35 @@ fn world_before(mark: u8, world: World) -> World {
     if mark == b'n' { fresh() } else { world }
 }
 
-// The map's tiles are the first n of those that are lent.
-fn answer_on(world: World, tiles: &[u8], n: usize, words: &[u8]) -> Answered {
-    if tiles.len() < n {
-        return disagrees(world);
+fn answer(world: World, line: &[u8]) -> Reply
+    requires { ⌜ 181 ≤ length (now line) ⌝ }
+{
+    let tiles = tiles_of(&line[TILES..]);
+    let request = request_of(&line[WORDS..]);
+    reply_to(world, first(&tiles, tile_count(line)), request)
+}
+
+fn tile_count(line: &[u8]) -> usize
+    requires { ⌜ 181 ≤ length (now line) ⌝ }
+{
+    let width = byte(line[WIDTH], line[WIDTH + 1]);
+    let height = byte(line[HEIGHT], line[HEIGHT + 1]);
+    area(width, height)
+}
+
+// The first n of the tiles.
+fn first(tiles: &[u8], n: usize) -> &[u8] {
+    if n <= tiles.len() {
+        return &tiles[0..n];
     }
-    let reply = reply_to(world, &tiles[0..n], request_of(words));
-    let left = reply.world;
-    Answered {
-        agrees: reply.number == nth(words, ANSWER)
-            && reply.records == nth(words, RECORDS)
-            && world_digest(left) == nth(words, WORLD),
-        world: left,
-    }
+    tiles
+}
+
+fn agrees(reply: Reply, words: &[u8]) -> bool {
+    let world = reply.world;
+    reply.number == nth(words, ANSWER)
+        && reply.records == nth(words, RECORDS)
+        && world_digest(world) == nth(words, WORLD)
 }
 
 fn request_of(words: &[u8]) -> Request {

@@ -11,7 +11,7 @@ use world::Answer;
 use world::Stepped;
 use world::World;
 ghost use mathlib.Core.Path.{_≡_};
-ghost use Rattle.world_vectors.specs.Requests.{replyOf, replyOfStep, inputOf, replyTo};
+ghost use Rattle.world_vectors.specs.Requests.{replyOf, replyOfStep, inputOf, answerTo, replyTo};
 
 // The sides, the code, and six arguments.
 pub struct Request {
@@ -35,15 +35,28 @@ pub struct Reply {
 pub fn reply_to(world: World, tiles: &[u8], request: Request) -> Reply
     ensures { λ r. ⌜ r ≡ replyTo world (now (tiles .entry)) request ⌝ }
 {
-    let sides = request.sides;
-    let id = request.a;
     let code = request.code;
+    if code == 4 {
+        let sides = request.sides;
+        return reply_of_step(step(world, sides, tiles));
+    }
+    reply_of(answer_to(world, tiles, request))
+}
+
+// The calls but step.
+fn answer_to(world: World, tiles: &[u8], request: Request) -> Answer
+    ensures { λ r. ⌜ r ≡ answerTo world (now (tiles .entry)) request ⌝ }
+{
+    let code = request.code;
+    let id = request.a;
     match code {
-        1 => reply_of(join(world, sides, tiles, id, request.b, request.c)),
-        2 => reply_of(leave(world, id)),
-        3 => reply_of(input(world, id, input_of(request))),
-        4 => reply_of_step(step(world, sides, tiles)),
-        _ => reply_of(tune(world, id, request.b)),
+        1 => {
+            let sides = request.sides;
+            join(world, sides, tiles, id, request.b, request.c)
+        }
+        2 => leave(world, id),
+        3 => input(world, id, input_of(request)),
+        _ => tune(world, id, request.b),
     }
 }
 
