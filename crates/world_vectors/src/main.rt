@@ -46,9 +46,9 @@ const WORLD: usize = 10;
 
 const RECORDS: usize = 11;
 
-// The lines so far, and the world that the last one left.
-pub struct Progress {
-    pub counts: Counts,
+// What came of a line, and the world that it left.
+pub struct Next {
+    pub outcome: Outcome,
     pub world: World,
 }
 
@@ -59,36 +59,37 @@ fn main() {
 
 // A proved loop has to end, so this one reads at most 65,536 lines.
 fn count_all() -> Counts {
-    let mut progress = Progress {
-        counts: Counts::new(),
-        world: fresh(),
-    };
+    let mut counts = Counts::new();
+    let mut world = fresh();
     for _ in 0..65536usize {
-        progress = next_line(progress);
+        let next = next_line(world);
+        let outcome = next.outcome;
+        counts = counts.with(outcome);
+        world = next.world;
     }
-    progress.counts
+    counts
 }
 
-fn next_line(progress: Progress) -> Progress {
+fn next_line(world: World) -> Next {
     let mut line = [0u8; 181];
     let n = io::read_full(STDIN_FILENO, &mut line);
     if n < LINE {
-        return progress;
+        return Next {
+            outcome: Outcome::End,
+            world,
+        };
     }
-    after_line(progress, &line[..n])
+    after_line(world, &line[..n])
 }
 
-fn after_line(progress: Progress, line: &[u8]) -> Progress
+fn after_line(world: World, line: &[u8]) -> Next
     requires { ⌜ 181 ≤ length (now line) ⌝ }
 {
-    let before = progress.world;
-    let counts = progress.counts;
-    let reply = answer(world_before(line[0], before), line);
-    let world = reply.world;
-    let outcome = Outcome::of(agrees(reply, &line[WORDS..]), line);
-    Progress {
-        counts: counts.with(outcome),
-        world,
+    let reply = answer(world_before(line[0], world), line);
+    let left = reply.world;
+    Next {
+        outcome: Outcome::of(agrees(reply, &line[WORDS..]), line),
+        world: left,
     }
 }
 

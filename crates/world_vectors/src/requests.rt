@@ -8,9 +8,10 @@ use snap_obj::PlayerInput;
 use steps::step;
 use tiles::Sides;
 use world::Answer;
-use world::Stepped;
 use world::World;
 ghost use mathlib.Core.Path.{_≡_};
+ghost use Rattle.character.specs.Tick.{seats};
+ghost use Rattle.world.specs.Step.{step};
 ghost use Rattle.world_vectors.specs.Requests.{replyOf, replyOfStep, inputOf, answerTo, replyTo};
 
 // The sides, the code, and six arguments.
@@ -38,7 +39,7 @@ pub fn reply_to(world: World, tiles: &[u8], request: Request) -> Reply
     let code = request.code;
     if code == 4 {
         let sides = request.sides;
-        return reply_of_step(step(world, sides, tiles));
+        return reply_of_step(world, sides, tiles);
     }
     reply_of(answer_to(world, tiles, request))
 }
@@ -85,22 +86,23 @@ fn reply_of(answer: Answer) -> Reply
 }
 
 // A refused step has no records.
-fn reply_of_step(stepped: Stepped) -> Reply
-    ensures { λ r. ⌜ r ≡ replyOfStep stepped ⌝ }
+fn reply_of_step(world: World, sides: Sides, tiles: &[u8]) -> Reply
+    ensures { λ r. ⌜ r ≡ replyOfStep (step seats world sides (now (tiles .entry))) ⌝ }
 {
+    let stepped = step(world, sides, tiles);
     let number = stepped.number;
-    let world = stepped.world;
-    let records = stepped.records;
+    let next = stepped.world;
     if number == 0 {
+        let records = stepped.records;
         return Reply {
             number,
-            world,
+            world: next,
             records: records_digest(records),
         };
     }
     Reply {
         number,
-        world,
+        world: next,
         records: 0,
     }
 }

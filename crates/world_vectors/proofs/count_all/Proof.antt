@@ -1,15 +1,14 @@
 -- `world_vectors::count_all` is safe and ends. Assumes nothing.
 use Prim.Native.Nat.{_-_, _≤_}
 use native.Mathlib.Omega.{arith}
-use borrow.Author.Needs.{needs}
 use Rattle.world_vectors.proofs.count_all.Statement.{statement}
 use Rattle.world_vectors.proofs.count_all.Tie as tie
 
 abbrev Inv-loop : tie.InvT-loop
-Inv-loop progress₀ counter₀ progress counter = counter ≤ 65536
+Inv-loop counts₀ world₀ counter₀ counts world counter = counter ≤ 65536
 
 abbrev μ-loop : tie.MeasureT-loop
-μ-loop progress₀ counter₀ progress counter = 65536 - counter
+μ-loop counts₀ world₀ counter₀ counts world counter = 65536 - counter
 
 new-requires : tie.Need-new-requires Inv-loop μ-loop
 new-requires c κs = tt
@@ -22,6 +21,9 @@ loop-holds c = omega arith
 
 next-line-requires : tie.Need-next-line-requires Inv-loop μ-loop
 next-line-requires c κs = tt
+
+with-requires : tie.Need-with-requires Inv-loop μ-loop
+with-requires c κs = tt
 
 add-counter : tie.Need-add-counter Inv-loop μ-loop
 add-counter c = omega arith
@@ -45,6 +47,7 @@ count-all-spec =
     fresh-requires
     loop-holds
     next-line-requires
+    with-requires
     add-counter
     loop-less
     loop-again

@@ -5,15 +5,12 @@ use Rattle.world_vectors.specs.Requests.{replyTo}
 use Rattle.world_vectors.proofs.requests.reply_to.Statement.{statement}
 use Rattle.world_vectors.proofs.requests.reply_to.Tie as tie
 
-step-requires : tie.Need-step-requires
-step-requires c κs = search needs
-
 reply-of-step-requires : tie.Need-reply-of-step-requires
 reply-of-step-requires c κs = search needs
 
 returns : tie.Need-returns
 unfolding replyTo
-returns c = simp (eq-eqb _ _ (c .before .before .before .if1 .taken), ← c .before .step .ensures, ← c .reply-of-step .ensures)
+returns c = simp (eq-eqb _ _ (c .before .before .if1 .taken), ← c .reply-of-step .ensures)
 
 answer-to-requires : tie.Need-answer-to-requires
 answer-to-requires c κs = search needs
@@ -29,7 +26,6 @@ pub reply-to-spec : {M : Type 1} → statement M
 reply-to-spec =
     tie.close
     (tie.spec
-    step-requires
     reply-of-step-requires
     returns
     answer-to-requires
