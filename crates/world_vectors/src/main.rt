@@ -88,7 +88,7 @@ fn after_line(world: World, line: &[u8]) -> Next
     let reply = answer(world_before(line[0], world), line);
     let left = reply.world;
     Next {
-        outcome: Outcome::of(agrees(reply, &line[WORDS..]), line),
+        outcome: outcome_of(reply, line),
         world: left,
     }
 }
@@ -122,16 +122,23 @@ fn first(tiles: &[u8], n: usize) -> &[u8] {
     tiles
 }
 
-fn agrees(reply: Reply, words: &[u8]) -> bool {
+fn outcome_of(reply: Reply, line: &[u8]) -> Outcome
+    requires { ⌜ 181 ≤ length (now line) ⌝ }
+{
+    let words = &line[WORDS..];
     let world = reply.world;
-    reply.number == nth(words, ANSWER)
+    let agrees = reply.number == nth(words, ANSWER)
         && reply.records == nth(words, RECORDS)
-        && world_digest(world) == nth(words, WORLD)
+        && world_digest(world) == nth(words, WORLD);
+    Outcome::of(agrees, line)
 }
 
 fn request_of(words: &[u8]) -> Request {
     Request {
-        sides: sides_of(words),
+        sides: Sides {
+            width: nth(words, SIDES),
+            height: nth(words, SIDES + 1),
+        },
         code: nth(words, CODE),
         a: argument(words, 0),
         b: argument(words, 1),
@@ -139,13 +146,6 @@ fn request_of(words: &[u8]) -> Request {
         d: argument(words, 3),
         e: argument(words, 4),
         f: argument(words, 5),
-    }
-}
-
-fn sides_of(words: &[u8]) -> Sides {
-    Sides {
-        width: nth(words, SIDES),
-        height: nth(words, SIDES + 1),
     }
 }
 
