@@ -1,5 +1,5 @@
 -- `vectors::pattern_of` meets its contract. Assumes nothing.
-use mathlib.Core.Path.{_≡_, sym, subst, _∙_}
+use mathlib.Core.Path.{sym, subst, _∙_}
 use lib.Dec.{T, ltb→lt}
 use lib.Ieee.{binary32, fits}
 use lib.Ieee.Bits.{ofBits-toBits}

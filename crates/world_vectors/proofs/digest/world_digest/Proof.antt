@@ -1,6 +1,5 @@
 -- `world_vectors::digest::world_digest` meets its contract. Assumes nothing.
-use mathlib.Core.Path.{ap, _∙_}
-use Rattle.world_vectors.specs.Digest.{mixedSlots, worldDigest}
+use Rattle.world_vectors.specs.Digest.{worldDigest}
 use borrow.Author.Needs.{needs}
 use Rattle.world_vectors.proofs.digest.world_digest.Statement.{statement}
 use Rattle.world_vectors.proofs.digest.world_digest.Tie as tie
