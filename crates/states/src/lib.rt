@@ -9,7 +9,10 @@ use vectors::float_of;
 use vectors::is_float;
 use vectors::is_point;
 use vectors::nth;
+use vectors::pattern_of;
 use vectors::point;
+ghost use mathlib.Core.Path.{_≡_};
+ghost use Rattle.states.specs.Words.{jumpsOf, directionNumber, posWords, hookWords, wordsOf};
 
 pub fn character_of(words: &[u8]) -> Character {
     let jumps = nth(words, 9);
@@ -24,6 +27,60 @@ pub fn character_of(words: &[u8]) -> Character {
     }
 }
 
+// The words that `character_of` reads.
+pub fn words_of(character: Character) -> [u32; 12]
+    ensures { λ r. ⌜ r ≡ wordsOf character ⌝ }
+{
+    let pos = character.pos;
+    let vel = character.vel;
+    let hook = character.hook;
+    let angle = character.angle;
+    let direction = character.move_direction;
+    let hooked = hook_words(hook);
+    [
+        pattern_of(pos.x),
+        pattern_of(pos.y),
+        pattern_of(vel.x),
+        pattern_of(vel.y),
+        hooked[0],
+        hooked[1],
+        hooked[2],
+        hooked[3],
+        hooked[4],
+        jumps(character.jumped_already, character.used_airjump),
+        pattern_of(angle.to_radians()),
+        direction_number(direction),
+    ]
+}
+
+// The hook's case, and what it holds.
+fn hook_words(hook: Hook) -> [u32; 5]
+    ensures { λ r. ⌜ r ≡ hookWords hook ⌝ }
+{
+    match hook {
+        Hook::Retracted => [0; 5],
+        Hook::Idle => [1, 0, 0, 0, 0],
+        Hook::Flying(pos, dir) => [
+            2,
+            pattern_of(pos.x),
+            pattern_of(pos.y),
+            pattern_of(dir.x),
+            pattern_of(dir.y),
+        ],
+        Hook::Grabbed(id, tick) => [3, id.0, tick, 0, 0],
+        Hook::Attached(pos) => pos_words(4, pos),
+        Hook::Retracting0(pos) => pos_words(5, pos),
+        Hook::Retracting1(pos) => pos_words(6, pos),
+        Hook::Retracting2(pos) => pos_words(7, pos),
+    }
+}
+
+fn pos_words(case: u32, pos: vec2) -> [u32; 5]
+    ensures { λ r. ⌜ r ≡ posWords case pos ⌝ }
+{
+    [case, pattern_of(pos.x), pattern_of(pos.y), 0, 0]
+}
+
 pub fn is_character(character: Character, words: &[u8]) -> bool {
     let hook = character.hook;
     let angle = character.angle;
@@ -36,7 +93,9 @@ pub fn is_character(character: Character, words: &[u8]) -> bool {
         && direction_number(direction) == nth(words, 11)
 }
 
-fn jumps(jumped_already: bool, used_airjump: bool) -> u32 {
+fn jumps(jumped_already: bool, used_airjump: bool) -> u32
+    ensures { λ r. ⌜ r ≡ jumpsOf «jumped_already» «used_airjump» ⌝ }
+{
     if used_airjump {
         if jumped_already { 3 } else { 2 }
     } else {
@@ -86,7 +145,9 @@ fn direction_of(number: u32) -> MoveDirection {
     }
 }
 
-fn direction_number(direction: MoveDirection) -> u32 {
+fn direction_number(direction: MoveDirection) -> u32
+    ensures { λ r. ⌜ r ≡ directionNumber direction ⌝ }
+{
     match direction {
         MoveDirection::Left => 0,
         MoveDirection::None => 1,

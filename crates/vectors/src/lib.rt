@@ -15,6 +15,7 @@ ghost use mathlib.Core.Bool.{true};
 ghost use lib.Ieee.{binary32, ofBits};
 ghost use Rattle.casts.specs.Casts.{castSigned};
 ghost use Rattle.vector.specs.Vec2.{vnew};
+ghost use Rattle.vectors.specs.Patterns.{patternOf};
 
 // The first 8 digits as a number.
 pub fn word(text: &[u8]) -> u32 {
@@ -66,6 +67,13 @@ pub fn float_of(pattern: u32) -> f32
     } else {
         0.0 / 0.0
     }
+}
+
+// Every not-a-number has the same pattern.
+pub fn pattern_of(x: f32) -> u32
+    ensures { λ r. ⌜ (r ≡ patternOf x) × (ofBits binary32 r ≡ x) ⌝ }
+{
+    if x != x { 0x7fc0_0000 } else { f32::to_bits(x) }
 }
 
 pub fn is_float(x: f32, pattern: u32) -> bool

@@ -1,0 +1,47 @@
+-- `world_vectors::digest::with_slot` meets its contract. Assumes nothing.
+use Rattle.world_vectors.specs.Digest.{mixedSlot}
+use borrow.Author.Needs.{needs}
+use Rattle.world_vectors.proofs.digest.with_slot.Statement.{statement}
+use Rattle.world_vectors.proofs.digest.with_slot.Tie as tie
+
+flag-requires : tie.Need-flag-requires
+flag-requires c κs = search needs
+
+with-requires : tie.Need-with-requires
+with-requires c κs = search needs
+
+words-of-requires : tie.Need-words-of-requires
+words-of-requires c κs = search needs
+
+input-words-requires : tie.Need-input-words-requires
+input-words-requires c κs = search needs
+
+slice-aggregate-with-all : tie.Need-slice-aggregate-with-all
+slice-aggregate-with-all c = search needs
+
+with-all-requires : tie.Need-with-all-requires
+with-all-requires c κs = search needs
+
+slice-aggregate-with-all-2 : tie.Need-slice-aggregate-with-all-2
+slice-aggregate-with-all-2 c = search needs
+
+with-all-requires-2 : tie.Need-with-all-requires-2
+with-all-requires-2 c κs = search needs
+
+returns : tie.Need-returns
+unfolding mixedSlot
+returns c = simp (← c .before .before .before .before .before .before .before .before .flag .ensures, ← c .before .before .before .before .before .before .before .with .ensures, ← c .before .before .before .before .before .words-of .ensures, ← c .before .before .before .before .input-words .ensures, ← c .before .before .with-all .ensures, ← c .with-all2 .ensures)
+
+pub with-slot-spec : {M : Type 1} → statement M
+with-slot-spec =
+    tie.close
+    (tie.spec
+    flag-requires
+    with-requires
+    words-of-requires
+    input-words-requires
+    slice-aggregate-with-all
+    with-all-requires
+    slice-aggregate-with-all-2
+    with-all-requires-2
+    returns)

@@ -1,0 +1,94 @@
+// A world and what a step publishes, each as one word.
+use crate::words::core_words;
+use crate::words::flag;
+use crate::words::input_words;
+use casts::cast_unsigned;
+use character::SEATS;
+use character::Slot;
+use states::words_of;
+use tuning::TUNINGS;
+use world::Published;
+use world::World;
+ghost use mathlib.Core.Path.{_≡_};
+ghost use Rattle.world_vectors.specs.Digest.{mixed, mixedAll, mixedTunings, mixedSlot, mixedSlots, worldDigest, mixedRecord, recordsDigest};
+
+const FACTOR: u64 = 16777619;
+
+// The largest prime below 2^32.
+const MODULUS: u64 = 4294967291;
+
+fn with(digest: u32, word: u32) -> u32
+    ensures { λ r. ⌜ r ≡ mixed digest word ⌝ }
+{
+    ((digest as u64 * FACTOR + word as u64) % MODULUS) as u32
+}
+
+fn with_all(digest: u32, words: &[u32]) -> u32
+    ensures { λ r. ⌜ r ≡ mixedAll digest (now (words .entry)) ⌝ }
+{
+    let mut sum = digest;
+    for i in 0..words.len() {
+        sum = with(sum, words[i]);
+    }
+    sum
+}
+
+// The tunings, then the slots by rising id.
+pub fn world_digest(world: World) -> u32
+    ensures { λ r. ⌜ r ≡ worldDigest world ⌝ }
+{
+    let tunings = world.tunings;
+    let slots = world.slots;
+    with_slots(with_tunings(0, tunings), slots)
+}
+
+fn with_tunings(digest: u32, tunings: [i32; TUNINGS]) -> u32
+    ensures { λ r. ⌜ r ≡ mixedTunings digest tunings ⌝ }
+{
+    let mut sum = digest;
+    for i in 0..TUNINGS {
+        sum = with(sum, cast_unsigned(tunings[i]));
+    }
+    sum
+}
+
+fn with_slots(digest: u32, slots: [Slot; SEATS]) -> u32
+    ensures { λ r. ⌜ r ≡ mixedSlots digest slots ⌝ }
+{
+    let mut sum = digest;
+    for j in 0..SEATS {
+        sum = with_slot(sum, slots[j]);
+    }
+    sum
+}
+
+// Whether somebody is there, the character, the input.
+fn with_slot(digest: u32, slot: Slot) -> u32
+    ensures { λ r. ⌜ r ≡ mixedSlot digest slot ⌝ }
+{
+    let marked = with(digest, flag(slot.present));
+    let character = slot.character;
+    let state = words_of(character);
+    let input = input_words(slot.input);
+    with_all(with_all(marked, &state), &input)
+}
+
+// Those of the seats by rising id.
+pub fn records_digest(records: [Published; SEATS]) -> u32
+    ensures { λ r. ⌜ r ≡ recordsDigest records ⌝ }
+{
+    let mut sum = 0;
+    for j in 0..SEATS {
+        sum = with_record(sum, records[j]);
+    }
+    sum
+}
+
+// A seat with no record has a record of zeros.
+fn with_record(digest: u32, published: Published) -> u32
+    ensures { λ r. ⌜ r ≡ mixedRecord digest published ⌝ }
+{
+    let marked = with(digest, flag(published.present));
+    let words = core_words(published.core);
+    with_all(marked, &words)
+}
