@@ -1,3 +1,4 @@
+-- `sessions::lines::goes_on` meets its contract. Assumes nothing.
 use Prim.Native.Nat.{_-_}
 use mathlib.Core.Bool.{true≢false}
 use mathlib.Core.Path.{sym}
@@ -5,8 +6,6 @@ use native.Mathlib.Omega.{arith}
 use borrow.Author.Tests.{leb-true}
 use Rattle.sessions.proofs.lines.goes_on.Statement.{statement}
 use Rattle.sessions.proofs.lines.goes_on.Tie as tie
-use Rattle.sessions.proofs.lines.goes_on.Reads as reads
-use Rattle.sessions.proofs.lines.goes_on.Lts as lts
 
 returns : tie.Need-returns
 returns c = λ e. absurd (true≢false (sym e))

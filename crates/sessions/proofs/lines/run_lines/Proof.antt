@@ -1,3 +1,4 @@
+-- `sessions::lines::run_lines` meets its contract. Assumes nothing.
 use mathlib.Core.Path.{_≡_, refl, _∙_}
 use Prim.Native.Nat.{_-_}
 use native.Mathlib.Omega.{arith}
@@ -8,10 +9,6 @@ use Rattle.character.specs.Tick.{seats}
 use Rattle.sessions.specs.Session.{LinesRan, none, then}
 use Rattle.sessions.proofs.lines.run_lines.Statement.{statement}
 use Rattle.sessions.proofs.lines.run_lines.Tie as tie
-use Rattle.sessions.proofs.lines.run_lines.Reads as reads
-use Rattle.sessions.proofs.lines.run_lines.Lts as lts
-use Rattle.sessions.proofs.line.run_line.Reads as run-line-reads
-use Rattle.sessions.proofs.lines.goes_on.Reads as goes-on-reads
 
 abbrev Inv-loop : tie.InvT-loop
 Inv-loop text sides tiles buf₀ now₀ used₀ counter₀ buf now used counter = LinesRan seats text sides tiles now₀ buf₀ 0 now buf used × (length buf ≡ length buf₀)
@@ -35,7 +32,7 @@ loop-less : tie.Need-loop-less Inv-loop μ-loop
 loop-less c = omega arith
 
 loop-again : tie.Need-loop-again Inv-loop μ-loop
-loop-again c = (then _ _ _ _ _ (c .before .before .before .before .before .before .before .before .loop .inv .0) (c .before .before .before .run-line .ensures), c .before .before .before .run-line .kept .0 ∙ c .before .before .before .before .before .before .before .before .loop .inv .1)
+loop-again c = (then _ _ _ _ _ (c .before .before .before .before .before .before .before .before .loop .inv .0) (c .before .before .before .run-line .ensures), c .before .before .before .run-line .kept .1 .1 .1 .1 .0 ∙ c .before .before .before .before .before .before .before .before .loop .inv .1)
 
 same-length : tie.Need-same-length Inv-loop μ-loop
 same-length c = c .before .loop .inv .1
