@@ -2,4 +2,5 @@ pub mod Standing
 pub mod Moves
 pub mod Reached
 pub mod Outcomes
+pub mod Demand1
 pub mod Demand3

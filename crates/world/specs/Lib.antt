@@ -1,4 +1,5 @@
 pub mod World
 pub mod Calls
 pub mod Step
+pub mod Demand1
 pub mod Demand3
