@@ -1,0 +1,203 @@
+-- With which numbers a step answers: 0, 1 or 9, and never 10. Assumes nothing.
+use Prim.Native.Nat.{ℕ, zero, suc, _+_, _≤_, _<_}
+use native.Mathlib.Omega.{arith}
+use native.Mathlib.Nat.{eq-or-lt-of-le}
+use mathlib.Core.Bool.{Bool, true, false, cond, true≢false}
+use mathlib.Core.List.{List, [], _∷_}
+use mathlib.Core.Logic.{_⊎_, inl, inr, ⊎-elim}
+use mathlib.Core.Path.{_≡_, refl, sym, ap, _∙_, subst}
+use lib.Dec.{ltb}
+use lib.Ieee.{ne}
+use lib.ListN.{length, length-set}
+use borrow.Author.Tests.{eq-eqb, ne-eqb, ltb-false}
+use Rattle.turns.specs.Turns.{Turn, more, stop, next, run}
+use Rattle.turns.proofs.Kept.{Ends, run-kept}
+use Rattle.hook.specs.Hook.{tickOf}
+use Rattle.hook.specs.declared.Hook.{Hook}
+use Rattle.hook.specs.declared.Hook.the-variants.{Retracted, Idle, Flying, Grabbed, Attached, Retracting0, Retracting1, Retracting2}
+use Rattle.hooking.specs.Hooking.{hold}
+use Rattle.controls.specs.Controls.{grounded}
+use Rattle.snap_obj.specs.declared.PlayerInput.{PlayerInput}
+use Rattle.tiles.specs.declared.Sides.{Sides}
+use Rattle.tiles.specs.Map.{isMap}
+use Rattle.tuning.specs.Tuning.{tuningOf}
+use Rattle.tuning.specs.declared.Tuning.{Tuning}
+use Rattle.records.specs.Records.{coreOf, toNet, fromNet}
+use Rattle.records.proofs.Back.{to-core}
+use Rattle.character.specs.declared.Character.{Character}
+use Rattle.character.specs.declared.Slot.{Slot}
+use Rattle.character.specs.declared.tick.HookFlight.{HookFlight}
+use Rattle.character.specs.declared.tick.HookFlight.the-variants.{TooFar, To}
+use Rattle.character.specs.declared.tick.Ticked.{Ticked}
+use Rattle.character.specs.Tick.{slotAt, nowhere, withCharacter, steer, flight, ticked, tickAt}
+use Rattle.physics.proofs.Slots.{set-others}
+use Rattle.physics.proofs.Others.{tick-others, tick-length}
+use Rattle.number.specs.Number.{c0}
+use Rattle.moves.specs.declared.BoxMove.{BoxMove}
+use Rattle.moves.specs.declared.BoxMove.the-variants as box
+use Rattle.walking.specs.Walking.{rampedMove}
+use Rattle.character.specs.declared.walk.Moved.{Moved}
+use Rattle.character.specs.declared.walk.Moved.the-variants as moved
+use Rattle.character.specs.declared.walk.PlayerWalk.{PlayerWalk}
+use Rattle.character.specs.declared.walk.PlayerWalk.the-variants as among
+use Rattle.character.specs.Walk.{movedTo, playerWalk, rested, afterBox, moveAt}
+use Rattle.world.specs.Step.{Moving, afterTick, tickTurn, tickAll, ofNet, recordOf, publish, moveIn, moveTurn, movingFrom, moveAll, stepRefused, stepAnswer, stepOn, step}
+use Rattle.world.specs.declared.World.{World}
+
+-- a tick leaves no hook that has held for more than 60 ticks
+hold-short : (h : Hook) → tickOf (hold h) ≤ 60
+unfolding hold tickOf
+hold-short Retracted = omega arith
+hold-short Idle = omega arith
+hold-short (Flying p d) = omega arith
+hold-short (Grabbed c t) = go (ltb 60 (t + 1)) refl
+  where
+    go : (b : Bool) → ltb 60 (t + 1) ≡ b → tickOf (cond b Retracted (Grabbed c (t + 1))) ≤ 60
+    go true e = omega arith
+    go false e = ltb-false 60 (t + 1) e
+hold-short (Attached p) = omega arith
+hold-short (Retracting0 p) = omega arith
+hold-short (Retracting1 p) = omega arith
+hold-short (Retracting2 p) = omega arith
+
+-- somebody is there only within the list
+present-within : (ss : List Slot) (j : ℕ) → slotAt ss j .present ≡ true → j < length ss
+present-within [] j e = absurd (true≢false (sym e))
+present-within (x ∷ ss) zero e = omega arith
+present-within (x ∷ ss) (suc j) e = let h : j < length ss = present-within ss j e in omega arith
+
+-- ---- ticks
+abbrev Short : Slot → Type 0
+Short x = x .present ≡ true → tickOf (x .character .hook) ≤ 60
+
+-- a tick goes on with such a hook, or is refused with 9
+ticked-short : (n : ℕ) (before c : Character) (id : ℕ) (ss : List Slot) (t : Tuning) (f : HookFlight) → ((ticked n before c id ss t f .number ≡ 0) × (tickOf (ticked n before c id ss t f .me .hook) ≤ 60)) ⊎ (ticked n before c id ss t f .number ≡ 9)
+ticked-short n before c id ss t TooFar = inr refl
+ticked-short n before c id ss t (To h) = inl (refl, hold-short h)
+
+tick-short : (n : ℕ) (c : Character) (id : ℕ) (ss : List Slot) (s : Sides) (ts : List ℕ) (i : PlayerInput) (t : Tuning) → ((tickAt n c id ss s ts i t .number ≡ 0) × (tickOf (tickAt n c id ss s ts i t .me .hook) ≤ 60)) ⊎ (tickAt n c id ss s ts i t .number ≡ 9)
+unfolding tickAt
+tick-short n c id ss s ts i t = let d = steer c (grounded s ts (c .pos)) i t in ticked-short n c d id ss t (flight n (d .hook) (c .pos) id ss s ts t)
+
+module _ (n : ℕ) (s : Sides) (ts : List ℕ) (t : Tuning) where
+  -- after i ticks, of n slots those that have ticked
+  abbrev Ticks : ℕ → List Slot → Type 0
+  Ticks i us = (length us ≤ n) × ((k : ℕ) → k < i → Short (slotAt us k))
+
+  below : (k i : ℕ) → (k ≡ i → ⊥) → k < suc i → k < i
+  below k i d l = ⊎-elim (λ e. absurd (d e)) (λ h. h) (eq-or-lt-of-le (omega arith))
+
+  tick-turn : (i : ℕ) (us : List Slot) → Ticks i us → Ends (Ticks (suc i)) (λ r. r ≡ 9) (tickTurn n s ts t i us)
+  tick-turn i us h = go (slotAt us i .present) refl
+    where
+      c : Character
+      c = slotAt us i .character
+
+      k : Ticked
+      k = tickAt n c i us s ts (slotAt us i .input) t
+
+      others : (j : ℕ) → j < i → Short (slotAt (k .slots) j)
+      others j l = subst Short (sym (tick-others us n c i s ts (slotAt us i .input) t j)) (h .1 j l)
+
+      ticks : slotAt us i .present ≡ true → (k .number ≡ 0) × (tickOf (k .me .hook) ≤ 60) → Ends (Ticks (suc i)) (λ r. r ≡ 9) (afterTick i k)
+      ticks p z =
+          let a = present-within us i p in
+          let b = tick-length us n c i s ts (slotAt us i .input) t in
+          let e = length-set (k .slots) i (withCharacter (slotAt (k .slots) i) (k .me)) in
+          rw (eq-eqb (k .number) 0 (z .0)) (omega (arith, h .0), set-others (λ j x. j < suc i → Short x) (k .slots) i (withCharacter (slotAt (k .slots) i) (k .me)) nowhere (omega arith) (λ j d l. others j (below j i d l)) (λ l q. z .1))
+
+      refuses : k .number ≡ 9 → Ends (Ticks (suc i)) (λ r. r ≡ 9) (afterTick i k)
+      refuses z = rw (ne-eqb (k .number) 0 (λ e. omega arith)) z
+
+      go : (b : Bool) → slotAt us i .present ≡ b → Ends (Ticks (suc i)) (λ r. r ≡ 9) (cond b (afterTick i k) (more us))
+      go true p = ⊎-elim (ticks p) refuses (tick-short n c i us s ts (slotAt us i .input) t)
+      go false p = (h .0, λ j l. ⊎-elim (λ e. λ q. absurd (true≢false (sym q ∙ ap (λ (m : ℕ). slotAt us m .present) e ∙ p))) (h .1 j) (eq-or-lt-of-le (omega arith)))
+
+  ticks-short : (us : List Slot) → length us ≤ n → Ends (Ticks n) (λ r. r ≡ 9) (tickAll n us s ts t)
+  unfolding tickAll
+  ticks-short us full = ends (run-kept (tickTurn n s ts t) Ticks (λ r. r ≡ 9) tick-turn n 0 us (full, λ k l. absurd (omega arith)))
+    where
+      ends : Ends (Ticks (n + 0)) (λ r. r ≡ 9) (run (tickTurn n s ts t) n 0 us) → Ends (Ticks n) (λ r. r ≡ 9) (run (tickTurn n s ts t) n 0 us)
+      ends = subst (λ (j : ℕ). Ends (Ticks j) (λ r. r ≡ 9) (run (tickTurn n s ts t) n 0 us)) (omega arith)
+
+-- ---- moves
+-- a move goes on with the same hook, or is too far
+data Left (c : Character) : Moved → Type 0 where
+  far : Left c moved.TooFar
+  to : (d : Character) → d .hook ≡ c .hook → Left c (moved.To d)
+
+box-left : (n : ℕ) (c : Character) (id : ℕ) (ss : List Slot) (t : Tuning) (b : BoxMove) → Left c (afterBox n c id ss t b)
+box-left n c id ss t box.BadMap = far
+box-left n c id ss t box.TooFar = far
+box-left n c id ss t (box.To b) = go (ne (t .«player_collision») c0) (playerWalk n ss id (c .pos) (b .pos))
+  where
+    walked : (w : PlayerWalk) → Left c (rested c (b .vel) w)
+    walked among.TooFar = far
+    walked (among.At p) = to (movedTo c p (b .vel)) refl
+
+    go : (o : Bool) (w : PlayerWalk) → Left c (cond o (rested c (b .vel) w) (moved.To (movedTo c (b .pos) (b .vel))))
+    go true w = walked w
+    go false w = to (movedTo c (b .pos) (b .vel)) refl
+
+move-left : (n : ℕ) (c : Character) (id : ℕ) (ss : List Slot) (s : Sides) (ts : List ℕ) (t : Tuning) → Left c (moveAt n c id ss s ts t)
+unfolding moveAt
+move-left n c id ss s ts t = box-left n c id ss t (rampedMove s ts (c .pos) (c .vel) t)
+
+module _ (n : ℕ) (s : Sides) (ts : List ℕ) (t : Tuning) where
+  -- after i moves, those that are still to move
+  abbrev Waits : ℕ → Moving → Type 0
+  Waits i m = (k : ℕ) → i ≤ k → Short (slotAt (m .slots) k)
+
+  move-turn : (i : ℕ) (m : Moving) → Waits i m → Ends (Waits (suc i)) (λ r. r ≡ 9) (moveTurn n s ts t i m)
+  unfolding recordOf
+  move-turn i m h = go (slotAt (m .slots) i .present) refl
+    where
+      c : Character
+      c = slotAt (m .slots) i .character
+
+      -- the record of a character whose hook is c's is published
+      records : slotAt (m .slots) i .present ≡ true → (d : Character) → d .hook ≡ c .hook → Ends (Waits (suc i)) (λ r. r ≡ 9) (publish m i (ofNet (toNet d)))
+      records p d e =
+          let f : tickOf (d .hook) ≤ 60 = subst (λ (x : Hook). tickOf x ≤ 60) (sym e) (h i (omega arith) p) in
+          rw (to-core d (omega arith)) (set-others (λ k x. suc i ≤ k → Short x) (m .slots) i (withCharacter (slotAt (m .slots) i) (fromNet (coreOf d))) nowhere (present-within (m .slots) i p) (λ k q l. h k (omega arith)) (λ l. absurd (omega arith)))
+
+      moves : slotAt (m .slots) i .present ≡ true → {o : Moved} → Left c o → Ends (Waits (suc i)) (λ r. r ≡ 9) (publish m i (recordOf o))
+      moves p far = refl
+      moves p (to d e) = records p d e
+
+      go : (b : Bool) → slotAt (m .slots) i .present ≡ b → Ends (Waits (suc i)) (λ r. r ≡ 9) (cond b (publish m i (recordOf (moveIn n s ts t (m .slots) i))) (more m))
+      go true p = moves p (move-left n c i (m .slots) s ts t)
+      go false p = λ k l. h k (omega arith)
+
+  moves-short : (us : List Slot) → ((k : ℕ) → Short (slotAt us k)) → Ends (Waits (n + 0)) (λ r. r ≡ 9) (moveAll n us s ts t)
+  unfolding moveAll
+  moves-short us h = run-kept (moveTurn n s ts t) Waits (λ r. r ≡ 9) move-turn n 0 (movingFrom n us) (λ k l. h k)
+
+-- ---- a step
+-- 0, or refused with 9; with 1 where the map is none
+pub record Numbers (k : ℕ) : Type 0 where
+  pub is : (k ≡ 0) ⊎ ((k ≡ 1) ⊎ (k ≡ 9))
+
+answer-number : (n : ℕ) (w : World) (P : Moving → Type 0) (a : Turn Moving ℕ) → Ends P (λ r. r ≡ 9) a → Numbers (stepAnswer n w a .number)
+answer-number n w P (more m) h = record { is = inl refl }
+answer-number n w P (stop k) h = record { is = inr (inr h) }
+
+module _ (n : ℕ) (w : World) (s : Sides) (ts : List ℕ) (full : length (w .slots) ≤ n) where
+  abbrev t : Tuning
+  t = tuningOf (w .tunings)
+
+  -- all have ticked: those past the last seat are nobody
+  every : (us : List Slot) → Ticks n s ts t n us → (k : ℕ) → Short (slotAt us k)
+  every us h k p = h .1 k (let l = present-within us k p in omega (arith, h .0)) p
+
+  ticked-number : (a : Turn (List Slot) ℕ) → Ends (Ticks n s ts t n) (λ r. r ≡ 9) a → Numbers (stepAnswer n w (next (λ us. moveAll n us s ts t) a) .number)
+  ticked-number (more us) h = answer-number n w (Waits n s ts t (n + 0)) (moveAll n us s ts t) (moves-short n s ts t us (every us h))
+  ticked-number (stop k) h = record { is = inr (inr h) }
+
+  pub step-number : Numbers (step n w s ts .number)
+  unfolding step stepOn
+  step-number = go (isMap s ts)
+    where
+      go : (b : Bool) → Numbers (cond b (stepOn n w s ts) (stepRefused n w 1) .number)
+      go true = ticked-number (tickAll n (w .slots) s ts t) (ticks-short n s ts t (w .slots) full)
+      go false = record { is = inr (inl refl) }
