@@ -9,16 +9,14 @@ use Rattle.vector.specs.declared.vec2.{vec2}
 use Rattle.direction.specs.Direction.{asFloat}
 use Rattle.direction.specs.declared.MoveDirection.{MoveDirection}
 use Rattle.direction.specs.declared.MoveDirection.the-variants.{Left, None, Right}
+use Rattle.corners.specs.Tile.{c14}
 use Rattle.tiles.specs.Map.{checkPoint, solid}
 use Rattle.tiles.specs.declared.Sides.{Sides}
 use Rattle.tuning.specs.declared.Tuning.{Tuning}
 use Rattle.controls.specs.declared.Control.{Control}
 use Rattle.controls.specs.declared.JumpState.{JumpState}
 
--- half of CHARACTER_SIZE, and 5 below it
-abbrev pub c14 : Float
-c14 = ofBits binary32 0x4160_0000
-
+-- 5 below half of CHARACTER_SIZE
 abbrev pub c19 : Float
 c19 = ofBits binary32 0x4198_0000
 

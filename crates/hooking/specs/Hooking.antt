@@ -3,7 +3,7 @@ use Prim.Native.Nat.{ℕ, _+_}
 use mathlib.Core.Bool.{Bool, cond}
 use lib.Dec.{ltb}
 use lib.Ieee.{Float, binary32, mul, lt, ofBits}
-use Rattle.number.specs.Number.{c0}
+use Rattle.number.specs.Number.{c0, c28, c1·5, c0·75}
 use Rattle.vector.specs.Vec2.{vnew, vadd, vsub, vmul, vlength, vnormalize, vdistance, closestPointOnLine}
 use Rattle.vector.specs.declared.vec2.{vec2}
 use Rattle.direction.specs.Direction.{asFloat}
@@ -22,30 +22,20 @@ use Rattle.hooking.specs.declared.Nearest.{Nearest}
 use Rattle.hooking.specs.declared.Nearest.the-variants.{Nobody}
 use Rattle.hooking.specs.declared.Nearest.the-variants as near
 
--- CHARACTER_SIZE and 1.5
-abbrev pub c28 : Float
-c28 = ofBits binary32 0x41e0_0000
-
-abbrev pub c1½ : Float
-c1½ = ofBits binary32 0x3fc0_0000
-
 -- DISABLE_HOOK_DISTANCE
 abbrev pub c46 : Float
 c46 = ofBits binary32 0x4238_0000
 
--- 0.3, 0.95 and 0.75
+-- 0.3 and 0.95
 abbrev pub c0·3 : Float
 c0·3 = ofBits binary32 0x3e99_999a
 
 abbrev pub c0·95 : Float
 c0·95 = ofBits binary32 0x3f73_3333
 
-abbrev pub c0·75 : Float
-c0·75 = ofBits binary32 0x3f40_0000
-
 -- an idle hook is fired, any other stays
 unfoldable pub fired : Hook → vec2 → vec2 → Hook
-fired Idle p d = Flying (vadd p (vmul (vmul d c28) c1½)) d
+fired Idle p d = Flying (vadd p (vmul (vmul d c28) c1·5)) d
 fired Retracted p d = Retracted
 fired (Flying a b) p d = Flying a b
 fired (Grabbed c t) p d = Grabbed c t

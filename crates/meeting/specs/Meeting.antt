@@ -3,7 +3,7 @@ use Prim.Native.Nat.{ℕ}
 use mathlib.Core.Bool.{Bool, cond, _&&_}
 use lib.Dec.{eqb}
 use lib.Ieee.{Float, binary32, neg, add, sub, mul, div, lt, ne, ofBits}
-use Rattle.number.specs.Number.{c0, c1, saturatedAdd}
+use Rattle.number.specs.Number.{c0, c1, saturatedAdd, c28, c1·5, c0·75}
 use Rattle.vector.specs.Vec2.{vnew, vadd, vsub, vmul, vlength, vnormalize, vdistance, vdot}
 use Rattle.vector.specs.declared.vec2.{vec2}
 use Rattle.hook.specs.Hook.{onGrabbed}
@@ -12,10 +12,7 @@ use Rattle.hook.specs.declared.Hook.{Hook}
 use Rattle.tuning.specs.declared.Tuning.{Tuning}
 use Rattle.meeting.specs.declared.Velocities.{Velocities}
 
--- CHARACTER_SIZE, times 1.25, and 1.45
-abbrev pub c28 : Float
-c28 = ofBits binary32 0x41e0_0000
-
+-- CHARACTER_SIZE times 1.25, and 1.45
 abbrev pub c35 : Float
 c35 = ofBits binary32 0x420c_0000
 
@@ -26,22 +23,16 @@ c1·45 = ofBits binary32 0x3fb9_999a
 abbrev pub c42 : Float
 c42 = ofBits binary32 0x4228_0000
 
--- 0.25 and 1.5
+-- 0.25
 abbrev pub c0·25 : Float
 c0·25 = ofBits binary32 0x3e80_0000
 
-abbrev pub c1·5 : Float
-c1·5 = ofBits binary32 0x3fc0_0000
-
--- 0.0001, 0.5, 0.75, 0.85 and 2.0
+-- 0.0001, 0.5, 0.85 and 2.0
 abbrev pub c0·0001 : Float
 c0·0001 = ofBits binary32 0x38d1_b717
 
 abbrev pub c0·5 : Float
 c0·5 = ofBits binary32 0x3f00_0000
-
-abbrev pub c0·75 : Float
-c0·75 = ofBits binary32 0x3f40_0000
 
 abbrev pub c0·85 : Float
 c0·85 = ofBits binary32 0x3f59_999a

@@ -9,6 +9,17 @@ c0 = ofBits binary32 0
 abbrev pub c1 : Float
 c1 = ofBits binary32 0x3f80_0000
 
+-- CHARACTER_SIZE
+abbrev pub c28 : Float
+c28 = ofBits binary32 0x41e0_0000
+
+-- 1.5 and 0.75
+abbrev pub c1·5 : Float
+c1·5 = ofBits binary32 0x3fc0_0000
+
+abbrev pub c0·75 : Float
+c0·75 = ofBits binary32 0x3f40_0000
+
 -- value, or the bound that it is beyond; a not-a-number is beyond none
 unfoldable pub clamp : Float → Float → Float → Float
 clamp value min max = cond (lt value min) min (cond (lt max value) max value)

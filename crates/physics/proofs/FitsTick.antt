@@ -8,7 +8,7 @@ use lib.ListN.{getD}
 use lib.Ieee.{Float, binary32, fits, neg, add, lt, ne}
 use lib.Ieee.Fits.{neg-fits, add-fits, mul-fits, div-fits}
 use Rattle.turns.proofs.Kept.{fold-kept}
-use Rattle.number.specs.Number.{c0, clamp, saturatedAdd}
+use Rattle.number.specs.Number.{c0, clamp, saturatedAdd, c1·5}
 use Rattle.float.specs.Convert.{c100, i32ToF32, hundredthsToF32}
 use Rattle.vector.specs.Vec2.{vadd, vmul, vlength, vnormalize, vdistance}
 use Rattle.vector.specs.declared.vec2.{vec2}
@@ -159,7 +159,7 @@ module _ (tunings : List ℤ) where
 
   pulled-fits : (p q : vec2) (v : Velocities) (distance : Float) → FitsBoth v → FitsBoth (meeting.dragged p q v distance t)
   unfolding meeting.dragged tuningOf
-  pulled-fits p q v distance h = (pull-fits (v .me) _ _ meeting.c0·25 _ (tuning-fits 11) (h .0), pull-fits (v .other) _ _ meeting.c1·5 _ (tuning-fits 11) (h .1))
+  pulled-fits p q v distance h = (pull-fits (v .me) _ _ meeting.c0·25 _ (tuning-fits 11) (h .0), pull-fits (v .other) _ _ c1·5 _ (tuning-fits 11) (h .1))
 
   held-fits : (p q : vec2) (v : Velocities) (distance : Float) → FitsBoth v → FitsBoth (meeting.held p q v distance t)
   unfolding meeting.held

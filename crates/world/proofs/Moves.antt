@@ -1,5 +1,5 @@
 -- What the moves of a step keep and publish, with player collision 0. Assumes nothing.
-use Prim.Native.Nat.{ℕ, zero, suc, _+_, _≤_, _<_}
+use Prim.Native.Nat.{ℕ, suc, _+_, _≤_, _<_}
 use native.Mathlib.Omega.{arith}
 use native.Mathlib.Nat.{eq-or-lt-of-le}
 use mathlib.Core.Logic.{_⊎_, ⊎-elim}
@@ -11,6 +11,7 @@ use lib.Ieee.{ne}
 use lib.ListN.{length, set, length-set, length-replicate}
 use Rattle.turns.specs.Turns.{Turn, more, stop, next, run}
 use Rattle.turns.proofs.Kept.{Ends, run-kept}
+use Rattle.turns.proofs.Last.{run-last}
 use Rattle.number.specs.Number.{c0}
 use Rattle.tiles.specs.Map.{isMap}
 use Rattle.tiles.specs.declared.Sides.{Sides}
@@ -68,21 +69,6 @@ module _ (s : Sides) (ts : List ℕ) where
         representable = quantized-representable c (fromNet core) q;
         clear = subst (λ (k : CharacterCore). Clear s ts (fromNet k .pos) characterBox) (sym i) (core-clear s ts c m (p .0) (p .1) ∙ h);
       }
-
--- ---- a walk by one turn more
-next-more : {S R : Type 0} (a : Turn S R) → next more a ≡ a
-next-more (more s) = refl
-next-more (stop r) = refl
-
-module _ {S R : Type 0} (f : ℕ → S → Turn S R) where
-  step-last : (n i : ℕ) → ((u : S) → run f (suc n) (suc i) u ≡ next (f (n + suc i)) (run f n (suc i) u)) → (a : Turn S R) → next (run f (suc n) (suc i)) a ≡ next (f (suc n + i)) (next (run f n (suc i)) a)
-  step-last n i h (more u) = h u ∙ ap (λ (j : ℕ). next (f j) (run f n (suc i) u)) (omega arith)
-  step-last n i h (stop r) = refl
-
-  run-last : (n i : ℕ) (s : S) → run f (suc n) i s ≡ next (f (n + i)) (run f n i s)
-  unfolding run
-  run-last zero i s = next-more (f i s) ∙ ap (λ (j : ℕ). f j s) (omega arith)
-  run-last (suc n) i s = step-last n i (run-last n (suc i)) (f i s)
 
 -- the two ways of a turn are apart, and what goes on is one
 stop-or-more : (k : ℕ) (a : Moving) → _≡_ {A = Turn Moving ℕ} (stop k) (more a) → ⊥
