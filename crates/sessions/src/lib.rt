@@ -2,6 +2,7 @@
 mod calling;
 mod line;
 mod lines;
+mod start;
 mod writing;
 
 pub use calling::run_call;
@@ -10,4 +11,7 @@ pub use line::Turned;
 pub use line::run_line;
 pub use lines::MOST_ANSWER;
 pub use lines::run_lines;
+pub use start::Begun;
+pub use start::MOST_READ;
+pub use start::begin;
 pub use writing::put_ran;

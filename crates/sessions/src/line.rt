@@ -66,7 +66,7 @@ pub fn run_line(
     }
 }
 
-fn ended(call: u32, place: usize, world: World, next: usize) -> Turned
+pub fn ended(call: u32, place: usize, world: World, next: usize) -> Turned
     ensures { λ r. ⌜ r ≡ endedAt call place world next ⌝ }
 {
     Turned {

@@ -1,4 +1,4 @@
--- `session::play` meets its contract. Assumes nothing.
+-- `session::play` is safe and ends. Assumes nothing.
 use mathlib.Core.Path.{_≡_, refl, _∙_}
 use Prim.Native.Nat.{_-_}
 use native.Mathlib.Omega.{arith}
@@ -8,19 +8,13 @@ use Rattle.session.proofs.play.Statement.{statement}
 use Rattle.session.proofs.play.Tie as tie
 
 abbrev Inv-loop : tie.InvT-loop
-Inv-loop text sides tiles next buf₀ session₀ counter₀ buf session counter = length buf ≡ length buf₀
+Inv-loop text sides tiles buf₀ turned₀ counter₀ buf turned counter = length buf ≡ length buf₀
 
 abbrev μ-loop : tie.MeasureT-loop
-μ-loop text sides tiles next buf₀ session₀ counter₀ buf session counter = 65536 - counter
-
-fresh-requires : tie.Need-fresh-requires Inv-loop μ-loop
-fresh-requires c κs = search needs
+μ-loop text sides tiles buf₀ turned₀ counter₀ buf turned counter = 65536 - counter
 
 loop-holds : tie.Need-loop-holds Inv-loop μ-loop
 loop-holds c = refl
-
-run-lines-requires : tie.Need-run-lines-requires Inv-loop μ-loop
-run-lines-requires c κs = search needs
 
 sub-write-all : tie.Need-sub-write-all Inv-loop μ-loop
 sub-write-all c = search needs
@@ -34,6 +28,9 @@ part-write-all-end c = search needs
 write-all-requires : tie.Need-write-all-requires Inv-loop μ-loop
 write-all-requires c κs = search needs
 
+run-lines-requires : tie.Need-run-lines-requires Inv-loop μ-loop
+run-lines-requires c κs = search needs
+
 add-counter : tie.Need-add-counter Inv-loop μ-loop
 add-counter c = omega arith
 
@@ -41,7 +38,7 @@ loop-less : tie.Need-loop-less Inv-loop μ-loop
 loop-less c = omega arith
 
 loop-again : tie.Need-loop-again Inv-loop μ-loop
-loop-again c = c .before .before .before .before .before .run-lines .kept .1 .1 .1 .1 .0 ∙ c .before .before .before .before .before .before .before .before .loop .inv
+loop-again c = c .before .before .run-lines .kept .1 .1 .1 .1 .0 ∙ c .before .before .before .before .before .before .before .before .loop .inv
 
 same-length : tie.Need-same-length Inv-loop μ-loop
 same-length c = c .before .loop .inv
@@ -50,7 +47,7 @@ returns : tie.Need-returns Inv-loop μ-loop
 returns c = search needs
 
 same-length-2 : tie.Need-same-length-2 Inv-loop μ-loop
-same-length-2 c = c .before .before .before .before .before .run-lines .kept .1 .1 .1 .1 .0 ∙ c .before .before .before .before .before .before .before .before .loop .inv
+same-length-2 c = c .before .before .before .before .loop .inv
 
 returns-2 : tie.Need-returns-2 Inv-loop μ-loop
 returns-2 c = search needs
@@ -61,13 +58,12 @@ play-spec =
     (tie.spec
     Inv-loop
     μ-loop
-    fresh-requires
     loop-holds
-    run-lines-requires
     sub-write-all
     part-write-all-start
     part-write-all-end
     write-all-requires
+    run-lines-requires
     add-counter
     loop-less
     loop-again

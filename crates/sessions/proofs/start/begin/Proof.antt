@@ -1,0 +1,110 @@
+-- `sessions::start::begin` meets its contract. Assumes nothing.
+use mathlib.Core.List.{List}
+use mathlib.Core.Path.{_≡_, sym, ap, _∙_, subst}
+use Prim.Native.Nat.{ℕ, _*_, _^_, _≤_, _<_}
+use native.Mathlib.Nat.{mul-le-mul, lt-of-le-of-lt}
+use native.Mathlib.Omega.{arith}
+use lib.Dec.{lit<}
+use mir.Facts.{fits-of-lt}
+use Rattle.map_text.specs.Reading.{MapAt}
+use Rattle.map_text.specs.declared.MapPart.{MapPart}
+use Rattle.map_text.specs.declared.MapPart.the-variants as mapPart
+use Rattle.map_text.proofs.Maps.{map-read}
+use Rattle.world.specs.declared.World.{World}
+use Rattle.sessions.specs.declared.line.Turned.{Turned}
+use Rattle.sessions.specs.Session.{endedAt, goesOn}
+use Rattle.sessions.specs.Start.{fault, map}
+use borrow.Author.Needs.{needs}
+use Rattle.sessions.proofs.start.begin.Statement.{statement}
+use Rattle.sessions.proofs.start.begin.Tie as tie
+
+-- a map that was read has sides up to 1,024
+sides : (s d : List ℕ) (w h next : ℕ) {r : MapPart} → r ≡ mapPart.Read w h next → MapAt s d r → (w ≤ 1024) × (h ≤ 1024)
+sides s d w h next e m = let p = map-read s d w h next e m .1 in (p .width .1, p .height .1)
+
+product : (w h : ℕ) → (w ≤ 1024) × (h ≤ 1024) → w * h < 2 ^ 64
+product w h p = lt-of-le-of-lt (mul-le-mul (p .0) (p .1)) (lit< tt)
+
+put-heading-requires : tie.Need-put-heading-requires
+put-heading-requires c κs = search needs
+
+read-map-requires : tie.Need-read-map-requires
+read-map-requires c κs = search needs
+
+enum-told : tie.Need-enum-told
+enum-told c = search needs
+
+put-answer-requires : tie.Need-put-answer-requires
+put-answer-requires c κs = search needs
+
+fresh-requires : tie.Need-fresh-requires
+fresh-requires c κs = search needs
+
+ended-requires : tie.Need-ended-requires
+ended-requires c κs = search needs
+
+enum-known-width : tie.Need-enum-known-width
+enum-known-width c = search needs
+
+cast-t20 : tie.Need-cast-t20
+cast-t20 c = let h = sides _ _ _ _ _ (c .before .width .given .1) (c .before .before .before .before .before .read-map .ensures) in fits-of-lt (omega (arith, h .0))
+
+cast-t21 : tie.Need-cast-t21
+cast-t21 c = let h = sides _ _ _ _ _ (c .before .width .given .1) (c .before .before .before .before .before .read-map .ensures) in fits-of-lt (omega (arith, h .1))
+
+mul-t23 : tie.Need-mul-t23
+mul-t23 c = fits-of-lt (product _ _ (sides _ _ _ _ _ (c .before .width .given .1) (c .before .before .before .before .before .read-map .ensures)))
+
+fresh-requires-2 : tie.Need-fresh-requires-2
+fresh-requires-2 c κs = search needs
+
+same-length : tie.Need-same-length
+same-length c = search needs
+
+same-length-2 : tie.Need-same-length-2
+same-length-2 c = search needs
+
+returns : tie.Need-returns
+returns c =
+    let a = c .before .before .before .before .before .before .before .before .before .before .before .before .before .before .before .before .before .before .before in
+    let next : c .ended .result .next ≡ c .before .before .before .before .put-answer .result = ap (λ (t : Turned). t .next) (c .ended .ensures) in
+    fault _ _ (subst (MapAt (a .args .text .now) _) (c .before .before .before .before .before .before .enum-told .given .1) (c .before .before .before .before .before .before .before .before .before .before .read-map .ensures))
+    (c .before .before .before .before .before .before .before .before .before .before .before .before .before .before .put-heading .ensures)
+    (rw (next) (c .before .before .before .before .put-answer .ensures))
+    (c .ended .ensures ∙ ap (λ (w : World). endedAt 1 0 w (c .before .before .before .before .put-answer .result)) (c .before .fresh .ensures) ∙ ap (endedAt 1 0 _) (sym next))
+
+same-length-3 : tie.Need-same-length-3
+same-length-3 c = search needs
+
+same-length-4 : tie.Need-same-length-4
+same-length-4 c = search needs
+
+returns-2 : tie.Need-returns-2
+returns-2 c =
+    let a = c .before .before .before .before .before .before .before .before .before .before .before .before .before .before .before in
+    let g = c .before .before .width .given in
+    map (g .0 .0) (g .0 .1 .0) (g .0 .1 .1 .0) (subst (MapAt (a .args .text .now) _) (g .1) (c .before .before .before .before .before .before .read-map .ensures))
+    (c .before .before .before .before .before .before .before .before .before .before .put-heading .ensures)
+    (ap (λ (w : World). record { sides = record { width = g .0 .0; height = g .0 .1 .0 }; count = g .0 .0 * g .0 .1 .0; first = goesOn 1 (g .0 .1 .1 .0) w (c .before .before .before .before .before .before .before .before .before .before .put-heading .result) }) (c .fresh2 .ensures))
+
+pub begin-spec : {M : Type 1} → statement M
+begin-spec =
+    tie.close
+    (tie.spec
+    put-heading-requires
+    read-map-requires
+    enum-told
+    put-answer-requires
+    fresh-requires
+    ended-requires
+    enum-known-width
+    cast-t20
+    cast-t21
+    mul-t23
+    fresh-requires-2
+    same-length
+    same-length-2
+    returns
+    same-length-3
+    same-length-4
+    returns-2)

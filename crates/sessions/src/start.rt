@@ -1,0 +1,66 @@
+// How a session starts: the heading, and the map.
+use crate::line::Session;
+use crate::line::Turned;
+use crate::line::ended;
+use calls::fresh;
+use map_text::MOST_BYTES;
+use map_text::MapPart;
+use map_text::read_map;
+use output_lines::put_answer;
+use output_lines::put_heading;
+use tiles::Sides;
+ghost use Prim.Native.Nat.{_≤_};
+ghost use lib.ListN.{length};
+ghost use Rattle.character.specs.Tick.{seats};
+ghost use Rattle.sessions.specs.Start.{Began};
+
+// A longer text is at fault, so one byte more tells.
+pub const MOST_READ: usize = MOST_BYTES + 1;
+
+// The map's sides, how many tiles it has, and the session before its first call.
+pub struct Begun {
+    pub sides: Sides,
+    pub count: usize,
+    pub first: Turned,
+}
+
+// Puts the heading into buf, and the map's tiles to the start of `tiles`. A map at fault ends the session.
+pub fn begin(text: &[u8], tiles: &mut [u8], buf: &mut [u8]) -> Begun
+    requires { ⌜ (32768 ≤ length (now tiles)) × (432 ≤ length (now buf)) ⌝ }
+    ensures { λ r. ⌜ Began seats (now (text .entry)) (now (tiles .exit)) (now (buf .entry)) r (now (buf .exit)) ⌝ }
+{
+    let end = put_heading(buf, 0);
+    match read_map(text, tiles) {
+        MapPart::Fault => {
+            let past = put_answer(buf, end, 1, 6);
+            Begun {
+                sides: Sides {
+                    width: 0,
+                    height: 0,
+                },
+                count: 0,
+                first: ended(1, 0, fresh(), past),
+            }
+        }
+        MapPart::Read {
+            width,
+            height,
+            next,
+        } => Begun {
+            sides: Sides {
+                width: width as u32,
+                height: height as u32,
+            },
+            count: width * height,
+            first: Turned {
+                session: Session {
+                    done: false,
+                    call: 1,
+                    place: next,
+                    world: fresh(),
+                },
+                next: end,
+            },
+        },
+    }
+}
