@@ -12,7 +12,7 @@ use Rattle.call_lines.specs.declared.CallLine.the-variants as line
 use Rattle.output_lines.specs.Output.{answerBytes}
 use Rattle.output_lines.specs.Put.{Put}
 use Rattle.world.specs.declared.World.{World}
-use Rattle.sessions.specs.Answers.{ran, ranBytes}
+use Rattle.answers.specs.Answers.{ran, ranBytes}
 use Rattle.sessions.specs.declared.line.Session.{Session}
 use Rattle.sessions.specs.declared.line.Turned.{Turned}
 

@@ -1,11 +1,8 @@
 // A session: what each call of its text does to the world, and the lines that it writes.
-mod calling;
 mod line;
 mod lines;
 mod start;
-mod writing;
 
-pub use calling::run_call;
 pub use line::Session;
 pub use line::Turned;
 pub use line::run_line;
@@ -14,4 +11,3 @@ pub use lines::run_lines;
 pub use start::Begun;
 pub use start::MOST_READ;
 pub use start::begin;
-pub use writing::put_ran;

@@ -1,6 +1,6 @@
 // What the next line of a text does to a session.
-use crate::calling::run_call;
-use crate::writing::put_ran;
+use answers::put_ran;
+use answers::run_call;
 use call_lines::CallLine;
 use call_lines::next_call;
 use output_lines::put_answer;

@@ -1,9 +1,5 @@
 // Step: every present id by rising id ticks; then by rising id each moves and is quantized.
-mod halves;
-
 use character::SEATS;
-pub use halves::Moves;
-pub use halves::Ticks;
 use halves::move_all;
 use halves::tick_all;
 use halves::unpublished;

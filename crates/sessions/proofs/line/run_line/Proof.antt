@@ -13,7 +13,7 @@ use Rattle.sessions.specs.declared.line.Turned.{Turned}
 use Rattle.casts.proofs.Signed.{read}
 use Rattle.call_lines.specs.Calls.{CallAt}
 use Rattle.character.specs.Tick.{seats}
-use Rattle.sessions.specs.Answers.{ranBytes}
+use Rattle.answers.specs.Answers.{ranBytes}
 use Rattle.sessions.specs.Session.{textFault, endedAt, goesOn, end, fault, call}
 use borrow.Author.Needs.{needs}
 use Rattle.sessions.proofs.line.run_line.Statement.{statement}
