@@ -1,12 +1,12 @@
-// Runs the recorded texts and compares what the session writes with what the session over the Rust wrote.
-// Prints the number of each text that differs, with the first place where it does, and tells how many agree.
+// Runs the recorded texts and compares every byte that the session writes with what the session over the Rust wrote.
+// Prints the number of each text that differs, and tells how many agree.
 // rust/world/session_texts records them: 000.in and 000.out, 001.in and 001.out, and so on.
-mod compared;
+mod recorded;
 
-use compared::Compared;
-use compared::MOST_COMPARED;
-use libc::STDOUT_FILENO;
 use map_text::MOST_TILES;
+use recorded::MOST_COMPARED;
+use recorded::is_ended;
+use recorded::is_next;
 use sessions::MOST_READ;
 use sessions::Turned;
 use sessions::begin;
@@ -34,47 +34,39 @@ fn outcome_of(number: u32) -> Outcome {
     let a = digit(number / 100);
     let b = digit(number / 10);
     let c = digit(number);
-    let written = os::open_read(&[a, b, c, b'.', b'i', b'n']);
-    if written < 0 {
+    let text = os::open_read(&[a, b, c, b'.', b'i', b'n']);
+    if text < 0 {
         return Outcome::End;
     }
     let recorded = os::open_read(&[a, b, c, b'.', b'o', b'u', b't']);
-    let compared = compare(written, recorded);
-    libc::close(written);
+    let agrees = run_file(text, recorded);
+    libc::close(text);
     libc::close(recorded);
-    if compared.agrees {
-        return Outcome::Agrees;
-    }
-    io::write_all(STDOUT_FILENO, &[a, b, c]);
-    compared.print();
-    Outcome::Differs
+    Outcome::of(agrees, &[a, b, c, b'\n'])
 }
 
 fn digit(n: u32) -> u8 {
     (n % 10) as u8 + 48
 }
 
-fn compare(written: i32, recorded: i32) -> Compared {
+fn run_file(file: i32, recorded: i32) -> bool {
     let mut text = [0u8; MOST_READ];
-    let n = io::read_full(written, &mut text);
-    if n <= MOST_READ {
-        return run(&text[0..n], recorded);
-    }
-    Compared::none()
+    let n = io::read_full(file, &mut text);
+    n <= MOST_READ && run(&text[0..n], recorded)
 }
 
-fn run(text: &[u8], recorded: i32) -> Compared {
+// Whether the session writes what is recorded, and no less.
+fn run(text: &[u8], recorded: i32) -> bool {
     let mut tiles = [0u8; MOST_TILES];
     let mut buf = [0u8; MOST_COMPARED];
     let begun = begin(text, &mut tiles, &mut buf);
     let count = begun.count;
     let sides = begun.sides;
     let first = begun.first;
-    if count <= MOST_TILES {
-        let compared = play(text, sides, &tiles[0..count], first, &mut buf, recorded);
-        return compared.at_end(recorded);
+    if MOST_TILES < count {
+        return false;
     }
-    Compared::none()
+    play(text, sides, &tiles[0..count], first, &mut buf, recorded) && is_ended(recorded)
 }
 
 // Compares what is in the buffer and runs the calls that come next; a text has fewer than 65,536 of them.
@@ -85,16 +77,17 @@ fn play(
     first: Turned,
     buf: &mut [u8],
     recorded: i32,
-) -> Compared {
+) -> bool {
     let mut turned = first;
-    let mut compared = Compared::none();
     for _ in 0..65536u32 {
-        compared = compared.with(recorded, buf, turned.next);
+        if !is_next(recorded, buf, turned.next) {
+            return false;
+        }
         let session = turned.session;
-        if session.done || !compared.agrees {
-            break;
+        if session.done {
+            return true;
         }
         turned = run_lines(text, sides, tiles, session, buf);
     }
-    compared
+    false
 }

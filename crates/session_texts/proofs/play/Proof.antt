@@ -7,19 +7,28 @@ use Rattle.session_texts.proofs.play.Statement.{statement}
 use Rattle.session_texts.proofs.play.Tie as tie
 
 abbrev Inv-loop : tie.InvT-loop
-Inv-loop text sides tiles buf₀ recorded turned₀ compared₀ counter₀ buf turned compared counter = length buf ≡ length buf₀
+Inv-loop text sides tiles buf₀ recorded turned₀ counter₀ buf turned counter = length buf ≡ length buf₀
 
 abbrev μ-loop : tie.MeasureT-loop
-μ-loop text sides tiles buf₀ recorded turned₀ compared₀ counter₀ buf turned compared counter = 65536 - counter
-
-none-requires : tie.Need-none-requires Inv-loop μ-loop
-none-requires c κs = tt
+μ-loop text sides tiles buf₀ recorded turned₀ counter₀ buf turned counter = 65536 - counter
 
 loop-holds : tie.Need-loop-holds Inv-loop μ-loop
 loop-holds c = refl
 
-with-requires : tie.Need-with-requires Inv-loop μ-loop
-with-requires c κs = tt
+is-next-requires : tie.Need-is-next-requires Inv-loop μ-loop
+is-next-requires c κs = tt
+
+same-length : tie.Need-same-length Inv-loop μ-loop
+same-length c = c .before .before .before .before .loop .inv
+
+returns : tie.Need-returns Inv-loop μ-loop
+returns c = tt
+
+same-length-2 : tie.Need-same-length-2 Inv-loop μ-loop
+same-length-2 c = c .before .before .before .before .before .before .loop .inv
+
+returns-2 : tie.Need-returns-2 Inv-loop μ-loop
+returns-2 c = tt
 
 run-lines-requires : tie.Need-run-lines-requires Inv-loop μ-loop
 run-lines-requires c κs = tt
@@ -31,19 +40,13 @@ loop-less : tie.Need-loop-less Inv-loop μ-loop
 loop-less c = omega arith
 
 loop-again : tie.Need-loop-again Inv-loop μ-loop
-loop-again c = c .before .before .run-lines .kept .1 .1 .1 .1 .0 ∙ c .before .before .before .before .before .before .before .before .before .before .before .loop .inv
+loop-again c = c .before .before .run-lines .kept .1 .1 .1 .1 .0 ∙ c .before .before .before .before .before .before .before .before .before .before .loop .inv
 
-same-length : tie.Need-same-length Inv-loop μ-loop
-same-length c = c .before .loop .inv
+same-length-3 : tie.Need-same-length-3 Inv-loop μ-loop
+same-length-3 c = c .before .loop .inv
 
-returns : tie.Need-returns Inv-loop μ-loop
-returns c = tt
-
-same-length-2 : tie.Need-same-length-2 Inv-loop μ-loop
-same-length-2 c = c .before .before .before .before .before .loop .inv
-
-returns-2 : tie.Need-returns-2 Inv-loop μ-loop
-returns-2 c = tt
+returns-3 : tie.Need-returns-3 Inv-loop μ-loop
+returns-3 c = tt
 
 pub play-spec : {M : Type 1} → statement M
 play-spec =
@@ -51,14 +54,15 @@ play-spec =
     (tie.spec
     Inv-loop
     μ-loop
-    none-requires
     loop-holds
-    with-requires
+    is-next-requires
+    same-length
+    returns
+    same-length-2
+    returns-2
     run-lines-requires
     add-counter
     loop-less
     loop-again
-    same-length
-    returns
-    same-length-2
-    returns-2)
+    same-length-3
+    returns-3)

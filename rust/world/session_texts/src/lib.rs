@@ -7,11 +7,16 @@ mod line_faults;
 mod maps;
 mod places;
 mod play;
+mod programs;
 mod sequences;
 #[cfg(test)]
 mod tests;
+mod timed;
 mod word_faults;
 mod written;
+
+pub use programs::output_of;
+pub use timed::timed;
 
 use reference::Xorshift;
 

@@ -114,7 +114,7 @@ fn call_at_limits(random: &mut Xorshift) -> Call {
     Call::from_numbers(numbers).expect("a call")
 }
 
-fn joined(mut sequence: Sequence, count: usize, random: &mut Xorshift) -> Sequence {
+pub fn joined(mut sequence: Sequence, count: usize, random: &mut Xorshift) -> Sequence {
     for id in 0..count as i32 {
         let (x, y) = place(&sequence.map, random);
         sequence = sequence.join(id, x, y);

@@ -2,10 +2,9 @@
 //! the reference, the program, the file that keeps a text on which they differ,
 //! how many texts, and a seed.
 
-use session_texts::{Text, drawn};
-use std::io::{self, Write};
-use std::process::{Command, ExitCode, Output, Stdio};
-use std::{env, fs, thread};
+use session_texts::{drawn, output_of};
+use std::process::ExitCode;
+use std::{env, fs};
 
 fn main() -> ExitCode {
     let arguments: Vec<String> = env::args().skip(1).collect();
@@ -30,7 +29,7 @@ fn compare(arguments: &[String]) -> Result<bool, String> {
     let (count, seed) = (number(count)?, number(seed)?);
     for number in 0..count {
         let text = drawn(seed, number);
-        let [expected, printed] = [reference, program].map(|path| output_of(path, &text));
+        let [expected, printed] = [reference, program].map(|path| output_of(path, &text.bytes));
         let (expected, printed) = (expected?, printed?);
         if printed != expected {
             fs::write(kept, &text.bytes).map_err(|error| format!("{kept}: {error}"))?;
@@ -44,25 +43,6 @@ fn compare(arguments: &[String]) -> Result<bool, String> {
     }
     println!("{count} texts of seed {seed} were compared: no byte differs");
     Ok(true)
-}
-
-/// All that a program gives, which is more than what it prints.
-fn output_of(program: &str, text: &Text) -> Result<Output, String> {
-    run(program, &text.bytes).map_err(|error| format!("{program}: {error}"))
-}
-
-fn run(program: &str, text: &[u8]) -> io::Result<Output> {
-    let mut child = Command::new(program)
-        .stdin(Stdio::piped())
-        .stdout(Stdio::piped())
-        .stderr(Stdio::piped())
-        .spawn()?;
-    let mut input = child.stdin.take().expect("it is piped");
-    thread::scope(|scope| {
-        // A program may end before it has read all.
-        scope.spawn(move || input.write_all(text));
-        child.wait_with_output()
-    })
 }
 
 fn print_difference(expected: &[u8], printed: &[u8]) {
