@@ -50,7 +50,7 @@ use Rattle.walks.proofs.Filled.{filled, filled-all}
 use Rattle.walks.proofs.LentCall.{lentTo}
 use Rattle.walks.proofs.SliceFn.{postOf, takes-slice, gives-slice, ends-slice, slice-meets, calls-slice}
 use Rattle.walks.proofs.Plainly.{of-uint, of-unit, value, still-is, init-as, store-as, none, arg, args-of, vals-of, asks-plain, calls-plain}
-use Rattle.lent.proofs.Shapes.{slot, world, answer, Ts, tunings, tuned, slice, ref}
+use Rattle.lent.proofs.Shapes.{slot, world, Tunings, tunings, tuned, slice, ref}
 use Rattle.lent.proofs.unread as unread
 use Rattle.lent.proofs.unread.Symbol as unread-def
 use Rattle.lent.proofs.unread.Symbol.{name as #lent·unread}
@@ -79,7 +79,7 @@ module _ {M : Type 1} (𝓤 : URA M) (H : Heap 𝓤) (A : Atoms 𝓤) (W : Given
   abbrev With : Contract 𝓤
   With = tripleOf 𝓤 H A with.signature (with.spec 𝓤 H A at-mem run)
 
-  module _ (𝓣 : Tables 𝓤 H) (known-unread : Triple 𝓤 (𝓣 .C #lent·unread) Unread) (known-with : Triple 𝓤 (𝓣 .C #lent·with-slot) With) (κ : Lft) (q : Share) (b o : ℕ) (γ : GName) (ys : List Slot) (ts : List ℤ) (gn : Room T.the-row (length ys)) (gt : Is Ts ts (tunings .val ts ∷ [])) where
+  module _ (𝓣 : Tables 𝓤 H) (known-unread : Triple 𝓤 (𝓣 .C #lent·unread) Unread) (known-with : Triple 𝓤 (𝓣 .C #lent·with-slot) With) (κ : Lft) (q : Share) (b o : ℕ) (γ : GName) (ys : List Slot) (ts : List ℤ) (gn : Room T.the-row (length ys)) (gt : Is Tunings ts (tunings .val ts ∷ [])) where
     abbrev C : Calls 𝓤 H
     C = 𝓣 .C
 
@@ -87,7 +87,7 @@ module _ {M : Type 1} (𝓤 : URA M) (H : Heap 𝓤) (A : Atoms 𝓤) (W : Given
     Λ = 𝓣 .Λ
 
     abbrev Post : Val → SProp 𝓤
-    Post = postOf T.the-row Ts Th.the-row tt 𝓤 H A (rq 𝓤) ens tunings κ q b o γ ys ts
+    Post = postOf T.the-row Tunings Th.the-row tt 𝓤 H A (rq 𝓤) ens tunings κ q b o γ ys ts
 
     -- the world after i turns
     abbrev Wd : List Slot → ℕ → World
@@ -155,7 +155,7 @@ module _ {M : Type 1} (𝓤 : URA M) (H : Heap 𝓤) (A : Atoms 𝓤) (W : Given
           -- [what the slice owns; the token; _3; _4; …; _8; _1; _2; _0; and that each local dies]
           returns ! (look ! 10 refl) $ forget ! 2 refl $ forget ! 3 refl $ forget ! 4 refl $ forget ! 8 refl $ forget ! 9 refl $ forget ! 10 refl $
           move ! (10 ∷ 11 ∷ []) $ free1 ! $ move ! (8 ∷ 10 ∷ []) $ free1 ! $ move ! (8 ∷ 9 ∷ []) $ free1 ! $ move ! (2 ∷ 8 ∷ []) $ free1 ! $ move ! (2 ∷ 7 ∷ []) $ free1 ! $ move ! (2 ∷ 6 ∷ []) $ free1 ! $ move ! (2 ∷ 5 ∷ []) $ free1 ! $ move ! (2 ∷ 4 ∷ []) $ free1 ! $ move ! (2 ∷ 3 ∷ []) $ free1 ! $ free0 ! $
-          by ! (ends-slice T.the-row Ts Th.the-row tt 𝓤 H A (rq 𝓤) ens tunings W κ q b o γ ys ts gt world (world .val (Wd xs 16)) (Wd xs 16) ys gh refl (ap (λ (zs : List Slot). worldOf zs ts) (filled-all nowhere 16 xs ys long all), refl)))
+          by ! (ends-slice T.the-row Tunings Th.the-row tt 𝓤 H A (rq 𝓤) ens tunings W κ q b o γ ys ts gt world (world .val (Wd xs 16)) (Wd xs 16) ys gh refl (ap (λ (zs : List Slot). worldOf zs ts) (filled-all nowhere 16 xs ys long all), refl)))
 
       -- from the loop on. The context is written out: antt runs out of steps where it compares it in `walk`
       opened : Is Th.the-row (Wd xs 0) (world .val (Wd xs 0) ∷ []) → Sq W (‵ (lentTo T.the-row κ γ b o ys (length ys)) ∷ ‵ (flft κ q) ∷ ‵ (fat fullShare Th′.mir l₃ 0 (world .val (Wd xs 0))) ∷ ‵ (fat fullShare (tyInt w64) l₄ 0 (vint w64 0)) ∷ ‵ (froom tyBool l₅ 0) ∷ ‵ (froom (tyInt w64) l₆ 0) ∷ ‵ (froom tyPtr l₇ 0) ∷ ‵ (froom T′.mir l₈ 0) ∷ Frame)
@@ -178,7 +178,7 @@ module _ {M : Type 1} (𝓤 : URA M) (H : Heap 𝓤) (A : Atoms 𝓤) (W : Given
         keep ! (18 ∷ 19 ∷ 10 ∷ 8 ∷ 6 ∷ 4 ∷ 2 ∷ 0 ∷ 14 ∷ 12 ∷ 16 ∷ 17 ∷ 15 ∷ 13 ∷ 11 ∷ 9 ∷ 7 ∷ 5 ∷ 3 ∷ 1 ∷ []) $ opened all (r .slots) (e .0) l₀ l₁ l₂ l₃ l₄ l₅ l₆ l₇ l₈ (still-is world v (first-world r e) is))))))))))))
 
   load-meets : (𝓣 : Tables 𝓤 H) → Triple 𝓤 (𝓣 .C #lent·unread) Unread → Triple 𝓤 (𝓣 .C #lent·with-slot) With → Meets 𝓤 H A load′.signature (WpFn 𝓤 H (𝓣 .C) (𝓣 .Λ) code.function) (load′.spec 𝓤 H A at-mem run)
-  load-meets 𝓣 known-unread known-with = slice-meets T.the-row Ts Th.the-row tt 𝓤 H A (rq 𝓤) ens tunings W 𝓣 code.function (walk 𝓣 known-unread known-with)
+  load-meets 𝓣 known-unread known-with = slice-meets T.the-row Tunings Th.the-row tt 𝓤 H A (rq 𝓤) ens tunings W 𝓣 code.function (walk 𝓣 known-unread known-with)
 
 pub load-spec : {M : Type 1} → stated.statement M
 unfolding code.routine tablesOf

@@ -49,7 +49,7 @@ use Rattle.walks.proofs.Filled.{filled, length-filled, filled-all}
 use Rattle.walks.proofs.LentCall.{lentTo}
 use Rattle.walks.proofs.SliceFn.{postOf, takes-slice, gives-slice, ends-slice, slice-meets, calls-slice}
 use Rattle.walks.proofs.Plainly.{of-uint, of-unit, value, still-is, init-as, store-as, none, arg, args-of, vals-of, asks-plain, calls-plain}
-use Rattle.lent.proofs.Shapes.{slot, world, answer, Ts, tunings, tuned, slice, ref}
+use Rattle.lent.proofs.Shapes.{slot, world, Tunings, tunings, tuned, slice, ref}
 use Rattle.lent.proofs.slot_at as slot-at
 use Rattle.lent.proofs.slot_at.Symbol as slot-at-def
 use Rattle.lent.proofs.slot_at.Symbol.{name as #lent·slot-at}
