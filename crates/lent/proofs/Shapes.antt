@@ -1,5 +1,4 @@
 -- The types of the functions that are proved by hand, as their walks take them. Assumes nothing.
-use mathlib.Core.List.{[], _∷_}
 use mir.Syntax.{Ty, named, erased, mut, imm, w8, w32, tyInt, tyRef, tyArray}
 use denote.Array.{Array}
 use denote.Builtin.{i32}

@@ -1,6 +1,7 @@
 -- The step over lent slots. Definitions only.
 use Prim.Native.Nat.{ℕ}
 use mathlib.Core.List.{List}
+use mathlib.Core.Path.{_≡_}
 use lib.IntN.{ℤ}
 use Rattle.tiles.specs.declared.Sides.{Sides}
 use Rattle.character.specs.Tick.{seats}
@@ -21,3 +22,15 @@ lentStep ss ts s tiles = step seats (worldOf ss ts) s tiles
 -- what is told of a step: all but the world
 abbrev pub toldOf : Stepped → Told
 toldOf a = record { number = a .number; records = a .records }
+
+-- what a step leaves in the slice
+abbrev pub slotsOf : Stepped → List Slot
+slotsOf a = a .world .slots
+
+-- a refusal leaves every slot as it was
+abbrev pub RefusalLeaves : Type 0
+RefusalLeaves = (ss : List Slot) (ts : List ℤ) (s : Sides) (tiles : List ℕ) → (toldOf (lentStep ss ts s tiles) .number ≡ 0 → ⊥) → slotsOf (lentStep ss ts s tiles) ≡ ss
+
+-- the slots that a step leaves and the same tunings make the world that it leaves
+abbrev pub TuningsStay : Type 0
+TuningsStay = (ss : List Slot) (ts : List ℤ) (s : Sides) (tiles : List ℕ) → worldOf (slotsOf (lentStep ss ts s tiles)) ts ≡ lentStep ss ts s tiles .world

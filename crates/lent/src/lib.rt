@@ -13,7 +13,7 @@ ghost use lib.ListN.{length};
 ghost use Prim.Native.Nat.{_<_};
 ghost use Rattle.character.specs.Tick.{seats, slotAt};
 ghost use Rattle.world.specs.World.{withSlot};
-ghost use Rattle.lent.specs.Lent.{worldOf, toldOf, lentStep};
+ghost use Rattle.lent.specs.Lent.{worldOf, lentStep, toldOf, slotsOf};
 
 // What a step over lent slots answers: the next slots stand in the slice.
 pub struct Told {
@@ -45,6 +45,12 @@ fn slot_at(world: World, at: usize) -> Slot
     world.slots[at]
 }
 
+fn next_world(stepped: Stepped) -> World
+    ensures { λ r. ⌜ r ≡ stepped .world ⌝ }
+{
+    stepped.world
+}
+
 fn tell(stepped: Stepped) -> Told
     ensures { λ r. ⌜ r ≡ toldOf stepped ⌝ }
 {
@@ -56,38 +62,38 @@ fn tell(stepped: Stepped) -> Told
 }
 
 // The slots are read, and stay as they are.
-pub fn load(slots: &mut [Slot], tunings: [i32; TUNINGS]) -> World
+fn load(slots: &mut [Slot], tunings: [i32; TUNINGS]) -> World
     requires { ⌜ length (now slots) ≡ seats ⌝ }
     ensures { λ r. ⌜ (r ≡ worldOf (now (slots .entry)) tunings) × (now (slots .exit) ≡ now (slots .entry)) ⌝ }
 {
     let mut world = unread(tunings);
-    let mut i = 0usize;
-    while i < SEATS {
-        world = with_slot(world, i, slots[i]);
-        i += 1;
+    let mut from = 0usize;
+    while from < SEATS {
+        world = with_slot(world, from, slots[from]);
+        from += 1;
     }
     world
 }
 
-pub fn store(slots: &mut [Slot], world: World)
+fn store(slots: &mut [Slot], world: World)
     requires { ⌜ length (now slots) ≡ seats ⌝ }
     ensures { λ _. ⌜ now (slots .exit) ≡ world .slots ⌝ }
 {
-    let mut i = 0usize;
-    while i < SEATS {
-        slots[i] = slot_at(world, i);
-        i += 1;
+    let mut at = 0usize;
+    while at < SEATS {
+        slots[at] = slot_at(world, at);
+        at += 1;
     }
 }
 
 // The step of a world, on lent slots.
 pub fn step_lent(slots: &mut [Slot], tunings: [i32; TUNINGS], sides: Sides, tiles: &[u8]) -> Told
     requires { ⌜ length (now slots) ≡ seats ⌝ }
-    ensures { λ r. ⌜ (r ≡ toldOf (lentStep (now (slots .entry)) tunings sides (now (tiles .entry)))) × (now (slots .exit) ≡ lentStep (now (slots .entry)) tunings sides (now (tiles .entry)) .world .slots) ⌝ }
+    ensures { λ r. ⌜ (r ≡ toldOf (lentStep (now (slots .entry)) tunings sides (now (tiles .entry)))) × (now (slots .exit) ≡ slotsOf (lentStep (now (slots .entry)) tunings sides (now (tiles .entry)))) ⌝ }
 {
     let world = load(&mut *slots, tunings);
     let stepped = step(world, sides, tiles);
-    let left = stepped.world;
-    store(&mut *slots, left);
+    let next = next_world(stepped);
+    store(&mut *slots, next);
     tell(stepped)
 }

@@ -20,7 +20,7 @@ use contract.Monad.{Fun, fact, factI}
 use contract.Running.{givenOf, tables, tablesOf}
 use types.Kit.{Given, Sq, runs, ‵, raw, _⊛_, some, later, ⋆, atRet, _$_, _∵_, !, qed, by, move, keep, drop, rewrite, use1, use2, split, join, pick, fsplit, fjoin, suffices, frame, await, done}
 use types.Part.{agg, whole, sub, look-in}
-use types.Run.{look, init, forget, stop, hop, fld, from, load, addr, of-opd, assigns, and-then, no-more, land, returns, enter, alloc1, alloc0, params1, pass1, pass0, free1, free0}
+use types.Run.{look, init, forget, stop, hop, fld, from, load, addr, assigns, and-then, no-more, land, returns, enter, alloc1, alloc0, params1, pass1, pass0, free1, free0}
 use denote.Builtin.{u8, unit}
 use denote.Exit.{yes}
 use denote.Laws.{Is, shows}
@@ -29,7 +29,6 @@ use denote.Ref.{RefT, now}
 use denote.Signature.{plain}
 use denote.Slice.{sliceTy, sliceVal, MutSlice, ShrSlice, Room, slice-vals, mut-slice-tells, shr-slice-tells, shr-slice-copy}
 use denote.Steps.{owned, facts, heard, nothing}
-use denote.Struct.Laws as LL
 use denote.Triple.Call.{calls-at}
 use denote.Triple.Entry.{onEntry}
 use denote.Triple.Statement.{Contract, Triple}
@@ -51,7 +50,7 @@ use Rattle.world.proofs.World.Laws as Th′
 use Rattle.walks.proofs.LentCall.{lentTo}
 use Rattle.walks.proofs.SliceFn.{calls-slice}
 use Rattle.walks.proofs.Plainly.{of-unit, value, still-is, init-as, none, arg, asks-plain, calls-plain}
-use Rattle.lent.specs.Lent.{worldOf, lentStep, toldOf}
+use Rattle.lent.specs.Lent.{worldOf, lentStep, toldOf, slotsOf}
 use Rattle.lent.specs.declared.Told.{Told}
 use Rattle.lent.proofs.Told as Tt
 use Rattle.lent.proofs.Told.Laws as Tt′
@@ -64,6 +63,10 @@ use Rattle.steps.proofs.step as step′
 use Rattle.steps.proofs.step.Symbol as step′-def
 use Rattle.steps.proofs.step.Symbol.{name as #steps·step}
 use Rattle.steps.proofs.step.Met as step′-thm
+use Rattle.lent.proofs.next_world as next′
+use Rattle.lent.proofs.next_world.Symbol as next′-def
+use Rattle.lent.proofs.next_world.Symbol.{name as #lent·next-world}
+use Rattle.lent.proofs.next_world.Met as next′-thm
 use Rattle.lent.proofs.store as store′
 use Rattle.lent.proofs.store.Symbol as store′-def
 use Rattle.lent.proofs.store.Symbol.{name as #lent·store}
@@ -89,6 +92,9 @@ module _ {M : Type 1} (𝓤 : URA M) (H : Heap 𝓤) (A : Atoms 𝓤) (W : Given
 
   abbrev Step : Contract 𝓤
   Step = tripleOf 𝓤 H A step′.signature (step′.spec 𝓤 H A at-mem run)
+
+  abbrev Next : Contract 𝓤
+  Next = tripleOf 𝓤 H A next′.signature (next′.spec 𝓤 H A at-mem run)
 
   abbrev Store : Contract 𝓤
   Store = tripleOf 𝓤 H A store′.signature (store′.spec 𝓤 H A at-mem run)
@@ -129,7 +135,7 @@ module _ {M : Type 1} (𝓤 : URA M) (H : Heap 𝓤) (A : Atoms 𝓤) (W : Given
     Lent = ShrSlice (named 1) κ′ u8 .own d (dv ∷ [])
 
     module _ (gt : Is Tunings ts (tunings .val ts ∷ [])) (gs : Is Ts.the-row s (sides .val s ∷ [])) where
-      exits : (zs : List Slot) → length zs ≡ length ys → zs ≡ ans .world .slots → Is Tt.the-row (toldOf ans) (told .val (toldOf ans) ∷ [])
+      exits : (zs : List Slot) → length zs ≡ length ys → zs ≡ slotsOf ans → Is Tt.the-row (toldOf ans) (told .val (toldOf ans) ∷ [])
           → ent 𝓤 (⋆ 𝓤 H A (‵ (lentTo T.the-row κ γ b o zs (length ys)) ∷ ‵ (flft κ q) ∷ ‵ Lent ∷ ‵ (flft κ′ q′) ∷ [])) (Post (told .val (toldOf ans)))
       exits zs l e gr =
           qed W (‵ (lentTo T.the-row κ γ b o zs (length ys)) ∷ ‵ (flft κ q) ∷ ‵ Lent ∷ ‵ (flft κ′ q′) ∷ []) ∵
@@ -148,7 +154,7 @@ module _ {M : Type 1} (𝓤 : URA M) (H : Heap 𝓤) (A : Atoms 𝓤) (W : Given
           qed W (‵ (flft κ′ q′) ∷ ‵ Lent ∷ []) ∵ nothing ! $ move ! (2 ∷ 0 ∷ []) $ fjoin ! $ owned ! Ts.the-row (Is Ts.the-row) (sides .makes 𝓤 H A W) s _ gs $ fjoin ! $ owned ! Th.the-row (Is Th.the-row) (world .makes 𝓤 H A W) w _ gw $ fjoin ! $
           nothing ! $ move ! (2 ∷ 0 ∷ []) $ join ! $ join ! $ frame ! $ done !
 
-      module _ (𝓣 : Tables 𝓤 H) (known-load : Triple 𝓤 (𝓣 .C #lent·load) Load) (known-step : Triple 𝓤 (𝓣 .C #steps·step) Step) (known-store : Triple 𝓤 (𝓣 .C #lent·store) Store) (known-tell : Triple 𝓤 (𝓣 .C #lent·tell) Tell)
+      module _ (𝓣 : Tables 𝓤 H) (known-load : Triple 𝓤 (𝓣 .C #lent·load) Load) (known-step : Triple 𝓤 (𝓣 .C #steps·step) Step) (known-next : Triple 𝓤 (𝓣 .C #lent·next-world) Next) (known-store : Triple 𝓤 (𝓣 .C #lent·store) Store) (known-tell : Triple 𝓤 (𝓣 .C #lent·tell) Tell)
           (gn : Room T.the-row (length ys)) (gd : Room u8 (length (d .now))) where
         abbrev C : Calls 𝓤 H
         C = 𝓣 .C
@@ -175,20 +181,20 @@ module _ {M : Type 1} (𝓤 : URA M) (H : Heap 𝓤) (A : Atoms 𝓤) (W : Given
               split ! $ move ! (1 ∷ []) $ drop ! $ move ! (2 ∷ 3 ∷ 1 ∷ 0 ∷ []) $
               -- [what the slots own; their token; what the tiles own; their token; _1; _2; …; _12; _0; and that each local dies]
               land ! (from ! (stop !)) (init-as ! 9 (value stepped u f ga) refl (stepped .lawful 𝓤 H A W .typed a _ ga .0)) $
-              let gans = still-is stepped u f ga in
-              let parts = LL.owed Ta.the-type Ta′.the-laws ans _ gans in
-              assigns ! (of-opd ! (load ! (from ! (fld ! refl (stop !))) (look-in ! 9 (sub ! 1 refl (whole !))))) (from ! (stop !)) (init ! 10 refl (world .lawful 𝓤 H A W .typed (ans .world) _ (parts .1 .0) .0)) $
+              calls-plain ! (fmOf 𝓤 H (W .laws) 𝓣) Th.the-row Next known-next ((tt, tt, tt, (ans, tt), (stepped .val ans ∷ [], tt)), tt) (λ (h : World). h ≡ ans .world) (λ (ws : Unit {0} × Unit {0}). fsep ftrue ftrue)
+              (asks-plain 𝓤 H A W (arg stepped ans (still-is stepped u f ga) none) (id⊢ 𝓤 (emp 𝓤))) (λ v. id⊢ 𝓤 _) (and-then ! (load ! (from ! (stop !)) (look ! 10 refl)) (no-more !)) (λ v h g gh.
+              land ! (from ! (stop !)) (init-as ! 10 (value world v g gh) refl (world .lawful 𝓤 H A W .typed h _ gh .0)) $
               assigns ! (addr ! (from ! (fld ! refl (hop ! (look-in ! 4 (sub ! 0 refl (whole !))) (stop !))))) (from ! (stop !)) (init ! 14 refl (tt, tt)) $
               assigns ! (agg ! (and-then ! (load ! (from ! (stop !)) (look ! 14 refl)) (and-then ! (load ! (from ! (fld ! refl (stop !))) (look-in ! 4 (sub ! 1 refl (whole !)))) (no-more !)))) (from ! (stop !)) (init ! 15 refl (tt, (tt, (record { fits = gn .0 }, tt)))) $
-              calls-slice ! (fmOf 𝓤 H (W .laws) 𝓣) T.the-row Th.the-row unit tt world (λ zs h. fact 𝓤 (length zs ≡ seats)) (λ ls h _ zs. zs ≡ h .slots) known-store κ q γ b o ys gn (ans .world) (parts .1 .0) (factI 𝓤 (length ys ≡ seats) (emp 𝓤) all)
+              calls-slice ! (fmOf 𝓤 H (W .laws) 𝓣) T.the-row Th.the-row unit tt world (λ zs h. fact 𝓤 (length zs ≡ seats)) (λ ls h _ zs. zs ≡ h .slots) known-store κ q γ b o ys gn (ans .world) (still-is world v g gh) (factI 𝓤 (length ys ≡ seats) (emp 𝓤) all)
               (λ ν δ. and-then ! (load ! (from ! (stop !)) (look ! 15 refl)) (and-then ! (load ! (from ! (stop !)) (look ! 10 refl)) (no-more !))) (λ u′ _ zs l e gu.
               land ! (from ! (stop !)) (init ! 13 refl (of-unit .lawful 𝓤 H A W .typed tt _ gu .0)) $
               calls-plain ! (fmOf 𝓤 H (W .laws) 𝓣) Tt.the-row Tell known-tell ((tt, tt, tt, (ans, tt), (stepped .val ans ∷ [], tt)), tt) (λ (r : Told). r ≡ toldOf ans) (λ (ws : Unit {0} × Unit {0}). fsep ftrue ftrue)
-              (asks-plain 𝓤 H A W (arg stepped ans gans none) (id⊢ 𝓤 (emp 𝓤))) (λ v. id⊢ 𝓤 _) (and-then ! (load ! (from ! (stop !)) (look ! 10 refl)) (no-more !)) (λ v r f′ gr.
-              land ! (from ! (stop !)) (init-as ! 16 (value told v f′ gr) refl (told .lawful 𝓤 H A W .typed r _ gr .0)) $
+              (asks-plain 𝓤 H A W (arg stepped ans (still-is stepped u f ga) none) (id⊢ 𝓤 (emp 𝓤))) (λ v. id⊢ 𝓤 _) (and-then ! (load ! (from ! (stop !)) (look ! 10 refl)) (no-more !)) (λ v′ r f′ gr.
+              land ! (from ! (stop !)) (init-as ! 16 (value told v′ f′ gr) refl (told .lawful 𝓤 H A W .typed r _ gr .0)) $
               returns ! (look ! 16 refl) $ forget ! 4 refl $ forget ! 5 refl $ forget ! 6 refl $ forget ! 7 refl $ forget ! 8 refl $ forget ! 9 refl $ forget ! 10 refl $ forget ! 13 refl $ forget ! 14 refl $ forget ! 15 refl $ forget ! 16 refl $
               move ! (16 ∷ 17 ∷ []) $ free1 ! $ move ! (4 ∷ 16 ∷ []) $ free1 ! $ move ! (4 ∷ 15 ∷ []) $ free1 ! $ move ! (4 ∷ 14 ∷ []) $ free1 ! $ move ! (4 ∷ 13 ∷ []) $ free1 ! $ move ! (4 ∷ 12 ∷ []) $ free1 ! $ move ! (4 ∷ 11 ∷ []) $ free1 ! $ move ! (4 ∷ 10 ∷ []) $ free1 ! $ move ! (4 ∷ 9 ∷ []) $ free1 ! $ move ! (4 ∷ 8 ∷ []) $ free1 ! $ move ! (4 ∷ 7 ∷ []) $ free1 ! $ move ! (4 ∷ 6 ∷ []) $ free1 ! $ move ! (4 ∷ 5 ∷ []) $ free1 ! $ free0 ! $
-              by ! (exits zs l e (still-is told v f′ gr)))))))))
+              by ! (exits zs l e (still-is told v′ f′ gr))))))))))
 
         walk : ent 𝓤 (sep 𝓤 (onEntry 𝓤 H A lent′.signature (κ, (κ′, tt)) (q, (q′, tt)) x at) (fact 𝓤 (length ys ≡ seats))) (WpFn 𝓤 H C Λ code.function (sliceVal (b, o) (length ys) ∷ tunings .val ts ∷ sides .val s ∷ dv ∷ []) Post)
         walk =
@@ -208,14 +214,14 @@ module _ {M : Type 1} (𝓤 : URA M) (H : Heap 𝓤) (A : Atoms 𝓤) (W : Given
             rewrite ! 0 (λ (us : List Slot). ‵ (lentTo T.the-row κ γ b o us (length ys))) (e .1) refl $ forget ! 8 refl $ forget ! 10 refl $
             keep ! (0 ∷ 1 ∷ 28 ∷ 29 ∷ 24 ∷ 22 ∷ 20 ∷ 18 ∷ 16 ∷ 14 ∷ 12 ∷ 10 ∷ 8 ∷ 6 ∷ 4 ∷ 2 ∷ 26 ∷ 27 ∷ 25 ∷ 23 ∷ 21 ∷ 19 ∷ 17 ∷ 15 ∷ 13 ∷ 11 ∷ 9 ∷ 7 ∷ 5 ∷ 3 ∷ []) $ loaded all l₀ l₁ l₂ l₃ l₄ l₅ l₆ l₇ l₈ l₉ l₁₀ l₁₁ l₁₂ (still-is world v (e .0) is))))))))))))))))
 
-  lent-meets : (𝓣 : Tables 𝓤 H) → Triple 𝓤 (𝓣 .C #lent·load) Load → Triple 𝓤 (𝓣 .C #steps·step) Step → Triple 𝓤 (𝓣 .C #lent·store) Store → Triple 𝓤 (𝓣 .C #lent·tell) Tell
+  lent-meets : (𝓣 : Tables 𝓤 H) → Triple 𝓤 (𝓣 .C #lent·load) Load → Triple 𝓤 (𝓣 .C #steps·step) Step → Triple 𝓤 (𝓣 .C #lent·next-world) Next → Triple 𝓤 (𝓣 .C #lent·store) Store → Triple 𝓤 (𝓣 .C #lent·tell) Tell
       → Meets 𝓤 H A lent′.signature (WpFn 𝓤 H (𝓣 .C) (𝓣 .Λ) code.function) (lent′.spec 𝓤 H A at-mem run)
-  lent-meets 𝓣 known-load known-step known-store known-tell =
+  lent-meets 𝓣 known-load known-step known-next known-store known-tell =
       walk-meets 𝓤 H A lent′.ended stayed W (goes-slice 𝓤 H A W 2 0 tt (plain (λ _. T.the-row)), (goes-none 𝓤 H A W 2 (λ _. Tunings) yes (λ κs x f. refl), (goes-none 𝓤 H A W 2 (λ _. Ts.the-row) yes (λ κs x f. refl), (goes-none-slice 𝓤 H A W 2 (1 ∷ []) tt (plain (λ _. u8)) yes, tt)))) (lent′.clauses 𝓤 H A at-mem run)
       (WpFn 𝓤 H (𝓣 .C) (𝓣 .Λ) code.function) (WpFn-mono 𝓤 H (W .laws) 𝓣 code.function)
       (walked 𝓤 H A lent′.ended stayed (lent′.clauses 𝓤 H A at-mem run) (WpFn 𝓤 H (𝓣 .C) (𝓣 .Λ) code.function) (λ κs. (slice-vals, ((λ us. tunings .val us ∷ []), ((λ p. sides .val p ∷ []), (slice-vals, tt)))))
       (λ κs. (mut-slice-tells (named 0) (κs .0) T.the-row, (tunings .tells, (sides .tells, (shr-slice-tells (named 1) (κs .1 .0) u8, tt)))))
-      (λ κs qs bounds a g are. walk (κs .0) (κs .1 .0) (qs .0) (qs .1 .0) (a .0 .ptr .0) (a .0 .ptr .1) (a .0 .name) (a .0 .now) (a .1 .0) (a .1 .1 .0) (a .1 .1 .1 .0) (are .1 .0) (are .1 .1 .0) 𝓣 known-load known-step known-store known-tell (are .0 .0 .1) (are .1 .1 .1 .0 .0 .1)))
+      (λ κs qs bounds a g are. walk (κs .0) (κs .1 .0) (qs .0) (qs .1 .0) (a .0 .ptr .0) (a .0 .ptr .1) (a .0 .name) (a .0 .now) (a .1 .0) (a .1 .1 .0) (a .1 .1 .1 .0) (are .1 .0) (are .1 .1 .0) 𝓣 known-load known-step known-next known-store known-tell (are .0 .0 .1) (are .1 .1 .1 .0 .0 .1)))
 
 pub step-lent-spec : {M : Type 1} → stated.statement M
 unfolding code.routine tablesOf
@@ -225,5 +231,6 @@ step-lent-spec 𝓤 H 𝓜 𝓖 𝓡 =
     (lent-meets 𝓤 H (𝓖 .A) (givenOf 𝓤 H 𝓜 𝓖) (𝓜 .mem) (𝓡 .run) (tablesOf 𝓤 H 𝓜 (tables 𝓤 H 𝓜 𝓡 code.env))
     (cited 𝓤 H (Load 𝓤 H (𝓖 .A) (givenOf 𝓤 H 𝓜 𝓖) (𝓜 .mem) (𝓡 .run)) 𝓜 𝓡 code.env #lent·load load′-def.routine code.calls-lent·load (load′-thm.met 𝓤 H 𝓜 𝓖 𝓡))
     (cited 𝓤 H (Step 𝓤 H (𝓖 .A) (givenOf 𝓤 H 𝓜 𝓖) (𝓜 .mem) (𝓡 .run)) 𝓜 𝓡 code.env #steps·step step′-def.routine code.calls-steps·step (step′-thm.met 𝓤 H 𝓜 𝓖 𝓡))
+    (cited 𝓤 H (Next 𝓤 H (𝓖 .A) (givenOf 𝓤 H 𝓜 𝓖) (𝓜 .mem) (𝓡 .run)) 𝓜 𝓡 code.env #lent·next-world next′-def.routine code.calls-lent·next-world (next′-thm.met 𝓤 H 𝓜 𝓖 𝓡))
     (cited 𝓤 H (Store 𝓤 H (𝓖 .A) (givenOf 𝓤 H 𝓜 𝓖) (𝓜 .mem) (𝓡 .run)) 𝓜 𝓡 code.env #lent·store store′-def.routine code.calls-lent·store (store′-thm.met 𝓤 H 𝓜 𝓖 𝓡))
     (cited 𝓤 H (Tell 𝓤 H (𝓖 .A) (givenOf 𝓤 H 𝓜 𝓖) (𝓜 .mem) (𝓡 .run)) 𝓜 𝓡 code.env #lent·tell tell′-def.routine code.calls-lent·tell (tell′-thm.met 𝓤 H 𝓜 𝓖 𝓡)))
