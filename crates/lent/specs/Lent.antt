@@ -23,14 +23,14 @@ lentStep ss ts s tiles = step seats (worldOf ss ts) s tiles
 abbrev pub toldOf : Stepped → Told
 toldOf a = record { number = a .number; records = a .records }
 
--- what a step leaves in the slice
-abbrev pub slotsOf : Stepped → List Slot
-slotsOf a = a .world .slots
+-- the slots that the step leaves
+abbrev pub slotsLeft : List Slot → List ℤ → Sides → List ℕ → List Slot
+slotsLeft ss ts s tiles = lentStep ss ts s tiles .world .slots
 
 -- a refusal leaves every slot as it was
 abbrev pub RefusalLeaves : Type 0
-RefusalLeaves = (ss : List Slot) (ts : List ℤ) (s : Sides) (tiles : List ℕ) → (toldOf (lentStep ss ts s tiles) .number ≡ 0 → ⊥) → slotsOf (lentStep ss ts s tiles) ≡ ss
+RefusalLeaves = (ss : List Slot) (ts : List ℤ) (s : Sides) (tiles : List ℕ) → (toldOf (lentStep ss ts s tiles) .number ≡ 0 → ⊥) → slotsLeft ss ts s tiles ≡ ss
 
 -- the slots that a step leaves and the same tunings make the world that it leaves
 abbrev pub TuningsStay : Type 0
-TuningsStay = (ss : List Slot) (ts : List ℤ) (s : Sides) (tiles : List ℕ) → worldOf (slotsOf (lentStep ss ts s tiles)) ts ≡ lentStep ss ts s tiles .world
+TuningsStay = (ss : List Slot) (ts : List ℤ) (s : Sides) (tiles : List ℕ) → worldOf (slotsLeft ss ts s tiles) ts ≡ lentStep ss ts s tiles .world

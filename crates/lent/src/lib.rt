@@ -13,7 +13,7 @@ ghost use lib.ListN.{length};
 ghost use Prim.Native.Nat.{_<_};
 ghost use Rattle.character.specs.Tick.{seats, slotAt};
 ghost use Rattle.world.specs.World.{withSlot};
-ghost use Rattle.lent.specs.Lent.{worldOf, lentStep, toldOf, slotsOf};
+ghost use Rattle.lent.specs.Lent.{worldOf, lentStep, toldOf, slotsLeft};
 
 // What a step over lent slots answers: the next slots stand in the slice.
 pub struct Told {
@@ -30,19 +30,20 @@ fn unread(tunings: [i32; TUNINGS]) -> World
     world
 }
 
-fn with_slot(mut world: World, at: usize, slot: Slot) -> World
-    requires { ⌜ at < seats ⌝ }
-    ensures { λ r. ⌜ r ≡ withSlot world at slot ⌝ }
+fn with_slot(mut world: World, id: usize, slot: Slot) -> World
+    requires { ⌜ id < seats ⌝ }
+    ensures { λ r. ⌜ r ≡ withSlot world id slot ⌝ }
 {
-    world.slots[at] = slot;
+    world.slots[id] = slot;
     world
 }
 
-fn slot_at(world: World, at: usize) -> Slot
-    requires { ⌜ at < seats ⌝ }
-    ensures { λ r. ⌜ r ≡ slotAt (world .slots) at ⌝ }
+fn slot_at(world: World, id: usize) -> Slot
+    requires { ⌜ id < seats ⌝ }
+    ensures { λ r. ⌜ r ≡ slotAt (world .slots) id ⌝ }
 {
-    world.slots[at]
+    let slots = world.slots;
+    slots[id]
 }
 
 fn next_world(stepped: Stepped) -> World
@@ -89,7 +90,7 @@ fn store(slots: &mut [Slot], world: World)
 // The step of a world, on lent slots.
 pub fn step_lent(slots: &mut [Slot], tunings: [i32; TUNINGS], sides: Sides, tiles: &[u8]) -> Told
     requires { ⌜ length (now slots) ≡ seats ⌝ }
-    ensures { λ r. ⌜ (r ≡ toldOf (lentStep (now (slots .entry)) tunings sides (now (tiles .entry)))) × (now (slots .exit) ≡ slotsOf (lentStep (now (slots .entry)) tunings sides (now (tiles .entry)))) ⌝ }
+    ensures { λ r. ⌜ (r ≡ toldOf (lentStep (now (slots .entry)) tunings sides (now (tiles .entry)))) × (now (slots .exit) ≡ slotsLeft (now (slots .entry)) tunings sides (now (tiles .entry))) ⌝ }
 {
     let world = load(&mut *slots, tunings);
     let stepped = step(world, sides, tiles);

@@ -50,7 +50,7 @@ use Rattle.world.proofs.World.Laws as Th′
 use Rattle.walks.proofs.LentCall.{lentTo}
 use Rattle.walks.proofs.SliceFn.{calls-slice}
 use Rattle.walks.proofs.Plainly.{of-unit, value, still-is, init-as, none, arg, asks-plain, calls-plain}
-use Rattle.lent.specs.Lent.{worldOf, lentStep, toldOf, slotsOf}
+use Rattle.lent.specs.Lent.{worldOf, lentStep, toldOf, slotsLeft}
 use Rattle.lent.specs.declared.Told.{Told}
 use Rattle.lent.proofs.Told as Tt
 use Rattle.lent.proofs.Told.Laws as Tt′
@@ -135,7 +135,7 @@ module _ {M : Type 1} (𝓤 : URA M) (H : Heap 𝓤) (A : Atoms 𝓤) (W : Given
     Lent = ShrSlice (named 1) κ′ u8 .own d (dv ∷ [])
 
     module _ (gt : Is Tunings ts (tunings .val ts ∷ [])) (gs : Is Ts.the-row s (sides .val s ∷ [])) where
-      exits : (zs : List Slot) → length zs ≡ length ys → zs ≡ slotsOf ans → Is Tt.the-row (toldOf ans) (told .val (toldOf ans) ∷ [])
+      exits : (zs : List Slot) → length zs ≡ length ys → zs ≡ slotsLeft ys ts s (now d) → Is Tt.the-row (toldOf ans) (told .val (toldOf ans) ∷ [])
           → ent 𝓤 (⋆ 𝓤 H A (‵ (lentTo T.the-row κ γ b o zs (length ys)) ∷ ‵ (flft κ q) ∷ ‵ Lent ∷ ‵ (flft κ′ q′) ∷ [])) (Post (told .val (toldOf ans)))
       exits zs l e gr =
           qed W (‵ (lentTo T.the-row κ γ b o zs (length ys)) ∷ ‵ (flft κ q) ∷ ‵ Lent ∷ ‵ (flft κ′ q′) ∷ []) ∵
