@@ -1,6 +1,6 @@
 //! That the texts are what they are meant to be.
 
-use crate::{GAMES, Text, drawn, faults, recorded};
+use crate::{GAMES, Text, drawn, faults, recorded, timed};
 use session::{MOST_BYTES, run};
 use std::collections::BTreeSet;
 
@@ -101,4 +101,12 @@ fn a_seed_gives_the_same_texts_again() {
     }
     assert_ne!(drawn(1, 0).bytes, drawn(2, 0).bytes);
     assert_ne!(drawn(1, 0).bytes, drawn(1, 26).bytes);
+}
+
+#[test]
+fn timed_texts_are_long_and_not_at_fault() {
+    for text in timed() {
+        assert!((64_900..=65_000).contains(&text.bytes.len()));
+        assert!(!is_at_fault(&text));
+    }
 }
