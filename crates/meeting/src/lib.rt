@@ -124,6 +124,12 @@ pub fn meet(
 pub fn touches(p: vec2, q: vec2) -> bool
     ensures { λ r. ⌜ r ≡ touches p q ⌝ }
 {
-    let d = vec2::distance(p, q);
+    let way = q.sub(p);
+    let square = vec2::dot(way, way);
+    // Most are far: a comparison spares the root.
+    if 784.0 <= square {
+        return false;
+    }
+    let d = root::root(square);
     0.0 < d && d < 28.0
 }

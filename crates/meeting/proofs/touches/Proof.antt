@@ -1,19 +1,46 @@
 -- `meeting::touches` meets its contract. Assumes nothing.
+use mathlib.Core.Path.{_≡_, sym, ap, _∙_, subst}
+use lib.Dec.{T}
+use lib.Ieee.{Float, binary32, le}
 use borrow.Author.Needs.{needs}
+use Rattle.root.specs.Root.{root}
+use Rattle.vector.specs.declared.vec2.{vec2}
+use Rattle.vector.specs.Vec2.{vdot, vdistance}
 use Rattle.meeting.specs.Meeting.{touches}
+use Rattle.meeting.proofs.Far.{c784, square, distance-is, far}
 use Rattle.meeting.proofs.touches.Statement.{statement}
 use Rattle.meeting.proofs.touches.Tie as tie
 
-distance-requires : tie.Need-distance-requires
-distance-requires c κs = search needs
+sub-requires : tie.Need-sub-requires
+sub-requires c κs = search needs
+
+dot-requires : tie.Need-dot-requires
+dot-requires c κs = search needs
 
 returns : tie.Need-returns
-unfolding touches
-returns c = simp (← c .before .distance .ensures, c .if1 .taken)
+returns c =
+    let a = c .before .before .before .args in
+    let e : c .before .dot .result ≡ square (a .p) (a .q) = c .before .dot .ensures ∙ ap (λ (v : vec2). vdot v v) (c .before .before .sub .ensures) in
+    far (a .p) (a .q) (subst (λ (x : Float). T (le c784 x)) e (subst T (sym (c .if1 .taken)) tt))
+
+root-requires : tie.Need-root-requires
+root-requires c κs = search needs
 
 returns-2 : tie.Need-returns-2
 unfolding touches
-returns-2 c = simp (← c .before .distance .ensures, c .if1 .left)
+returns-2 c =
+    let b = c .before .before .before in
+    let a = b .before .before .args in
+    let d : c .before .root .result ≡ vdistance (a .p) (a .q) = c .before .root .ensures ∙ ap (root binary32) (b .dot .ensures ∙ ap (λ (v : vec2). vdot v v) (b .before .sub .ensures)) ∙ distance-is (a .p) (a .q) in
+    simp (← d, c .if2 .taken)
+
+returns-3 : tie.Need-returns-3
+unfolding touches
+returns-3 c =
+    let b = c .before .before .before in
+    let a = b .before .before .args in
+    let d : c .before .root .result ≡ vdistance (a .p) (a .q) = c .before .root .ensures ∙ ap (root binary32) (b .dot .ensures ∙ ap (λ (v : vec2). vdot v v) (b .before .sub .ensures)) ∙ distance-is (a .p) (a .q) in
+    simp (← d, c .if2 .left)
 
 pub touches-spec : {M : Type 1} → statement M
-touches-spec = tie.close (tie.spec distance-requires returns returns-2)
+touches-spec = tie.close (tie.spec sub-requires dot-requires returns root-requires returns-2 returns-3)
