@@ -10,10 +10,10 @@ use lib.Ieee.Fits.{add-fits}
 use borrow.Author.Tests.{le-ltb}
 use Rattle.root.specs.Root.{root, rootOf, isqrt}
 use Rattle.root.proofs.Monotone.{root-mono}
-use Rattle.number.specs.Number.{c0}
+use Rattle.number.specs.Number.{c0, c28}
 use Rattle.vector.specs.declared.vec2.{vec2}
 use Rattle.vector.specs.Vec2.{vsub, vdot, vlength, vdistance}
-use Rattle.meeting.specs.Meeting.{c28, touches}
+use Rattle.meeting.specs.Meeting.{touches}
 
 abbrev pub c784 : Float
 c784 = ofBits binary32 0x4444_0000
