@@ -1,4 +1,6 @@
 -- The types of the functions that are proved by hand, as their walks take them. Assumes nothing.
+-- T is the type of a slot, Th of a world, Ta of what a step answers, Tt of what is told of it, Ts of the sides; with a prime, its laws.
+use Prim.Native.Nat.{ℕ}
 use mir.Syntax.{Ty, named, erased, mut, imm, w8, w32, tyInt, tyRef, tyArray}
 use denote.Array.{Array}
 use denote.Builtin.{i32}
@@ -19,6 +21,10 @@ use Rattle.lent.proofs.Told.Laws as Tt′
 
 abbrev pub slot : Plainly T.the-row
 slot = of-declared T.the-type T′.the-laws T′.the-plain
+
+-- how many bytes a slot takes
+abbrev pub slot-size : ℕ
+slot-size = 72
 
 abbrev pub world : Plainly Th.the-row
 world = of-declared Th.the-type Th′.the-laws Th′.the-plain

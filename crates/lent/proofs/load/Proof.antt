@@ -41,7 +41,7 @@ use Rattle.character.proofs.Slot as T
 use Rattle.character.proofs.Slot.Laws as T′
 use Rattle.world.proofs.World as Th
 use Rattle.world.proofs.World.Laws as Th′
-use Rattle.character.specs.Tick.{nowhere}
+use Rattle.character.specs.Tick.{seats, nowhere}
 use Rattle.world.specs.World.{withSlot}
 use Rattle.lent.specs.Lent.{worldOf}
 use Rattle.walks.proofs.Counted.{counted}
@@ -49,7 +49,7 @@ use Rattle.walks.proofs.Filled.{filled, filled-all}
 use Rattle.walks.proofs.LentCall.{lentTo}
 use Rattle.walks.proofs.SliceFn.{postOf, takes-slice, gives-slice, ends-slice, slice-meets}
 use Rattle.walks.proofs.Plainly.{of-uint, value, still-is, init-as, store-as, none, arg, asks-plain, calls-plain}
-use Rattle.lent.proofs.Shapes.{slot, world, Tunings, tunings, tuned, slice}
+use Rattle.lent.proofs.Shapes.{slot, slot-size, world, Tunings, tunings, tuned, slice}
 use Rattle.lent.proofs.unread as unread
 use Rattle.lent.proofs.unread.Symbol as unread-def
 use Rattle.lent.proofs.unread.Symbol.{name as #lent·unread}
@@ -65,7 +65,7 @@ use Rattle.lent.proofs.load.Code as code
 use Rattle.lent.proofs.load.Code.Mir as mir′
 
 abbrev rq : {M : Type 1} (𝓤 : URA M) → List Slot → List ℤ → SProp 𝓤
-rq 𝓤 ys ts = fact 𝓤 (length ys ≡ 16)
+rq 𝓤 ys ts = fact 𝓤 (length ys ≡ seats)
 
 abbrev ens : List Slot → List ℤ → World → List Slot → Type 0
 ens ys ts r zs = (r ≡ worldOf ys ts) × (zs ≡ ys)
@@ -92,7 +92,7 @@ module _ {M : Type 1} (𝓤 : URA M) (H : Heap 𝓤) (A : Atoms 𝓤) (W : Given
     abbrev Wd : List Slot → ℕ → World
     Wd xs i = worldOf (filled nowhere xs ys i) ts
 
-    module _ (all : length ys ≡ 16) (xs : List Slot) (long : length xs ≡ 16) (l₀ l₁ l₂ l₃ l₄ l₅ l₆ l₇ l₈ : ℕ) where
+    module _ (all : length ys ≡ seats) (xs : List Slot) (long : length xs ≡ seats) (l₀ l₁ l₂ l₃ l₄ l₅ l₆ l₇ l₈ : ℕ) where
       abbrev En : Env 𝓤 H
       En = (Th′.mir, l₀) ∷ (slice, l₁) ∷ (tuned, l₂) ∷ (Th′.mir, l₃) ∷ ((tyInt w64), l₄) ∷ (tyBool, l₅) ∷ ((tyInt w64), l₆) ∷ (tyPtr, l₇) ∷ (T′.mir, l₈) ∷ []
 
@@ -109,13 +109,13 @@ module _ {M : Type 1} (𝓤 : URA M) (H : Heap 𝓤) (A : Atoms 𝓤) (W : Given
       Left = afterBlock 𝓤 H (afterSeq 𝓤 H (Wp 𝓤 H C Λ En mir′.t-4 (atReturn 𝓤 H En Post)) (atReturn 𝓤 H En Post))
 
       -- a turn that reads one element
-      more : (i : ℕ) (X : SProp 𝓤) → i < 16 → ent 𝓤 (⋆ 𝓤 H A (At (suc i))) X → ent 𝓤 (⋆ 𝓤 H A (At i)) (Wp 𝓤 H C Λ En mir′.turn-1 (afterTurn 𝓤 H X Left))
+      more : (i : ℕ) (X : SProp 𝓤) → i < seats → ent 𝓤 (⋆ 𝓤 H A (At (suc i))) X → ent 𝓤 (⋆ 𝓤 H A (At i)) (Wp 𝓤 H C Λ En mir′.turn-1 (afterTurn 𝓤 H X Left))
       unfolding afterTurn filled
       more i X small k =
           qed W (At i) ∵ exec ! C Λ En mir′.turn-1 (anyQ (afterTurn 𝓤 H X Left)) $
-          assigns ! (bin ! (load ! (from ! (stop !)) (look ! 6 refl)) (lit ! tt) tt) (from ! (stop !)) (init ! 7 refl (tt, tt)) $ rewrite ! 7 (λ (t : Bool). ‵ (fat fullShare tyBool l₅ 0 (vbool t))) (lt-ltb i 16 small) refl $ stays ! (load ! (from ! (stop !)) (look ! 7 refl)) $
+          assigns ! (bin ! (load ! (from ! (stop !)) (look ! 6 refl)) (lit ! tt) tt) (from ! (stop !)) (init ! 7 refl (tt, tt)) $ rewrite ! 7 (λ (t : Bool). ‵ (fat fullShare tyBool l₅ 0 (vbool t))) (lt-ltb i seats small) refl $ stays ! (load ! (from ! (stop !)) (look ! 7 refl)) $
           assigns ! (bin ! (load ! (from ! (stop !)) (look ! 6 refl)) (lit ! tt) far) (from ! (stop !)) (init ! 8 refl (tt, far)) $
-          assigns ! (bin ! (load ! (from ! (fld ! refl (stop !))) (look-in ! 11 (sub ! 0 refl (whole !)))) (load ! (from ! (stop !)) (look ! 8 refl)) tt) (from ! (stop !)) (init ! 9 refl (tt, tt)) $ rewrite ! 9 (λ (p : ℕ). ‵ (fat fullShare tyPtr l₇ 0 (vptr b p))) (sym (place-is 72 o i)) refl $
+          assigns ! (bin ! (load ! (from ! (fld ! refl (stop !))) (look-in ! 11 (sub ! 0 refl (whole !)))) (load ! (from ! (stop !)) (look ! 8 refl)) tt) (from ! (stop !)) (init ! 9 refl (tt, tt)) $ rewrite ! 9 (λ (p : ℕ). ‵ (fat fullShare tyPtr l₇ 0 (vptr b p))) (sym (place-is slot-size o i)) refl $
           elem-out ! T.the-row (Is T.the-row) (shows 𝓤 H A T.the-row) (λ s. slot .val s ∷ []) (slot .tells) fullShare ys i nowhere b o within (λ gc.
           -- [s[i]; what it owns; the others; the open borrow; obs; auth; _3; what it owns; _4; _5; …; _8; …]
           assigns ! (of-opd ! (load ! (from ! (hop ! (look ! 11 refl) (stop !))) (look-raw ! 0 refl))) (from ! (stop !)) (init ! 12 refl (slot .lawful 𝓤 H A W .typed c _ gc .0)) $ elem-back ! T.the-row fullShare ys i nowhere (slot .val c ∷ []) b o within $
@@ -123,7 +123,7 @@ module _ {M : Type 1} (𝓤 : URA M) (H : Heap 𝓤) (A : Atoms 𝓤) (W : Given
           -- [the row; …; auth; _3; _4; …; _8; …]
           let given = arg world (Wd xs i) gh (arg (of-uint w64) i (refl, i-fits .fits) (arg slot c gc none)) in
           calls-plain ! (fmOf 𝓤 H (W .laws) 𝓣) Th.the-row With known-with ((tt, tt, tt, (Wd xs i, (i, (c, tt))), (world .val (Wd xs i) ∷ [], (vint w64 i ∷ [], (slot .val c ∷ [], tt)))), tt) (λ (r : World). r ≡ withSlot (Wd xs i) i c)
-          (λ (ws : Unit {0} × (Unit {0} × (Unit {0} × Unit {0}))). fsep ftrue (fsep ftrue (fsep ftrue ftrue))) (asks-plain 𝓤 H A W given (factI 𝓤 (i < 16) (emp 𝓤) small)) (λ v. id⊢ 𝓤 _) (and-then ! (load ! (from ! (stop !)) (look ! 5 refl)) (and-then ! (load ! (from ! (stop !)) (look ! 6 refl)) (and-then ! (load ! (from ! (stop !)) (look ! 10 refl)) (no-more !)))) (λ v r e is.
+          (λ (ws : Unit {0} × (Unit {0} × (Unit {0} × Unit {0}))). fsep ftrue (fsep ftrue (fsep ftrue ftrue))) (asks-plain 𝓤 H A W given (factI 𝓤 (i < seats) (emp 𝓤) small)) (λ v. id⊢ 𝓤 _) (and-then ! (load ! (from ! (stop !)) (look ! 5 refl)) (and-then ! (load ! (from ! (stop !)) (look ! 6 refl)) (and-then ! (load ! (from ! (stop !)) (look ! 10 refl)) (no-more !)))) (λ v r e is.
           land ! (from ! (stop !)) (store-as ! 4 (value world v e is) refl (world .lawful 𝓤 H A W .typed r _ is .0)) $ owned ! Th.the-row (Is Th.the-row) (world .makes 𝓤 H A W) (Wd xs (suc i)) _ (still-is world v e is) $ move ! (1 ∷ 2 ∷ 3 ∷ 4 ∷ 5 ∷ 0 ∷ []) $
           assigns-last ! (bin ! (load ! (from ! (stop !)) (look ! 6 refl)) (lit ! tt) next) (from ! (stop !)) (store ! 6 refl (tt, next)) $ forget ! 7 refl $ forget ! 8 refl $ forget ! 9 refl $ forget ! 10 refl $
           rewrite ! 6 (λ (j : ℕ). ‵ (fat fullShare (tyInt w64) l₄ 0 (vint w64 j))) (add-one i) refl $ by ! k)))
@@ -134,8 +134,8 @@ module _ {M : Type 1} (𝓤 : URA M) (H : Heap 𝓤) (A : Atoms 𝓤) (W : Given
           within : i < length ys
           within = subst (λ (m : ℕ). i < m) (sym all) small
 
-          far : Fits w64 (i * 72)
-          far = scaled-fits i (length ys) 72 within (gn .1)
+          far : Fits w64 (i * slot-size)
+          far = scaled-fits i (length ys) slot-size within (gn .1)
 
           i-fits : Fits w64 i
           i-fits = omega arith
@@ -144,34 +144,34 @@ module _ {M : Type 1} (𝓤 : URA M) (H : Heap 𝓤) (A : Atoms 𝓤) (W : Given
           next = omega arith
 
       -- the turn that leaves the loop, and the rest of the body
-      ends : (X : SProp 𝓤) → ent 𝓤 (⋆ 𝓤 H A (At 16)) (Wp 𝓤 H C Λ En mir′.turn-1 (afterTurn 𝓤 H X Left))
+      ends : (X : SProp 𝓤) → ent 𝓤 (⋆ 𝓤 H A (At seats)) (Wp 𝓤 H C Λ En mir′.turn-1 (afterTurn 𝓤 H X Left))
       unfolding afterTurn
       ends X =
-          qed W (At 16) ∵ exec ! C Λ En mir′.turn-1 (anyQ (afterTurn 𝓤 H X Left)) $
+          qed W (At seats) ∵ exec ! C Λ En mir′.turn-1 (anyQ (afterTurn 𝓤 H X Left)) $
           assigns ! (bin ! (load ! (from ! (stop !)) (look ! 6 refl)) (lit ! tt) tt) (from ! (stop !)) (init ! 7 refl (tt, tt)) $ leaves-loop ! (load ! (from ! (stop !)) (look ! 7 refl)) $ exec ! C Λ En mir′.t-4 (atRet En Post) $
-          move ! (5 ∷ []) $ facts ! Th.the-row (Is Th.the-row) (shows 𝓤 H A Th.the-row) (Wd xs 16) (world .val (Wd xs 16) ∷ []) (λ gh.
-          assigns ! (of-opd ! (load ! (from ! (stop !)) (look ! 4 refl))) (from ! (stop !)) (init ! 12 refl (world .lawful 𝓤 H A W .typed (Wd xs 16) _ gh .0)) $ gives-slice ! tt T.the-row ys ys refl gn b o $
+          move ! (5 ∷ []) $ facts ! Th.the-row (Is Th.the-row) (shows 𝓤 H A Th.the-row) (Wd xs seats) (world .val (Wd xs seats) ∷ []) (λ gh.
+          assigns ! (of-opd ! (load ! (from ! (stop !)) (look ! 4 refl))) (from ! (stop !)) (init ! 12 refl (world .lawful 𝓤 H A W .typed (Wd xs seats) _ gh .0)) $ gives-slice ! tt T.the-row ys ys refl gn b o $
           -- [what the slice owns; the token; _3; _4; …; _8; _1; _2; _0; and that each local dies]
           returns ! (look ! 10 refl) $ forget ! 2 refl $ forget ! 3 refl $ forget ! 4 refl $ forget ! 8 refl $ forget ! 9 refl $ forget ! 10 refl $
           move ! (10 ∷ 11 ∷ []) $ free1 ! $ move ! (8 ∷ 10 ∷ []) $ free1 ! $ move ! (8 ∷ 9 ∷ []) $ free1 ! $ move ! (2 ∷ 8 ∷ []) $ free1 ! $ move ! (2 ∷ 7 ∷ []) $ free1 ! $ move ! (2 ∷ 6 ∷ []) $ free1 ! $ move ! (2 ∷ 5 ∷ []) $ free1 ! $ move ! (2 ∷ 4 ∷ []) $ free1 ! $ move ! (2 ∷ 3 ∷ []) $ free1 ! $ free0 ! $
-          by ! (ends-slice T.the-row Tunings Th.the-row tt 𝓤 H A (rq 𝓤) ens tunings W κ q b o γ ys ts gt world (world .val (Wd xs 16)) (Wd xs 16) ys gh refl (ap (λ (zs : List Slot). worldOf zs ts) (filled-all nowhere 16 xs ys long all), refl)))
+          by ! (ends-slice T.the-row Tunings Th.the-row tt 𝓤 H A (rq 𝓤) ens tunings W κ q b o γ ys ts gt world (world .val (Wd xs seats)) (Wd xs seats) ys gh refl (ap (λ (zs : List Slot). worldOf zs ts) (filled-all nowhere seats xs ys long all), refl)))
 
       -- from the loop on. The context is written out, since to compare it inside `walk` takes too many steps
       opened : Is Th.the-row (Wd xs 0) (world .val (Wd xs 0) ∷ []) → Sq W (‵ (lentTo T.the-row κ γ b o ys (length ys)) ∷ ‵ (flft κ q) ∷ ‵ (fat fullShare Th′.mir l₃ 0 (world .val (Wd xs 0))) ∷ ‵ (fat fullShare (tyInt w64) l₄ 0 (vint w64 0)) ∷ ‵ (froom tyBool l₅ 0) ∷ ‵ (froom (tyInt w64) l₆ 0) ∷ ‵ (froom tyPtr l₇ 0) ∷ ‵ (froom T′.mir l₈ 0) ∷ Frame)
           (runs C Λ En mir′.t-3 (atRet En Post))
-      opened gw = owned ! Th.the-row (Is Th.the-row) (world .makes 𝓤 H A W) (Wd xs 0) _ gw $ move ! (1 ∷ 2 ∷ 3 ∷ 0 ∷ []) $ takes-slice ! tt T.the-row ys b o $ by ! (counted 𝓤 H A W 𝓣 16 At En mir′.turn-1 Left more ends)
+      opened gw = owned ! Th.the-row (Is Th.the-row) (world .makes 𝓤 H A W) (Wd xs 0) _ gw $ move ! (1 ∷ 2 ∷ 3 ∷ 0 ∷ []) $ takes-slice ! tt T.the-row ys b o $ by ! (counted 𝓤 H A W 𝓣 seats At En mir′.turn-1 Left more ends)
 
-    first-world : (r : World) → (length (r .slots) ≡ 16) × (r .tunings ≡ ts) → r ≡ Wd (r .slots) 0
+    first-world : (r : World) → (length (r .slots) ≡ seats) × (r .tunings ≡ ts) → r ≡ Wd (r .slots) 0
     unfolding filled
     first-world r e i = record { slots = r .slots; tunings = e .1 i }
 
     walk : ent 𝓤 (⋆ 𝓤 H A (‵ (lentTo T.the-row κ γ b o ys (length ys)) ∷ ‵ (flft κ q) ∷ raw (rq 𝓤 ys ts) ∷ [])) (WpFn 𝓤 H C Λ code.function (sliceVal (b, o) (length ys) ∷ tunings .val ts ∷ []) Post)
     walk =
-        qed W (‵ (lentTo T.the-row κ γ b o ys (length ys)) ∷ ‵ (flft κ q) ∷ raw (rq 𝓤 ys ts) ∷ []) ∵ move ! (2 ∷ []) $ heard ! (length ys ≡ 16) (λ all. enter ! C Λ code.function (sliceVal (b, o) (length ys) ∷ tunings .val ts ∷ []) _ $
+        qed W (‵ (lentTo T.the-row κ γ b o ys (length ys)) ∷ ‵ (flft κ q) ∷ raw (rq 𝓤 ys ts) ∷ []) ∵ move ! (2 ∷ []) $ heard ! (length ys ≡ seats) (λ all. enter ! C Λ code.function (sliceVal (b, o) (length ys) ∷ tunings .val ts ∷ []) _ $
         alloc1 ! (λ l₀. alloc1 ! (λ l₁. alloc1 ! (λ l₂. alloc1 ! (λ l₃. alloc1 ! (λ l₄. alloc1 ! (λ l₅. alloc1 ! (λ l₆. alloc1 ! (λ l₇. alloc1 ! (λ l₈. alloc0 ! $ params1 ! $
         pass1 ! (init ! 14 refl (tt, (tt, (record { fits = gn .0 }, tt)))) $ pass1 ! (init ! 12 refl (tunings .lawful 𝓤 H A W .typed ts _ gt .0)) $ pass0 ! $
         -- [_8; …; _7; …; … ; _0; …; what the slice owns; the token]
-        calls-plain ! (fmOf 𝓤 H (W .laws) 𝓣) Th.the-row Unread known-unread ((tt, tt, tt, (ts, tt), (tunings .val ts ∷ [], tt)), tt) (λ (r : World). (length (r .slots) ≡ 16) × (r .tunings ≡ ts)) (λ (ws : Unit {0} × Unit {0}). fsep ftrue ftrue)
+        calls-plain ! (fmOf 𝓤 H (W .laws) 𝓣) Th.the-row Unread known-unread ((tt, tt, tt, (ts, tt), (tunings .val ts ∷ [], tt)), tt) (λ (r : World). (length (r .slots) ≡ seats) × (r .tunings ≡ ts)) (λ (ws : Unit {0} × Unit {0}). fsep ftrue ftrue)
         (asks-plain 𝓤 H A W (arg tunings ts gt none) (id⊢ 𝓤 (emp 𝓤))) (λ v. id⊢ 𝓤 _) (and-then ! (load ! (from ! (stop !)) (look ! 13 refl)) (no-more !)) (λ v r e is.
         land ! (from ! (stop !)) (init-as ! 10 (value world v (first-world r e) is) refl (world .lawful 𝓤 H A W .typed r _ is .0)) $ assigns ! (of-opd ! (lit ! tt)) (from ! (stop !)) (init ! 8 refl (tt, record { fits = lit< tt })) $
         keep ! (18 ∷ 19 ∷ 10 ∷ 8 ∷ 6 ∷ 4 ∷ 2 ∷ 0 ∷ 14 ∷ 12 ∷ 16 ∷ 17 ∷ 15 ∷ 13 ∷ 11 ∷ 9 ∷ 7 ∷ 5 ∷ 3 ∷ 1 ∷ []) $ opened all (r .slots) (e .0) l₀ l₁ l₂ l₃ l₄ l₅ l₆ l₇ l₈ (still-is world v (first-world r e) is))))))))))))

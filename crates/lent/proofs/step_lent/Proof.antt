@@ -131,14 +131,14 @@ module _ {M : Type 1} (𝓤 : URA M) (H : Heap 𝓤) (A : Atoms 𝓤) (W : Given
     ans = lentStep ys ts s (now d)
 
     -- what the tiles own
-    abbrev Lent : Fml
-    Lent = ShrSlice (named 1) κ′ u8 .own d (dv ∷ [])
+    abbrev Shared : Fml
+    Shared = ShrSlice (named 1) κ′ u8 .own d (dv ∷ [])
 
     module _ (gt : Is Tunings ts (tunings .val ts ∷ [])) (gs : Is Ts.the-row s (sides .val s ∷ [])) where
       exits : (zs : List Slot) → length zs ≡ length ys → zs ≡ slotsLeft ys ts s (now d) → Is Tt.the-row (toldOf ans) (told .val (toldOf ans) ∷ [])
-          → ent 𝓤 (⋆ 𝓤 H A (‵ (lentTo T.the-row κ γ b o zs (length ys)) ∷ ‵ (flft κ q) ∷ ‵ Lent ∷ ‵ (flft κ′ q′) ∷ [])) (Post (told .val (toldOf ans)))
+          → ent 𝓤 (⋆ 𝓤 H A (‵ (lentTo T.the-row κ γ b o zs (length ys)) ∷ ‵ (flft κ q) ∷ ‵ Shared ∷ ‵ (flft κ′ q′) ∷ [])) (Post (told .val (toldOf ans)))
       exits zs l e gr =
-          qed W (‵ (lentTo T.the-row κ γ b o zs (length ys)) ∷ ‵ (flft κ q) ∷ ‵ Lent ∷ ‵ (flft κ′ q′) ∷ []) ∵
+          qed W (‵ (lentTo T.the-row κ γ b o zs (length ys)) ∷ ‵ (flft κ q) ∷ ‵ Shared ∷ ‵ (flft κ′ q′) ∷ []) ∵
           suffices ! _ (ends-at 𝓤 H A lent′.ended stayed (lent′.clauses 𝓤 H A at-mem run) W bound (told .val (toldOf ans)) (toldOf ans) (zs, (tt, (tt, (tt, tt)))) (l, (tt, (tt, (tt, tt))))) $ says ! (refl, e) $
           nothing ! $ move ! (4 ∷ 0 ∷ []) $ join ! $ move ! (2 ∷ 0 ∷ []) $ join ! $ frame ! $
           -- [what the slots own; what the tiles own]
@@ -149,9 +149,9 @@ module _ {M : Type 1} (𝓤 : URA M) (H : Heap 𝓤) (A : Atoms 𝓤) (W : Given
       abbrev to : Step .Ghost
       to = (((κ′, tt), (q′, tt), tt, (w, (s, (d, tt))), (world .val w ∷ [], (sides .val s ∷ [], (dv ∷ [], tt)))), tt)
 
-      asks : Is Th.the-row w (world .val w ∷ []) → ent 𝓤 (sep 𝓤 (A .lft κ′ q′) (sem 𝓤 H A Lent)) (Step .pre to)
+      asks : Is Th.the-row w (world .val w ∷ []) → ent 𝓤 (sep 𝓤 (A .lft κ′ q′) (sem 𝓤 H A Shared)) (Step .pre to)
       asks gw =
-          qed W (‵ (flft κ′ q′) ∷ ‵ Lent ∷ []) ∵ nothing ! $ move ! (2 ∷ 0 ∷ []) $ fjoin ! $ owned ! Ts.the-row (Is Ts.the-row) (sides .makes 𝓤 H A W) s _ gs $ fjoin ! $ owned ! Th.the-row (Is Th.the-row) (world .makes 𝓤 H A W) w _ gw $ fjoin ! $
+          qed W (‵ (flft κ′ q′) ∷ ‵ Shared ∷ []) ∵ nothing ! $ move ! (2 ∷ 0 ∷ []) $ fjoin ! $ owned ! Ts.the-row (Is Ts.the-row) (sides .makes 𝓤 H A W) s _ gs $ fjoin ! $ owned ! Th.the-row (Is Th.the-row) (world .makes 𝓤 H A W) w _ gw $ fjoin ! $
           nothing ! $ move ! (2 ∷ 0 ∷ []) $ join ! $ join ! $ frame ! $ done !
 
       module _ (𝓣 : Tables 𝓤 H) (known-load : Triple 𝓤 (𝓣 .C #lent·load) Load) (known-step : Triple 𝓤 (𝓣 .C #steps·step) Step) (known-next : Triple 𝓤 (𝓣 .C #lent·next-world) Next) (known-store : Triple 𝓤 (𝓣 .C #lent·store) Store) (known-tell : Triple 𝓤 (𝓣 .C #lent·tell) Tell)
@@ -167,13 +167,13 @@ module _ {M : Type 1} (𝓤 : URA M) (H : Heap 𝓤) (A : Atoms 𝓤) (W : Given
           En = (Tt′.mir, l₀) ∷ (slice, l₁) ∷ (tuned, l₂) ∷ (Ts′.mir, l₃) ∷ (lent-tiles, l₄) ∷ (Th′.mir, l₅) ∷ (Ta′.mir, l₆) ∷ (Th′.mir, l₇) ∷ (ref, l₈) ∷ (sliceTy ref, l₉) ∷ (tyUnit, l₁₀) ∷ (ref, l₁₁) ∷ (sliceTy ref, l₁₂) ∷ []
 
           -- from the call of `step` on, with the world loaded
-          loaded : Is Th.the-row w (world .val w ∷ []) → Sq W (‵ (lentTo T.the-row κ γ b o ys (length ys)) ∷ ‵ (flft κ q) ∷ ‵ Lent ∷ ‵ (flft κ′ q′) ∷ ‵ (fat fullShare slice l₁ 0 (sliceVal (b, o) (length ys))) ∷ ‵ (fat fullShare tuned l₂ 0 (tunings .val ts))
+          loaded : Is Th.the-row w (world .val w ∷ []) → Sq W (‵ (lentTo T.the-row κ γ b o ys (length ys)) ∷ ‵ (flft κ q) ∷ ‵ Shared ∷ ‵ (flft κ′ q′) ∷ ‵ (fat fullShare slice l₁ 0 (sliceVal (b, o) (length ys))) ∷ ‵ (fat fullShare tuned l₂ 0 (tunings .val ts))
               ∷ ‵ (fat fullShare Ts′.mir l₃ 0 (sides .val s)) ∷ ‵ (fat fullShare lent-tiles l₄ 0 dv) ∷ ‵ (fat fullShare Th′.mir l₅ 0 (world .val w)) ∷ ‵ (froom Ta′.mir l₆ 0) ∷ ‵ (froom Th′.mir l₇ 0) ∷ ‵ (froom ref l₈ 0) ∷ ‵ (froom (sliceTy ref) l₉ 0) ∷ ‵ (froom tyUnit l₁₀ 0) ∷ ‵ (froom ref l₁₁ 0) ∷ ‵ (froom (sliceTy ref) l₁₂ 0) ∷ ‵ (froom Tt′.mir l₀ 0)
               ∷ ‵ (fdies Tt′.mir l₀) ∷ ‵ (fdies slice l₁) ∷ ‵ (fdies tuned l₂) ∷ ‵ (fdies Ts′.mir l₃) ∷ ‵ (fdies lent-tiles l₄) ∷ ‵ (fdies Th′.mir l₅) ∷ ‵ (fdies Ta′.mir l₆) ∷ ‵ (fdies Th′.mir l₇) ∷ ‵ (fdies ref l₈) ∷ ‵ (fdies (sliceTy ref) l₉) ∷ ‵ (fdies tyUnit l₁₀) ∷ ‵ (fdies ref l₁₁) ∷ ‵ (fdies (sliceTy ref) l₁₂) ∷ [])
               (runs C Λ En mir′.t-4 (atRet En Post))
           loaded gw =
               -- the tiles are Copy: one of two goes to the callee
-              move ! (2 ∷ []) $ use1 W (‵ Lent ⊛ ‵ Lent) (shr-slice-copy 𝓤 H A W (named 1) κ′ u8 .twice d (dv ∷ [])) $ split ! $ move ! (4 ∷ 0 ∷ []) $ use2 W (raw (Step .pre to)) (asks gw) $
+              move ! (2 ∷ []) $ use1 W (‵ Shared ⊛ ‵ Shared) (shr-slice-copy 𝓤 H A W (named 1) κ′ u8 .twice d (dv ∷ [])) $ split ! $ move ! (4 ∷ 0 ∷ []) $ use2 W (raw (Step .pre to)) (asks gw) $
               -- [what the callee asks; what the tiles own; what the slots own; their token; _1; _2; …; _12; _0; and that each local dies]
               calls-at ! (fmOf 𝓤 H (W .laws) 𝓣) Step known-step to (and-then ! (load ! (from ! (stop !)) (look ! 8 refl)) (and-then ! (load ! (from ! (stop !)) (look ! 6 refl)) (and-then ! (load ! (from ! (stop !)) (look ! 7 refl)) (no-more !)))) (λ u.
               use1 W (later (some (λ (a : Stepped). ((‵ (flft κ′ q′) ⊛ ‵ ftrue) ⊛ ‵ (Ta.the-row .own a (u ∷ []))) ⊛ some (λ (ws : Unit {0} × (Unit {0} × (Unit {0} × Unit {0}))). ‵ (fsep ftrue (fsep ftrue (fsep ftrue ftrue))) ⊛ raw (fact 𝓤 (a ≡ ans)))))) (id⊢ 𝓤 _) $ await ! tt $

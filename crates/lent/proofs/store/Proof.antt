@@ -41,14 +41,14 @@ use Rattle.character.proofs.Slot as T
 use Rattle.character.proofs.Slot.Laws as T′
 use Rattle.world.proofs.World as Th
 use Rattle.world.proofs.World.Laws as Th′
-use Rattle.character.specs.Tick.{nowhere}
+use Rattle.character.specs.Tick.{seats, nowhere}
 use denote.Struct.Laws as LL
 use Rattle.walks.proofs.Counted.{counted}
 use Rattle.walks.proofs.Filled.{filled, length-filled, filled-all}
 use Rattle.walks.proofs.LentCall.{lentTo}
 use Rattle.walks.proofs.SliceFn.{postOf, takes-slice, gives-slice, ends-slice, slice-meets}
 use Rattle.walks.proofs.Plainly.{of-uint, of-unit, value, still-is, init-as, none, arg, asks-plain, calls-plain}
-use Rattle.lent.proofs.Shapes.{slot, world, slice}
+use Rattle.lent.proofs.Shapes.{slot, slot-size, world, slice}
 use Rattle.lent.proofs.slot_at as slot-at
 use Rattle.lent.proofs.slot_at.Symbol as slot-at-def
 use Rattle.lent.proofs.slot_at.Symbol.{name as #lent·slot-at}
@@ -60,7 +60,7 @@ use Rattle.lent.proofs.store.Code as code
 use Rattle.lent.proofs.store.Code.Mir as mir′
 
 abbrev rq : {M : Type 1} (𝓤 : URA M) → List Slot → World → SProp 𝓤
-rq 𝓤 ys h = fact 𝓤 (length ys ≡ 16)
+rq 𝓤 ys h = fact 𝓤 (length ys ≡ seats)
 
 abbrev ens : List Slot → World → Unit {0} → List Slot → Type 0
 ens ys h _ zs = zs ≡ h .slots
@@ -84,7 +84,7 @@ module _ {M : Type 1} (𝓤 : URA M) (H : Heap 𝓤) (A : Atoms 𝓤) (W : Given
     abbrev F : ℕ → List Slot
     F i = filled nowhere ys (h .slots) i
 
-    module _ (all : length ys ≡ 16) (l₀ l₁ l₂ l₃ l₄ l₅ l₆ l₇ : ℕ) where
+    module _ (all : length ys ≡ seats) (l₀ l₁ l₂ l₃ l₄ l₅ l₆ l₇ : ℕ) where
       abbrev En : Env 𝓤 H
       En = (tyUnit, l₀) ∷ (slice, l₁) ∷ (Th′.mir, l₂) ∷ ((tyInt w64), l₃) ∷ (tyBool, l₄) ∷ (T′.mir, l₅) ∷ ((tyInt w64), l₆) ∷ (tyPtr, l₇) ∷ []
 
@@ -100,16 +100,16 @@ module _ {M : Type 1} (𝓤 : URA M) (H : Heap 𝓤) (A : Atoms 𝓤) (W : Given
       Left = afterBlock 𝓤 H (afterSeq 𝓤 H (Wp 𝓤 H C Λ En mir′.t-3 (atReturn 𝓤 H En Post)) (atReturn 𝓤 H En Post))
 
       -- a turn that stores one element
-      more : (i : ℕ) (X : SProp 𝓤) → i < 16 → ent 𝓤 (⋆ 𝓤 H A (At (suc i))) X → ent 𝓤 (⋆ 𝓤 H A (At i)) (Wp 𝓤 H C Λ En mir′.turn-1 (afterTurn 𝓤 H X Left))
+      more : (i : ℕ) (X : SProp 𝓤) → i < seats → ent 𝓤 (⋆ 𝓤 H A (At (suc i))) X → ent 𝓤 (⋆ 𝓤 H A (At i)) (Wp 𝓤 H C Λ En mir′.turn-1 (afterTurn 𝓤 H X Left))
       unfolding afterTurn filled
       more i X small k =
           qed W (At i) ∵ exec ! C Λ En mir′.turn-1 (anyQ (afterTurn 𝓤 H X Left)) $
-          assigns ! (bin ! (load ! (from ! (stop !)) (look ! 4 refl)) (lit ! tt) tt) (from ! (stop !)) (init ! 5 refl (tt, tt)) $ rewrite ! 5 (λ (t : Bool). ‵ (fat fullShare tyBool l₄ 0 (vbool t))) (lt-ltb i 16 small) refl $ stays ! (load ! (from ! (stop !)) (look ! 5 refl)) $
+          assigns ! (bin ! (load ! (from ! (stop !)) (look ! 4 refl)) (lit ! tt) tt) (from ! (stop !)) (init ! 5 refl (tt, tt)) $ rewrite ! 5 (λ (t : Bool). ‵ (fat fullShare tyBool l₄ 0 (vbool t))) (lt-ltb i seats small) refl $ stays ! (load ! (from ! (stop !)) (look ! 5 refl)) $
           calls-plain ! (fmOf 𝓤 H (W .laws) 𝓣) T.the-row SlotAt known ((tt, tt, tt, (h, (i, tt)), (world .val h ∷ [], (vint w64 i ∷ [], tt))), tt) (λ (r : Slot). r ≡ c) (λ (ws : Unit {0} × (Unit {0} × Unit {0})). fsep ftrue (fsep ftrue ftrue))
-          (asks-plain 𝓤 H A W (arg world h gh (arg (of-uint w64) i (refl, i-fits .fits) none)) (factI 𝓤 (i < 16) (emp 𝓤) small)) (λ v. id⊢ 𝓤 _) (and-then ! (load ! (from ! (stop !)) (look ! 11 refl)) (and-then ! (load ! (from ! (stop !)) (look ! 5 refl)) (no-more !))) (λ v r e is.
+          (asks-plain 𝓤 H A W (arg world h gh (arg (of-uint w64) i (refl, i-fits .fits) none)) (factI 𝓤 (i < seats) (emp 𝓤) small)) (λ v. id⊢ 𝓤 _) (and-then ! (load ! (from ! (stop !)) (look ! 11 refl)) (and-then ! (load ! (from ! (stop !)) (look ! 5 refl)) (no-more !))) (λ v r e is.
           land ! (from ! (stop !)) (init-as ! 6 (value slot v e is) refl (slot .lawful 𝓤 H A W .typed r _ is .0)) $
           assigns ! (bin ! (load ! (from ! (stop !)) (look ! 4 refl)) (lit ! tt) far) (from ! (stop !)) (init ! 7 refl (tt, far)) $
-          assigns ! (bin ! (load ! (from ! (fld ! refl (stop !))) (look-in ! 9 (sub ! 0 refl (whole !)))) (load ! (from ! (stop !)) (look ! 7 refl)) tt) (from ! (stop !)) (init ! 8 refl (tt, tt)) $ rewrite ! 8 (λ (p : ℕ). ‵ (fat fullShare tyPtr l₇ 0 (vptr b p))) (sym (place-is 72 o i)) refl $
+          assigns ! (bin ! (load ! (from ! (fld ! refl (stop !))) (look-in ! 9 (sub ! 0 refl (whole !)))) (load ! (from ! (stop !)) (look ! 7 refl)) tt) (from ! (stop !)) (init ! 8 refl (tt, tt)) $ rewrite ! 8 (λ (p : ℕ). ‵ (fat fullShare tyPtr l₇ 0 (vptr b p))) (sym (place-is slot-size o i)) refl $
           elem-out ! T.the-row (Is T.the-row) (shows 𝓤 H A T.the-row) (λ s. slot .val s ∷ []) (slot .tells) fullShare (F i) i nowhere b o within (λ _.
           -- [s[i]; what it owns; the others; the open borrow; obs; auth; _3; _4; _5; _6; _7; …]
           assigns ! (of-opd ! (load ! (from ! (stop !)) (look ! 8 refl))) (from ! (hop ! (look ! 10 refl) (stop !))) (store-raw ! 0 refl (slot .lawful 𝓤 H A W .typed c _ (still-is slot v e is) .0)) $
@@ -123,8 +123,8 @@ module _ {M : Type 1} (𝓤 : URA M) (H : Heap 𝓤) (A : Atoms 𝓤) (W : Given
           within : i < length (F i)
           within = subst (λ (m : ℕ). i < m) (sym (length-filled nowhere ys (h .slots) i ∙ all)) small
 
-          far : Fits w64 (i * 72)
-          far = scaled-fits i (length ys) 72 (subst (λ (m : ℕ). i < m) (sym all) small) (gn .1)
+          far : Fits w64 (i * slot-size)
+          far = scaled-fits i (length ys) slot-size (subst (λ (m : ℕ). i < m) (sym all) small) (gn .1)
 
           i-fits : Fits w64 i
           i-fits = omega arith
@@ -133,26 +133,26 @@ module _ {M : Type 1} (𝓤 : URA M) (H : Heap 𝓤) (A : Atoms 𝓤) (W : Given
           next = omega arith
 
       -- the turn that leaves the loop, and the rest of the body
-      ends : (X : SProp 𝓤) → ent 𝓤 (⋆ 𝓤 H A (At 16)) (Wp 𝓤 H C Λ En mir′.turn-1 (afterTurn 𝓤 H X Left))
+      ends : (X : SProp 𝓤) → ent 𝓤 (⋆ 𝓤 H A (At seats)) (Wp 𝓤 H C Λ En mir′.turn-1 (afterTurn 𝓤 H X Left))
       unfolding afterTurn
       ends X =
-          qed W (At 16) ∵ exec ! C Λ En mir′.turn-1 (anyQ (afterTurn 𝓤 H X Left)) $
+          qed W (At seats) ∵ exec ! C Λ En mir′.turn-1 (anyQ (afterTurn 𝓤 H X Left)) $
           assigns ! (bin ! (load ! (from ! (stop !)) (look ! 4 refl)) (lit ! tt) tt) (from ! (stop !)) (init ! 5 refl (tt, tt)) $ leaves-loop ! (load ! (from ! (stop !)) (look ! 5 refl)) $ exec ! C Λ En mir′.t-3 (atRet En Post) $
-          assigns ! (of-opd ! (unit-lit !)) (from ! (stop !)) (init ! 11 refl (tt, tt)) $ gives-slice ! tt T.the-row ys (F 16) (length-filled nowhere ys (h .slots) 16) gn b o $
+          assigns ! (of-opd ! (unit-lit !)) (from ! (stop !)) (init ! 11 refl (tt, tt)) $ gives-slice ! tt T.the-row ys (F seats) (length-filled nowhere ys (h .slots) seats) gn b o $
           -- [what the slice owns; the token; _3; _4; …; _7; _1; _2; _0; and that each local dies]
           returns ! (look ! 9 refl) $ forget ! 2 refl $ forget ! 3 refl $ forget ! 7 refl $ forget ! 8 refl $ forget ! 9 refl $
           move ! (9 ∷ 10 ∷ []) $ free1 ! $ move ! (7 ∷ 9 ∷ []) $ free1 ! $ move ! (7 ∷ 8 ∷ []) $ free1 ! $ move ! (2 ∷ 7 ∷ []) $ free1 ! $ move ! (2 ∷ 6 ∷ []) $ free1 ! $ move ! (2 ∷ 5 ∷ []) $ free1 ! $ move ! (2 ∷ 4 ∷ []) $ free1 ! $ move ! (2 ∷ 3 ∷ []) $ free1 ! $ free0 ! $
-          by ! (ends-slice T.the-row Th.the-row unit tt 𝓤 H A (rq 𝓤) ens world W κ q b o γ ys h gh of-unit vunit tt (F 16) refl (length-filled nowhere ys (h .slots) 16) (filled-all nowhere 16 ys (h .slots) all (sym (length-map (h .slots) (T.the-field .into)) ∙ LL.owed Th.the-type Th′.the-laws h _ gh .0 .1 .0 .1)))
+          by ! (ends-slice T.the-row Th.the-row unit tt 𝓤 H A (rq 𝓤) ens world W κ q b o γ ys h gh of-unit vunit tt (F seats) refl (length-filled nowhere ys (h .slots) seats) (filled-all nowhere seats ys (h .slots) all (sym (length-map (h .slots) (T.the-field .into)) ∙ LL.owed Th.the-type Th′.the-laws h _ gh .0 .1 .0 .1)))
 
       -- from the loop on. The context is written out, since to compare it inside `walk` takes too many steps
       opened : Sq W (‵ (lentTo T.the-row κ γ b o ys (length ys)) ∷ ‵ (flft κ q) ∷ ‵ (fat fullShare (tyInt w64) l₃ 0 (vint w64 0)) ∷ ‵ (froom tyBool l₄ 0) ∷ ‵ (froom T′.mir l₅ 0) ∷ ‵ (froom (tyInt w64) l₆ 0) ∷ ‵ (froom tyPtr l₇ 0) ∷ Frame)
           (runs C Λ En mir′.t-2 (atRet En Post))
       unfolding filled
-      opened = takes-slice ! tt T.the-row ys b o $ by ! (counted 𝓤 H A W 𝓣 16 At En mir′.turn-1 Left more ends)
+      opened = takes-slice ! tt T.the-row ys b o $ by ! (counted 𝓤 H A W 𝓣 seats At En mir′.turn-1 Left more ends)
 
     walk : ent 𝓤 (⋆ 𝓤 H A (‵ (lentTo T.the-row κ γ b o ys (length ys)) ∷ ‵ (flft κ q) ∷ raw (rq 𝓤 ys h) ∷ [])) (WpFn 𝓤 H C Λ code.function (sliceVal (b, o) (length ys) ∷ world .val h ∷ []) Post)
     walk =
-        qed W (‵ (lentTo T.the-row κ γ b o ys (length ys)) ∷ ‵ (flft κ q) ∷ raw (rq 𝓤 ys h) ∷ []) ∵ move ! (2 ∷ []) $ heard ! (length ys ≡ 16) (λ all. enter ! C Λ code.function (sliceVal (b, o) (length ys) ∷ world .val h ∷ []) _ $
+        qed W (‵ (lentTo T.the-row κ γ b o ys (length ys)) ∷ ‵ (flft κ q) ∷ raw (rq 𝓤 ys h) ∷ []) ∵ move ! (2 ∷ []) $ heard ! (length ys ≡ seats) (λ all. enter ! C Λ code.function (sliceVal (b, o) (length ys) ∷ world .val h ∷ []) _ $
         alloc1 ! (λ l₀. alloc1 ! (λ l₁. alloc1 ! (λ l₂. alloc1 ! (λ l₃. alloc1 ! (λ l₄. alloc1 ! (λ l₅. alloc1 ! (λ l₆. alloc1 ! (λ l₇. alloc0 ! $ params1 ! $
         pass1 ! (init ! 12 refl (tt, (tt, (record { fits = gn .0 }, tt)))) $ pass1 ! (init ! 10 refl (world .lawful 𝓤 H A W .typed h _ gh .0)) $ pass0 ! $
         -- [_7; …; _6; …; … ; _0; …; what the slice owns; the token]
