@@ -2,15 +2,17 @@
 use crate::line::Session;
 use crate::line::Turned;
 use crate::line::run_line;
+use character::SEATS;
+use output_lines::MOST_LINE;
 use tiles::Sides;
 ghost use mathlib.Core.Bool.{true};
 ghost use mathlib.Core.Path.{_≡_};
-ghost use Prim.Native.Nat.{_+_, _≤_};
+ghost use Prim.Native.Nat.{_+_, _*_, _≤_};
 ghost use Rattle.character.specs.Tick.{seats};
 ghost use Rattle.sessions.specs.Session.{LinesRan};
 
 // No answer is longer: a line for each seat.
-pub const MOST_ANSWER: usize = 3456;
+pub const MOST_ANSWER: usize = MOST_LINE * SEATS;
 
 // A text has fewer calls.
 pub const MOST_CALLS: u32 = 65536;
@@ -43,7 +45,7 @@ pub fn run_lines(
 
 // Whether there is another line to run, and room for its answer.
 fn goes_on(done: bool, call: u32, used: usize, len: usize) -> bool
-    ensures { λ r. ⌜ (r ≡ true → (call ≤ 65536) × (used + 3456 ≤ len)) ⌝ }
+    ensures { λ r. ⌜ (r ≡ true → (call ≤ 65536) × (used + 216 * seats ≤ len)) ⌝ }
 {
     if done {
         return false;
