@@ -1,6 +1,6 @@
--- A tick changes nobody's position, and of the others nothing but velocities. Assumes nothing.
+-- A tick changes nobody's position, of the others nothing but velocities, and no slot where nobody is. Assumes nothing.
 use mathlib.Core.Path.{_≡_, refl, sym, ap, _∙_}
-use mathlib.Core.Bool.{Bool, true, false, cond}
+use mathlib.Core.Bool.{Bool, true, false, cond, true≢false}
 use mathlib.Core.List.{List}
 use Prim.Native.Nat.{ℕ}
 use lib.Dec.{eqb}
@@ -27,34 +27,47 @@ use Rattle.physics.proofs.Slots.{set-kept}
 abbrev pub SameButVel : Slot → Slot → Type 0
 SameButVel s u = u ≡ withCharacter s (withVel (s .character) (u .character .vel))
 
+-- u is what a meeting left of s: where nobody is, nothing has changed
+abbrev Leaves : Slot → Slot → Type 0
+Leaves s u = SameButVel s u × (s .present ≡ false → u ≡ s)
+
 module _ (ss : List Slot) where
   -- every slot, that of the ticking character and those past the end included
   abbrev Kept : List Slot → Type 0
-  Kept us = (k : ℕ) → SameButVel (slotAt ss k) (slotAt us k)
+  Kept us = (k : ℕ) → Leaves (slotAt ss k) (slotAt us k)
 
-  set-vel : (us : List Slot) (j : ℕ) (v : vec2) → Kept us → Kept (set us j (withCharacter (slotAt us j) (withVel (slotAt us j .character) v)))
-  set-vel us j v h = set-kept SameButVel ss us j (withCharacter (slotAt us j) (withVel (slotAt us j .character) v)) nowhere h (ap (λ (s : Slot). withCharacter s (withVel (s .character) v)) (h j))
+  set-vel : (us : List Slot) (j : ℕ) (v : vec2) → slotAt us j .present ≡ true → Kept us → Kept (set us j (withCharacter (slotAt us j) (withVel (slotAt us j .character) v)))
+  set-vel us j v p h =
+      let e = ap (λ (s : Slot). withCharacter s (withVel (s .character) v)) (h j .0) in
+      set-kept Leaves ss us j (withCharacter (slotAt us j) (withVel (slotAt us j .character) v)) nowhere h (e, λ q. absurd (true≢false (sym p ∙ ap (λ (s : Slot). s .present) (h j .0) ∙ q)))
 
   turn-kept : (id : ℕ) (p : vec2) (h : Hook) (t : Tuning) (j : ℕ) (m : Met) → Kept (m .slots) → Kept (meetTurn id p h t j m .slots)
-  turn-kept id p h t j m k = go (eqb j id) (slotAt (m .slots) j .present) (meet p (m .vel) h (slotAt (m .slots) j .character .pos) (slotAt (m .slots) j .character .vel) j t)
+  turn-kept id p h t j m k = go (eqb j id) (slotAt (m .slots) j .present) (meet p (m .vel) h (slotAt (m .slots) j .character .pos) (slotAt (m .slots) j .character .vel) j t) refl
     where
-      go : (b d : Bool) (v : Velocities) → Kept (cond b m (cond d (metAt (m .slots) j v) m) .slots)
-      go true d v = k
-      go false true v = set-vel (m .slots) j (v .other) k
-      go false false v = k
+      go : (b d : Bool) (v : Velocities) → slotAt (m .slots) j .present ≡ d → Kept (cond b m (cond d (metAt (m .slots) j v) m) .slots)
+      go true d v e = k
+      go false true v e = set-vel (m .slots) j (v .other) e k
+      go false false v e = k
 
   meet-all-kept : (n id : ℕ) (p v : vec2) (h : Hook) (t : Tuning) → Kept (meetAll n ss id p v h t .slots)
   unfolding meetAll
-  meet-all-kept n id p v h t = fold-kept (meetTurn id p h t) (λ m. Kept (m .slots)) (turn-kept id p h t) n 0 (record { vel = v; slots = ss }) (λ k. refl)
+  meet-all-kept n id p v h t = fold-kept (meetTurn id p h t) (λ m. Kept (m .slots)) (turn-kept id p h t) n 0 (record { vel = v; slots = ss }) (λ k. (refl, λ q. refl))
 
   ticked-kept : (n : ℕ) (before c : Character) (id : ℕ) (t : Tuning) (f : HookFlight) → Kept (ticked n before c id ss t f .slots)
-  ticked-kept n before c id t TooFar = λ k. refl
+  ticked-kept n before c id t TooFar = λ k. (refl, λ q. refl)
   ticked-kept n before c id t (To h) = meet-all-kept n id (before .pos) (dragged h (before .pos) (c .vel) (c .«move_direction») t) (hold h) t
+
+  tick-kept : (n : ℕ) (c : Character) (id : ℕ) (s : Sides) (ts : List ℕ) (i : PlayerInput) (t : Tuning) → Kept (tickAt n c id ss s ts i t .slots)
+  unfolding tickAt
+  tick-kept n c id s ts i t = let d = steer c (grounded s ts (c .pos)) i t in ticked-kept n c d id t (flight n (d .hook) (c .pos) id ss s ts t)
 
   -- who is present, where everybody is and what everybody's hook and input are: as before
   pub tick-others : (n : ℕ) (c : Character) (id : ℕ) (s : Sides) (ts : List ℕ) (i : PlayerInput) (t : Tuning) (k : ℕ) → SameButVel (slotAt ss k) (slotAt (tickAt n c id ss s ts i t .slots) k)
-  unfolding tickAt
-  tick-others n c id s ts i t = let d = steer c (grounded s ts (c .pos)) i t in ticked-kept n c d id t (flight n (d .hook) (c .pos) id ss s ts t)
+  tick-others n c id s ts i t k = tick-kept n c id s ts i t k .0
+
+  -- where nobody is: the whole slot as before
+  pub tick-absent : (n : ℕ) (c : Character) (id : ℕ) (s : Sides) (ts : List ℕ) (i : PlayerInput) (t : Tuning) (k : ℕ) → slotAt ss k .present ≡ false → slotAt (tickAt n c id ss s ts i t .slots) k ≡ slotAt ss k
+  tick-absent n c id s ts i t k = tick-kept n c id s ts i t k .1
 
 -- as many slots as before
 module _ (ss : List Slot) where
