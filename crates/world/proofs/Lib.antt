@@ -1,7 +1,9 @@
+pub mod Seats
 pub mod Standing
 pub mod Moves
 pub mod Reached
 pub mod Outcomes
+pub mod Settled
 pub mod Numbers
 pub mod Demand1
 pub mod Demand3

@@ -1,0 +1,144 @@
+-- What the ticks and the moves of a step leave of the slots, whatever player collision is. Assumes nothing.
+use Prim.Native.Nat.{ℕ, zero, suc, _+_, _≤_, _<_}
+use native.Mathlib.Omega.{arith}
+use native.Mathlib.Nat.{pos-of-ne-zero, eq-or-lt-of-le}
+use mathlib.Core.Bool.{Bool, true, false, cond, true≢false}
+use mathlib.Core.List.{List, [], _∷_}
+use mathlib.Core.Logic.{_⊎_, ⊎-elim}
+use mathlib.Core.Path.{_≡_, refl, sym, ap, _∙_, subst}
+use lib.Dec.{eqb}
+use lib.ListN.{length, set, length-set}
+use borrow.Author.Tests.{eqb-false}
+use Rattle.turns.specs.Turns.{Turn, more, stop, run}
+use Rattle.turns.proofs.Kept.{Ends, run-kept}
+use Rattle.tiles.specs.declared.Sides.{Sides}
+use Rattle.tuning.specs.declared.Tuning.{Tuning}
+use Rattle.snap_obj.specs.declared.CharacterCore.{CharacterCore}
+use Rattle.snap_obj.specs.declared.PlayerInput.{PlayerInput}
+use Rattle.character.specs.declared.Character.{Character}
+use Rattle.character.specs.declared.Slot.{Slot}
+use Rattle.character.specs.declared.tick.Ticked.{Ticked}
+use Rattle.character.specs.declared.walk.Moved.{Moved}
+use Rattle.character.specs.declared.walk.Moved.the-variants as moved
+use Rattle.character.specs.Tick.{slotAt, nowhere, withCharacter, tickAt}
+use Rattle.records.specs.Records.{toNet, fromNet, quantize}
+use Rattle.records.specs.Representable.{Representable}
+use Rattle.records.specs.declared.Net.{Net}
+use Rattle.records.specs.declared.Net.the-variants as net
+use Rattle.records.specs.declared.Quantized.the-variants as quantized
+use Rattle.records.proofs.FromNet.{quantized-representable}
+use Rattle.physics.proofs.Slots.{set-every, set-others}
+use Rattle.physics.proofs.Others.{tick-others, tick-absent, tick-length}
+use Rattle.world.specs.Step.{Moving, afterTick, tickTurn, tickAll, ofNet, recordOf, publish, moveIn, moveTurn, movingFrom, moveAll}
+
+-- the last of the indices below i + 1, or one before it
+pub last-or-below : (k i : ℕ) → k < suc i → (k ≡ i) ⊎ (k < i)
+last-or-below k i h = eq-or-lt-of-le (omega arith)
+
+-- one that is not the last
+pub below : (k i : ℕ) → (k ≡ i → ⊥) → k < suc i → k < i
+below k i d h = ⊎-elim (λ e. absurd (d e)) (λ l. l) (last-or-below k i h)
+
+-- somebody is there only within the list
+pub present-within : (ss : List Slot) (j : ℕ) → slotAt ss j .present ≡ true → j < length ss
+present-within [] j e = absurd (true≢false (sym e))
+present-within (x ∷ ss) zero e = omega arith
+present-within (x ∷ ss) (suc j) e = let h : j < length ss = present-within ss j e in omega arith
+
+-- what a record of a character reads as
+pub net-representable : (c : Character) (core : CharacterCore) → toNet c ≡ net.Core core → Representable (fromNet core)
+unfolding quantize
+net-representable c core e = quantized-representable c (fromNet core) (rw e)
+
+-- ---- slots as they were
+
+-- as many as in ss, the same ones present, and where nobody is the slot as it was
+pub record Same (ss us : List Slot) : Type 0 where
+  pub size : length us ≡ length ss
+  pub present : (k : ℕ) → slotAt us k .present ≡ slotAt ss k .present
+  pub absent : (k : ℕ) → slotAt ss k .present ≡ false → slotAt us k ≡ slotAt ss k
+
+same-self : (ss : List Slot) → Same ss ss
+same-self ss = record { size = refl; present = λ k. refl; absent = λ k q. refl }
+
+pub same-on : (ss us vs : List Slot) → Same ss us → Same us vs → Same ss vs
+same-on ss us vs a b = record {
+  size = b .size ∙ a .size;
+  present = λ k. b .present k ∙ a .present k;
+  absent = λ k q. b .absent k (a .present k ∙ q) ∙ a .absent k q;
+}
+
+-- the character of a slot where somebody is may be any
+same-set : (ss : List Slot) (j : ℕ) (c : Character) → slotAt ss j .present ≡ true → Same ss (set ss j (withCharacter (slotAt ss j) c))
+same-set ss j c p = record {
+  size = length-set ss j (withCharacter (slotAt ss j) c);
+  present = set-every (λ k x. x .present ≡ slotAt ss k .present) ss j (withCharacter (slotAt ss j) c) nowhere (λ k. refl) refl;
+  absent = set-every (λ k x. slotAt ss k .present ≡ false → x ≡ slotAt ss k) ss j (withCharacter (slotAt ss j) c) nowhere (λ k q. refl) (λ q. absurd (true≢false (sym p ∙ q)));
+}
+
+module _ (n : ℕ) (s : Sides) (ts : List ℕ) (t : Tuning) where
+  -- ---- the ticks
+  tick-same : (us : List Slot) (c : Character) (j : ℕ) (i : PlayerInput) → Same us (tickAt n c j us s ts i t .slots)
+  tick-same us c j i = record {
+    size = tick-length us n c j s ts i t;
+    present = λ k. ap (λ (x : Slot). x .present) (tick-others us n c j s ts i t k);
+    absent = tick-absent us n c j s ts i t;
+  }
+
+  tick-turn : (ss : List Slot) (j : ℕ) (us : List Slot) → Same ss us → Ends (Same ss) (λ r. 0 < r) (tickTurn n s ts t j us)
+  tick-turn ss j us h = go (slotAt us j .present) refl
+    where
+      k : Ticked
+      k = tickAt n (slotAt us j .character) j us s ts (slotAt us j .input) t
+
+      same : Same us (k .slots)
+      same = tick-same us (slotAt us j .character) j (slotAt us j .input)
+
+      ticks : slotAt us j .present ≡ true → (b : Bool) → eqb (k .number) 0 ≡ b → Ends (Same ss) (λ r. 0 < r) (cond b (more (set (k .slots) j (withCharacter (slotAt (k .slots) j) (k .me)))) (stop (k .number)))
+      ticks p true e = same-on ss us _ h (same-on us (k .slots) _ same (same-set (k .slots) j (k .me) (same .present j ∙ p)))
+      ticks p false e = pos-of-ne-zero (eqb-false (k .number) 0 e)
+
+      go : (b : Bool) → slotAt us j .present ≡ b → Ends (Same ss) (λ r. 0 < r) (cond b (afterTick j k) (more us))
+      go true p = ticks p (eqb (k .number) 0) refl
+      go false p = h
+
+  -- a number that refuses the ticks is not 0
+  pub ticks-same : (ss : List Slot) → Ends (Same ss) (λ r. 0 < r) (tickAll n ss s ts t)
+  unfolding tickAll
+  ticks-same ss = run-kept (tickTurn n s ts t) (λ i. Same ss) (λ r. 0 < r) (tick-turn ss) n 0 ss (same-self ss)
+
+  -- ---- the moves
+  module _ (ss : List Slot) where
+    -- after i moves: who has moved is representable
+    pub record Settling (i : ℕ) (m : Moving) : Type 0 where
+      pub same : Same ss (m .slots)
+      pub moved : (k : ℕ) → k < i → slotAt (m .slots) k .present ≡ true → Representable (slotAt (m .slots) k .character)
+
+    pub move-turn : (i : ℕ) (m : Moving) → Settling i m → Ends (Settling (suc i)) (λ r. 0 < r) (moveTurn n s ts t i m)
+    unfolding recordOf
+    move-turn i m h = go (slotAt (m .slots) i .present) refl
+      where
+        named : slotAt (m .slots) i .present ≡ true → (c : Character) (o : Net) → toNet c ≡ o → Ends (Settling (suc i)) (λ r. 0 < r) (publish m i (ofNet o))
+        named p c net.TickTooLarge e = omega arith
+        named p c (net.Core core) e = record {
+          same = same-on ss (m .slots) _ (h .same) (same-set (m .slots) i (fromNet core) p);
+          moved = set-others (λ k x. k < suc i → x .present ≡ true → Representable (x .character)) (m .slots) i (withCharacter (slotAt (m .slots) i) (fromNet core)) nowhere (present-within (m .slots) i p) (λ k d l. h .moved k (below k i d l)) (λ l q. net-representable c core e);
+        }
+
+        recorded : slotAt (m .slots) i .present ≡ true → (d : Moved) → Ends (Settling (suc i)) (λ r. 0 < r) (publish m i (recordOf d))
+        recorded p moved.BadMap = omega arith
+        recorded p moved.BadId = omega arith
+        recorded p moved.TooFar = omega arith
+        recorded p (moved.To c) = named p c (toNet c) refl
+
+        go : (b : Bool) → slotAt (m .slots) i .present ≡ b → Ends (Settling (suc i)) (λ r. 0 < r) (cond b (publish m i (recordOf (moveIn n s ts t (m .slots) i))) (more m))
+        go true p = recorded p (moveIn n s ts t (m .slots) i)
+        go false p = record { same = h .same; moved = λ k l. ⊎-elim (λ e. λ q. absurd (true≢false (sym q ∙ ap (λ (j : ℕ). slotAt (m .slots) j .present) e ∙ p))) (h .moved k) (last-or-below k i l) }
+
+    pub nobody-moved : Settling 0 (movingFrom n ss)
+    nobody-moved = record { same = same-self ss; moved = λ k l. absurd (omega arith) }
+
+    -- a number that refuses the moves is not 0
+    pub moves-settle : Ends (Settling n) (λ r. 0 < r) (moveAll n ss s ts t)
+    unfolding moveAll
+    moves-settle = subst (λ (j : ℕ). Ends (Settling j) (λ r. 0 < r) (run (moveTurn n s ts t) n 0 (movingFrom n ss))) (omega arith) (run-kept (moveTurn n s ts t) Settling (λ r. 0 < r) move-turn n 0 (movingFrom n ss) nobody-moved)

@@ -1,0 +1,113 @@
+-- Every world that calls can reach is settled, for every number of slots, map and player collision. Assumes nothing.
+use Prim.Native.Nat.{ℕ, _<_}
+use mathlib.Core.Bool.{Bool, true, false, cond, true≢false}
+use mathlib.Core.List.{List, [], _∷_}
+use mathlib.Core.Path.{_≡_, refl, sym, ap, _∙_}
+use lib.Dec.{ltb}
+use lib.IntN.{ℤ}
+use lib.ListN.{length-set, length-replicate, getD-replicate}
+use Rattle.turns.specs.Turns.{Turn, more, stop, next}
+use Rattle.turns.proofs.Kept.{Ends}
+use Rattle.tiles.specs.Map.{isMap}
+use Rattle.tiles.specs.declared.Sides.{Sides}
+use Rattle.tuning.specs.Tuning.{tuningOf}
+use Rattle.tuning.specs.declared.Tuning.{Tuning}
+use Rattle.call.specs.declared.Call.{Call}
+use Rattle.call.specs.declared.Call.the-variants.{Join, Leave, Input, Step, Tune}
+use Rattle.character.specs.Character.{spawn}
+use Rattle.character.specs.Tick.{slotAt, nowhere}
+use Rattle.character.specs.declared.Slot.{Slot}
+use Rattle.records.specs.Representable.{Representable}
+use Rattle.records.proofs.FromNet.{spawn-representable}
+use Rattle.physics.proofs.Slots.{set-every}
+use Rattle.world.specs.World.{emptySlot, freshTunings, fresh, tuningCount, withSlot, withTuning}
+use Rattle.world.specs.Calls.{refused, accepted, placeOf, pointOf, tune}
+use Rattle.world.specs.Step.{Moving, tickAll, moveAll, stepRefused, stepAnswer, stepOn, step}
+use Rattle.world.specs.Demand3.{inputOf, answer, after}
+use Rattle.world.specs.Settled.{Settled, AfterSettled}
+use Rattle.world.specs.declared.Answer.{Answer}
+use Rattle.world.specs.declared.World.{World}
+use Rattle.world.proofs.Outcomes.{Outcome, no, yes, reach-i32, joined, Joins, join-outcome, leave-outcome, input-outcome}
+use Rattle.world.proofs.Seats.{Same, Settling, same-on, ticks-same, moves-settle}
+
+-- where an accepted join puts somebody
+pub joined-representable : (n : ℕ) (w : World) (s : Sides) (ts : List ℕ) (id x y : ℤ) → Joins n w s ts id x y → Representable (spawn (pointOf x y))
+unfolding pointOf
+joined-representable n w s ts id x y f = spawn-representable x y (reach-i32 x (f .x-reach)) (reach-i32 y (f .y-reach))
+
+module _ (n : ℕ) where
+  fresh-settled : Settled n (fresh n)
+  unfolding fresh freshTunings emptySlot
+  fresh-settled = record {
+    seats = length-replicate n emptySlot;
+    tunings = refl;
+    representable = λ k l q. absurd (true≢false (sym q ∙ ap (λ (x : Slot). x .present) (getD-replicate n k emptySlot nowhere l)));
+    empty = λ k l q. getD-replicate n k emptySlot nowhere l;
+  }
+
+  -- ---- a slot set
+  slot-settled : {F : Type 0} (w : World) (j : ℕ) (x : Slot) (a : Answer) → Outcome w (withSlot w j x) F a → Settled n w → (F → (x .present ≡ true → Representable (x .character)) × (x .present ≡ false → x ≡ emptySlot)) → Settled n (a .world)
+  slot-settled w j x a (no r e) h f = rw e h
+  slot-settled w j x a (yes q e) h f = rw e (record {
+    seats = length-set (w .slots) j x ∙ h .seats;
+    tunings = h .tunings;
+    representable = set-every (λ k y. k < n → y .present ≡ true → Representable (y .character)) (w .slots) j x nowhere (h .representable) (λ l. f q .0);
+    empty = set-every (λ k y. k < n → y .present ≡ false → y ≡ emptySlot) (w .slots) j x nowhere (h .empty) (λ l. f q .1);
+  })
+
+  -- ---- tune
+  tune-settled : (w : World) (index z : ℤ) → Settled n w → Settled n (tune w index z .world)
+  unfolding tune
+  tune-settled w index z h = go (ltb k tuningCount)
+    where
+      k : ℕ
+      k = placeOf tuningCount index
+
+      go : (b : Bool) → Settled n (cond b (accepted (withTuning w k z)) (refused w 3) .world)
+      go true = record { seats = h .seats; tunings = length-set (w .tunings) k z ∙ h .tunings; representable = h .representable; empty = h .empty }
+      go false = h
+
+  -- ---- step
+  module _ (s : Sides) (ts : List ℕ) (w : World) (h : Settled n w) where
+    abbrev t : Tuning
+    t = tuningOf (w .tunings)
+
+    moved-settled : (us : List Slot) → Same (w .slots) us → (a : Turn Moving ℕ) → Ends (Settling n s ts t us n) (λ r. 0 < r) a → Settled n (stepAnswer n w a .world)
+    moved-settled us d (stop k) l = h
+    moved-settled us d (more m) f =
+        let e = same-on (w .slots) us (m .slots) d (f .same) in
+        record {
+          seats = e .size ∙ h .seats;
+          tunings = h .tunings;
+          representable = f .moved;
+          empty = λ k l q. let p = sym (e .present k) ∙ q in e .absent k p ∙ h .empty k l p;
+        }
+
+    ticked-settled : (a : Turn (List Slot) ℕ) → Ends (Same (w .slots)) (λ r. 0 < r) a → Settled n (stepAnswer n w (next (λ us. moveAll n us s ts t) a) .world)
+    ticked-settled (stop k) l = h
+    ticked-settled (more us) d = moved-settled us d (moveAll n us s ts t) (moves-settle n s ts t us)
+
+    step-settled : Settled n (step n w s ts .world)
+    unfolding step stepOn
+    step-settled = go (isMap s ts)
+      where
+        go : (b : Bool) → Settled n (cond b (stepOn n w s ts) (stepRefused n w 1) .world)
+        go true = ticked-settled (tickAll n (w .slots) s ts t) (ticks-same n s ts t (w .slots))
+        go false = h
+
+  -- ---- every call, and every list of them
+  module _ (s : Sides) (ts : List ℕ) where
+    pub answer-settled : (w : World) (c : Call) → Settled n w → Settled n (answer n s ts w c .world)
+    unfolding emptySlot
+    answer-settled w (Join id x y) h = slot-settled w (placeOf n id) (joined (pointOf x y)) _ (join-outcome n w s ts id x y) h (λ f. (λ e. joined-representable n w s ts id x y f, λ e. absurd (true≢false e)))
+    answer-settled w (Leave id) h = slot-settled w (placeOf n id) emptySlot _ (leave-outcome n w id) h (λ f. (λ e. absurd (true≢false (sym e)), λ e. refl))
+    answer-settled w (Input id d x y j k) h = slot-settled w (placeOf n id) (record { present = true; character = slotAt (w .slots) (placeOf n id) .character; input = inputOf d x y j k }) _ (input-outcome n w id (inputOf d x y j k)) h (λ f. (λ e. h .representable (placeOf n id) (f .seat) (f .there), λ e. absurd (true≢false e)))
+    answer-settled w Step h = step-settled s ts w h
+    answer-settled w (Tune index z) h = tune-settled w index z h
+
+    list-settled : (cs : List Call) (w : World) → Settled n w → Settled n (after n s ts w cs)
+    list-settled [] w h = h
+    list-settled (c ∷ cs) w h = list-settled cs (answer n s ts w c .world) (answer-settled w c h)
+
+pub after-settled : (n : ℕ) → AfterSettled n
+after-settled n s ts cs = list-settled n s ts cs (fresh n) (fresh-settled n)
