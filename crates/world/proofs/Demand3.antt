@@ -6,7 +6,7 @@ use mathlib.Core.List.{List, [], _∷_}
 use mathlib.Core.Path.{_≡_, refl, sym, ap, _∙_, subst}
 use lib.Dec.{eqb, ltb}
 use lib.IntN.{ℤ, pos}
-use lib.ListN.{length, getD, set, length-set}
+use lib.ListN.{length, getD, set}
 use lib.Seq.{getD-set-same, getD-set-other}
 use borrow.Author.Tests.{eq-eqb, ne-eqb, eqb-true, eqb-false, ltb-true, ltb-false}
 use Rattle.vector.specs.declared.vec2.{vec2}
@@ -18,19 +18,19 @@ use Rattle.call.specs.declared.Call.the-variants.{Join, Leave, Input, Step, Tun
 use Rattle.character.specs.Character.{spawn}
 use Rattle.character.specs.Tick.{slotAt, nowhere}
 use Rattle.character.specs.declared.Slot.{Slot}
-use Rattle.records.specs.Representable.{Representable}
 use Rattle.records.proofs.Back.{representable-back}
-use Rattle.records.proofs.FromNet.{spawn-representable}
 use Rattle.physics.proofs.Slots.{set-others, replicate-every}
 use Rattle.world.specs.World.{emptySlot, fresh, tuningCount, playerCollision, withSlot, withTuning}
 use Rattle.world.specs.Calls.{refused, accepted, placeOf, pointOf}
 use Rattle.world.specs.Calls as calls
 use Rattle.world.specs.Demand3.{inputOf, answer, after, collisionAfter, CollisionOff, presentAfter, present, CornersClear, StepFaithful, StepsFaithful, Demand3}
+use Rattle.world.specs.Settled.{Settled}
 use Rattle.world.specs.declared.Answer.{Answer}
 use Rattle.world.specs.declared.World.{World}
 use Rattle.world.proofs.Standing.{Standing, representable-fits}
 use Rattle.world.proofs.Reached.{Reached, set-reached, empty-standing, fresh-reached, steps}
-use Rattle.world.proofs.Outcomes.{Outcome, no, yes, reach-i32, joined, Joins, join-outcome, Seated, leave-outcome, input-outcome}
+use Rattle.world.proofs.Settled.{joined-representable, answer-settled, after-settled}
+use Rattle.world.proofs.Outcomes.{Outcome, no, yes, joined, Joins, join-outcome, Seated, leave-outcome, input-outcome}
 
 abbrev isStep : Call → Bool
 isStep (Join id x y) = false
@@ -62,9 +62,9 @@ module _ (n : ℕ) (w : World) (full : length (w .slots) ≡ n) (j : ℕ) (x : S
   flags a (yes q e) f k = rw e (set-flag (f q) k ∙ with-true (eqb j k) (x .present) (slotAt (w .slots) k .present))
 
 module _ (n : ℕ) (s : Sides) (ts : List ℕ) where
-  slot-reached : {F : Type 0} (z : ℤ) (w : World) (j : ℕ) (x : Slot) (a : Answer) → Outcome w (withSlot w j x) F a → Reached n s ts z w → (F → Standing s ts x × (x .present ≡ true → Representable (x .character))) → Reached n s ts z (a .world)
+  slot-reached : {F : Type 0} (z : ℤ) (w : World) (j : ℕ) (x : Slot) (a : Answer) → Outcome w (withSlot w j x) F a → Reached n s ts z w → (F → Standing s ts x) → Reached n s ts z (a .world)
   slot-reached z w j x a (no r e) h f = rw e h
-  slot-reached z w j x a (yes q e) h f = rw e (set-reached n s ts z w j x h (f q .0) (f q .1))
+  slot-reached z w j x a (yes q e) h f = rw e (set-reached n s ts z w j x h (f q))
 
   -- ---- each call
   -- what a call leaves of a world that is reached with player collision z
@@ -73,33 +73,30 @@ module _ (n : ℕ) (s : Sides) (ts : List ℕ) where
     same : (k : ℕ) → slotAt (answer n s ts w c .world .slots) k .present ≡ presentAfter n k (slotAt (w .slots) k .present) (answer n s ts w c .number) c
     told : c ≡ Step → answer n s ts w c .number ≡ 0 → StepFaithful n w s ts
 
-  joined-stands : (w : World) (id x y : ℤ) → Joins n w s ts id x y → Standing s ts (joined (pointOf x y)) × (true ≡ true → Representable (spawn (pointOf x y)))
-  unfolding pointOf spawn
-  joined-stands w id x y f =
-      let r = spawn-representable x y (reach-i32 x (f .x-reach)) (reach-i32 y (f .y-reach)) in
-      let g = representable-fits (spawn (pointOf x y)) r in
-      (record { clear = λ e. f .clear; pos-fits = λ e. g .0; vel-fits = g .1 }, λ e. r)
+  joined-stands : (w : World) (id x y : ℤ) → Joins n w s ts id x y → Standing s ts (joined (pointOf x y))
+  unfolding spawn
+  joined-stands w id x y f = let g = representable-fits (spawn (pointOf x y)) (joined-representable n w s ts id x y f) in record { clear = λ e. f .clear; pos-fits = λ e. g .0; vel-fits = g .1 }
 
-  join-next : (z : ℤ) (w : World) (id x y : ℤ) → Reached n s ts z w → Next z w (Join id x y)
-  join-next z w id x y h =
+  join-next : (z : ℤ) (w : World) (id x y : ℤ) → Settled n w → Reached n s ts z w → Next z w (Join id x y)
+  join-next z w id x y g h =
       let j = placeOf n id in
       let a = answer n s ts w (Join id x y) in
       let o = join-outcome n w s ts id x y in
       record {
         reached = slot-reached z w j (joined (pointOf x y)) a o h (joined-stands w id x y);
-        same = flags n w (h .seats) j (joined (pointOf x y)) a o (λ f. f .seat);
+        same = flags n w (g .seats) j (joined (pointOf x y)) a o (λ f. f .seat);
         told = λ e. absurd (not-step (Join id x y) refl e);
       }
 
-  leave-next : (z : ℤ) (w : World) (id : ℤ) → Reached n s ts z w → Next z w (Leave id)
+  leave-next : (z : ℤ) (w : World) (id : ℤ) → Settled n w → Reached n s ts z w → Next z w (Leave id)
   unfolding emptySlot
-  leave-next z w id h =
+  leave-next z w id g h =
       let j = placeOf n id in
       let a = answer n s ts w (Leave id) in
       let o = leave-outcome n w id in
       record {
-        reached = slot-reached z w j emptySlot a o h (λ f. (empty-standing n s ts, λ e. absurd (true≢false (sym e))));
-        same = flags n w (h .seats) j emptySlot a o (λ f. f .seat);
+        reached = slot-reached z w j emptySlot a o h (λ f. empty-standing n s ts);
+        same = flags n w (g .seats) j emptySlot a o (λ f. f .seat);
         told = λ e. absurd (not-step (Leave id) refl e);
       }
 
@@ -108,13 +105,13 @@ module _ (n : ℕ) (s : Sides) (ts : List ℕ) where
   same-flag w j k true p e = sym p ∙ ap (λ (i : ℕ). slotAt (w .slots) i .present) (eqb-true j k e)
   same-flag w j k false p e = refl
 
-  input-next : (z : ℤ) (w : World) (id a b c d e : ℤ) → Reached n s ts z w → Next z w (Input id a b c d e)
-  input-next z w id a b c d e h =
+  input-next : (z : ℤ) (w : World) (id a b c d e : ℤ) → Settled n w → Reached n s ts z w → Next z w (Input id a b c d e)
+  input-next z w id a b c d e g h =
       let j = placeOf n id in
       let i = inputOf a b c d e in
       let x : Slot = record { present = true; character = slotAt (w .slots) j .character; input = i } in
       record {
-        reached = slot-reached z w j x (answer n s ts w (Input id a b c d e)) (input-outcome n w id i) h (λ f. (record { clear = λ q. h .stands j .clear (f .there); pos-fits = λ q. h .stands j .pos-fits (f .there); vel-fits = h .stands j .vel-fits }, λ q. h .representable j (f .seat) (f .there)));
+        reached = slot-reached z w j x (answer n s ts w (Input id a b c d e)) (input-outcome n w id i) h (λ f. record { clear = λ q. h .stands j .clear (f .there); pos-fits = λ q. h .stands j .pos-fits (f .there); vel-fits = h .stands j .vel-fits });
         same = stays (answer n s ts w (Input id a b c d e)) (input-outcome n w id i);
         told = λ q. absurd (not-step (Input id a b c d e) refl q);
       }
@@ -124,35 +121,29 @@ module _ (n : ℕ) (s : Sides) (ts : List ℕ) where
 
       stays : (o : Answer) → Outcome w (withSlot w (placeOf n id) new) (Seated n w id) o → (k : ℕ) → slotAt (o .world .slots) k .present ≡ slotAt (w .slots) k .present
       stays o (no r q) k = rw q
-      stays o (yes f q) k = rw q (set-flag n w (h .seats) (placeOf n id) new (f .seat) k ∙ same-flag w (placeOf n id) k (eqb (placeOf n id) k) (f .there) refl)
+      stays o (yes f q) k = rw q (set-flag n w (g .seats) (placeOf n id) new (f .seat) k ∙ same-flag w (placeOf n id) k (eqb (placeOf n id) k) (f .there) refl)
 
   -- ---- tune
-  module _ (z : ℤ) (w : World) (h : Reached n s ts z w) (k : ℕ) (v : ℤ) where
+  module _ (z : ℤ) (w : World) (g : Settled n w) (h : Reached n s ts z w) (k : ℕ) (v : ℤ) where
     tuned-set : k < tuningCount → (b : Bool) → eqb k playerCollision ≡ b → getD (set (w .tunings) k v) playerCollision (pos 0) ≡ cond b v z
-    tuned-set l true e = ap (λ (i : ℕ). getD (set (w .tunings) i v) playerCollision (pos 0)) (eqb-true k playerCollision e) ∙ getD-set-same (w .tunings) playerCollision v (pos 0) (omega (arith, h .tunings))
+    tuned-set l true e = ap (λ (i : ℕ). getD (set (w .tunings) i v) playerCollision (pos 0)) (eqb-true k playerCollision e) ∙ getD-set-same (w .tunings) playerCollision v (pos 0) (omega (arith, g .tunings))
     tuned-set l false e = getD-set-other (w .tunings) k playerCollision v (pos 0) (λ q. eqb-false k playerCollision e (sym q)) ∙ h .tuned
 
     tuned-next : (b : Bool) → ltb k tuningCount ≡ b → Reached n s ts (cond (eqb k playerCollision) v z) (cond b (accepted (withTuning w k v)) (refused w 3) .world)
-    tuned-next true l = record {
-      seats = h .seats;
-      stands = h .stands;
-      representable = h .representable;
-      tuned = tuned-set (ltb-true k tuningCount l) (eqb k playerCollision) refl;
-      tunings = length-set (w .tunings) k v ∙ h .tunings;
-    }
-    tuned-next false l = rw (ne-eqb k playerCollision (λ e. let g : tuningCount ≤ k = ltb-false k tuningCount l in omega arith)) h
+    tuned-next true l = record { stands = h .stands; tuned = tuned-set (ltb-true k tuningCount l) (eqb k playerCollision) refl }
+    tuned-next false l = rw (ne-eqb k playerCollision (λ e. let f : tuningCount ≤ k = ltb-false k tuningCount l in omega arith)) h
 
     slots-stay : (b : Bool) → cond b (accepted (withTuning w k v)) (refused w 3) .world .slots ≡ w .slots
     slots-stay true = refl
     slots-stay false = refl
 
-  tune-next : (z : ℤ) (w : World) (index v : ℤ) → Reached n s ts z w → Next z w (Tune index v)
+  tune-next : (z : ℤ) (w : World) (index v : ℤ) → Settled n w → Reached n s ts z w → Next z w (Tune index v)
   unfolding calls.tune
-  tune-next z w index v h =
+  tune-next z w index v g h =
       let k = placeOf tuningCount index in
       record {
-        reached = tuned-next z w h k v (ltb k tuningCount) refl;
-        same = λ i. ap (λ (us : List Slot). slotAt us i .present) (slots-stay z w h k v (ltb k tuningCount));
+        reached = tuned-next z w g h k v (ltb k tuningCount) refl;
+        same = λ i. ap (λ (us : List Slot). slotAt us i .present) (slots-stay z w g h k v (ltb k tuningCount));
         told = λ e. absurd (not-step (Tune index v) refl e);
       }
 
@@ -165,12 +156,12 @@ module _ (n : ℕ) (s : Sides) (ts : List ℕ) where
         told = λ i q. record { published = x .published q; faithful = x .faithful q };
       }
 
-  next : (z : ℤ) (w : World) (c : Call) → Reached n s ts z w → (c ≡ Step → z ≡ pos 0) → Next z w c
-  next z w (Join id x y) h o = join-next z w id x y h
-  next z w (Leave id) h o = leave-next z w id h
-  next z w (Input id a b c d e) h o = input-next z w id a b c d e h
-  next z w (Tune index v) h o = tune-next z w index v h
-  next z w Step h o = step-next z w h (o refl)
+  next : (z : ℤ) (w : World) (c : Call) → Settled n w → Reached n s ts z w → (c ≡ Step → z ≡ pos 0) → Next z w c
+  next z w (Join id x y) g h o = join-next z w id x y g h
+  next z w (Leave id) g h o = leave-next z w id g h
+  next z w (Input id a b c d e) g h o = input-next z w id a b c d e g h
+  next z w (Tune index v) g h o = tune-next z w index v g h
+  next z w Step g h o = step-next z w h (o refl)
 
   -- ---- every list of calls
   record Upto (w : World) (cs : List Call) : Type 0 where
@@ -179,11 +170,11 @@ module _ (n : ℕ) (s : Sides) (ts : List ℕ) where
     same : (k : ℕ) → slotAt (after n s ts w cs .slots) k .present ≡ present n s ts k (slotAt (w .slots) k .present) w cs
     told : StepsFaithful n s ts w cs
 
-  upto : (cs : List Call) (z : ℤ) (w : World) → Reached n s ts z w → CollisionOff z cs → Upto w cs
-  upto [] z w h o = record { collision = z; reached = h; same = λ k. refl; told = tt }
-  upto (c ∷ cs) z w h o =
-      let x = next z w c h (o .0) in
-      let r = upto cs (collisionAfter z c) (answer n s ts w c .world) (x .reached) (o .1) in
+  upto : (cs : List Call) (z : ℤ) (w : World) → Settled n w → Reached n s ts z w → CollisionOff z cs → Upto w cs
+  upto [] z w g h o = record { collision = z; reached = h; same = λ k. refl; told = tt }
+  upto (c ∷ cs) z w g h o =
+      let x = next z w c g h (o .0) in
+      let r = upto cs (collisionAfter z c) (answer n s ts w c .world) (answer-settled n s ts w c g) (x .reached) (o .1) in
       record {
         collision = r .collision;
         reached = r .reached;
@@ -209,10 +200,10 @@ corners-clear s ts p h = let e = all-false _ _ _ _ (sym (character-corners s ts 
 
 pub demand3 : (n : ℕ) → Demand3 n
 demand3 n s ts cs o =
-    let u = upto n s ts cs (pos 100) (fresh n) (fresh-reached n s ts) o in
+    let u = upto n s ts cs (pos 100) (fresh n) (after-settled n s ts []) (fresh-reached n s ts) o in
     record {
       clear = λ k l p. corners-clear s ts (slotAt (after n s ts (fresh n) cs .slots) k .character .pos) (u .reached .stands k .clear (there u k p));
-      back = λ k l p. representable-back (slotAt (after n s ts (fresh n) cs .slots) k .character) (u .reached .representable k l (there u k p));
+      back = λ k l p. representable-back (slotAt (after n s ts (fresh n) cs .slots) k .character) (after-settled n s ts cs .representable k l (there u k p));
       steps = u .told;
     }
   where

@@ -1,8 +1,7 @@
 -- What the moves of a step keep and publish, with player collision 0. Assumes nothing.
 use Prim.Native.Nat.{ℕ, suc, _+_, _≤_, _<_}
 use native.Mathlib.Omega.{arith}
-use native.Mathlib.Nat.{eq-or-lt-of-le}
-use mathlib.Core.Logic.{_⊎_, ⊎-elim}
+use mathlib.Core.Logic.{⊎-elim}
 use mathlib.Core.Bool.{Bool, true, false, cond, true≢false}
 use mathlib.Core.List.{List}
 use mathlib.Core.Path.{_≡_, refl, sym, ap, _∙_, subst}
@@ -25,21 +24,20 @@ use Rattle.character.specs.declared.walk.Moved.{Moved}
 use Rattle.character.specs.declared.walk.Moved.the-variants as moved
 use Rattle.character.specs.Tick.{slotAt, nowhere, withCharacter}
 use Rattle.records.specs.Faithful.{Faithful}
-use Rattle.records.specs.Records.{coreOf, toNet, fromNet, quantize, mostTick}
+use Rattle.records.specs.Records.{coreOf, toNet, fromNet, mostTick}
 use Rattle.records.specs.Representable.{Representable}
 use Rattle.records.specs.declared.Net.{Net}
 use Rattle.records.specs.declared.Net.the-variants as net
-use Rattle.records.specs.declared.Quantized.the-variants as quantized
-use Rattle.records.proofs.FromNet.{quantized-representable}
 use Rattle.records.proofs.Faithful.{core-faithful, core-clear}
-use Rattle.physics.proofs.Slots.{set-others, replicate-every}
+use Rattle.physics.proofs.Slots.{set-every, set-others, replicate-every}
 use Rattle.physics.proofs.Moved.{move-clear}
 use Rattle.physics.proofs.FitsTick.{FitsPair}
 use Rattle.physics.proofs.FitsMove.{move-fits}
 use Rattle.world.specs.Step.{Moving, unpublished, ofNet, recordOf, publish, moveIn, moveTurn, movingFrom, moveAll}
 use Rattle.world.specs.Demand3.{leftIn, leftFrom, FaithfulTo, recordAt}
 use Rattle.world.specs.declared.Published.{Published}
-use Rattle.world.proofs.Standing.{representable-fits, Standing}
+use Rattle.world.proofs.Seats.{last-or-below, net-representable, Settling, move-turn, nobody-moved}
+use Rattle.world.proofs.Standing.{representable-fits, Standing, Stands}
 
 -- ---- the record of a character
 
@@ -60,13 +58,11 @@ module _ (s : Sides) (ts : List ℕ) where
     clear : Clear s ts (fromNet core .pos) characterBox
 
   read : (c : Character) (core : CharacterCore) → T (isMap s ts) → FitsPair (c .pos) → FitsPair (c .vel) → Clear s ts (c .pos) characterBox → toNet c ≡ net.Core core → Read c core
-  unfolding quantize
   read c core m p v h e =
       let i = net-core c core e in
-      let q : quantize c ≡ quantized.To (fromNet core) = rw e in
       record {
         faithful = subst (λ (k : CharacterCore). Faithful k (c .pos) (c .vel)) (sym i) (core-faithful c (v .0) (v .1));
-        representable = quantized-representable c (fromNet core) q;
+        representable = net-representable c core e;
         clear = subst (λ (k : CharacterCore). Clear s ts (fromNet k .pos) characterBox) (sym i) (core-clear s ts c m (p .0) (p .1) ∙ h);
       }
 
@@ -77,31 +73,22 @@ stop-or-more k a e = let z : _≡_ {A = ℕ} 0 1 = cc in omega arith
 same-more : (a b : Moving) → _≡_ {A = Turn Moving ℕ} (more a) (more b) → a ≡ b
 same-more a b e = cc
 
-stops : (j k : ℕ) → _≡_ {A = Turn Moving ℕ} (stop (suc j)) (stop k) → 0 < k
-stops j k e = let z : suc j ≡ k = cc in omega arith
-
--- the last of the indices below i + 1, or one before it
-last-or-below : (k i : ℕ) → k < suc i → (k ≡ i) ⊎ (k < i)
-last-or-below k i h = eq-or-lt-of-le (omega arith)
-
 -- ---- the moves so far
 module _ (n : ℕ) (s : Sides) (ts : List ℕ) (t : Tuning) (ss : List Slot) where
   -- the record of the id k: there where somebody is, and near to what the move left
   abbrev pub Told : ℕ → Published → Type 0
   Told k p = (p .present ≡ slotAt ss k .present) × (slotAt ss k .present ≡ true → FaithfulTo (p .core) (leftFrom n s ts t ss k))
 
-  -- after i moves: every slot stands; those that have moved are representable, and their records are told
+  -- after i moves: every slot stands, and the records of those that have moved are told
   pub record Sofar (i : ℕ) (m : Moving) : Type 0 where
     pub reached : run (moveTurn n s ts t) i 0 (movingFrom n ss) ≡ more m
-    pub stands : (k : ℕ) → Standing s ts (slotAt (m .slots) k)
-    pub same : (k : ℕ) → slotAt (m .slots) k .present ≡ slotAt ss k .present
-    pub seats : length (m .slots) ≡ n
-    pub moved : (k : ℕ) → k < i → slotAt ss k .present ≡ true → Representable (slotAt (m .slots) k .character)
+    pub settling : Settling n s ts t ss i m
+    pub stands : Stands s ts (m .slots)
     pub size : length (m .records) ≡ n
     pub told : (k : ℕ) → k < i → Told k (recordAt (m .records) k)
     pub untold : (k : ℕ) → i ≤ k → recordAt (m .records) k .present ≡ false
 
-module _ (n : ℕ) (s : Sides) (ts : List ℕ) (t : Tuning) (map : T (isMap s ts)) (off : ne (t .«player_collision») c0 ≡ false) (ss : List Slot) (full : length ss ≡ n) where
+module _ (n : ℕ) (s : Sides) (ts : List ℕ) (t : Tuning) (map : T (isMap s ts)) (off : ne (t .«player_collision») c0 ≡ false) (ss : List Slot) where
   abbrev Upto : ℕ → Moving → Type 0
   Upto = Sofar n s ts t ss
 
@@ -109,21 +96,25 @@ module _ (n : ℕ) (s : Sides) (ts : List ℕ) (t : Tuning) (map : T (isMap s ts
     reaches : (m' : Moving) → moveTurn n s ts t i m ≡ more m' → run (moveTurn n s ts t) (suc i) 0 (movingFrom n ss) ≡ more m'
     reaches m' e = run-last (moveTurn n s ts t) i 0 (movingFrom n ss) ∙ ap (next (moveTurn n s ts t (i + 0))) (h .reached) ∙ ap (λ (j : ℕ). moveTurn n s ts t j m) (omega arith) ∙ e
 
+    settles : (m' : Moving) → moveTurn n s ts t i m ≡ more m' → Settling n s ts t ss (suc i) m'
+    settles m' e = subst (Ends (Settling n s ts t ss (suc i)) (λ k. 0 < k)) e (move-turn n s ts t ss i m (h .settling))
+
+    same : (k : ℕ) → slotAt (m .slots) k .present ≡ slotAt ss k .present
+    same = h .settling .same .present
+
     -- nobody there: as before
     absent : slotAt (m .slots) i .present ≡ false → moveTurn n s ts t i m ≡ more m → Upto (suc i) m
     absent p e = record {
       reached = reaches m e;
+      settling = settles m e;
       stands = h .stands;
-      same = h .same;
-      seats = h .seats;
-      moved = λ k l. ⊎-elim (λ q. λ r. absurd (true≢false (sym r ∙ nobody k q))) (h .moved k) (last-or-below k i l);
       size = h .size;
       told = λ k l. ⊎-elim (λ q. (h .untold k (omega (arith, q)) ∙ sym (nobody k q), λ r. absurd (true≢false (sym r ∙ nobody k q)))) (h .told k) (last-or-below k i l);
       untold = λ k l. h .untold k (omega arith);
     }
       where
         nobody : (k : ℕ) → k ≡ i → slotAt ss k .present ≡ false
-        nobody k q = rw q (sym (h .same i) ∙ p)
+        nobody k q = rw q (sym (same i) ∙ p)
 
     -- somebody is there: its record is published
     module _ (l : i < n) (p : slotAt (m .slots) i .present ≡ true) (c : Character) (core : CharacterCore) (q : moveIn n s ts t (m .slots) i ≡ moved.To c) (r : Read s ts c core) where
@@ -132,9 +123,6 @@ module _ (n : ℕ) (s : Sides) (ts : List ℕ) (t : Tuning) (map : T (isMap s ts
 
       abbrev new : Slot
       new = withCharacter (slotAt (m .slots) i) (fromNet core)
-
-      slots-in : i < length (m .slots)
-      slots-in = omega (arith, h .seats)
 
       records-in : i < length (m .records)
       records-in = omega (arith, h .size)
@@ -148,17 +136,12 @@ module _ (n : ℕ) (s : Sides) (ts : List ℕ) (t : Tuning) (map : T (isMap s ts
       present : moveTurn n s ts t i m ≡ more after → Upto (suc i) after
       present e = record {
         reached = reaches after e;
-        stands = set-others (λ k x. Standing s ts x) (m .slots) i new nowhere slots-in (λ k d. h .stands k) standing;
-        same = set-others (λ k x. x .present ≡ slotAt ss k .present) (m .slots) i new nowhere slots-in (λ k d. h .same k) (h .same i);
-        seats = length-set (m .slots) i new ∙ h .seats;
-        moved = λ k b. set-others (λ j x. j < suc i → slotAt ss j .present ≡ true → Representable (x .character)) (m .slots) i new nowhere slots-in (λ j d a. h .moved j (lt-of j d a)) (λ a e. r .representable) k b;
+        settling = settles after e;
+        stands = set-every (λ k. Standing s ts) (m .slots) i new nowhere (h .stands) standing;
         size = length-set (m .records) i (record { present = true; core = core }) ∙ h .size;
-        told = set-others (λ j x. j < suc i → Told n s ts t ss j x) (m .records) i (record { present = true; core = core }) unpublished records-in (λ j d a. h .told j (lt-of j d a)) (λ a. (sym p ∙ h .same i, λ e. subst (FaithfulTo core) (sym left-is) (r .faithful)));
+        told = set-others (λ j x. j < suc i → Told n s ts t ss j x) (m .records) i (record { present = true; core = core }) unpublished records-in (λ j d a. h .told j (omega arith)) (λ a. (sym p ∙ same i, λ e. subst (FaithfulTo core) (sym left-is) (r .faithful)));
         untold = λ k b. set-others (λ j x. i < j → x .present ≡ false) (m .records) i (record { present = true; core = core }) unpublished records-in (λ j d a. h .untold j (omega arith)) (λ a. absurd (omega arith)) k (omega arith);
       }
-        where
-          lt-of : (j : ℕ) → (j ≡ i → ⊥) → j < suc i → j < i
-          lt-of j d a = ⊎-elim (λ z. absurd (d z)) (λ z. z) (last-or-below j i a)
 
     reads : slotAt (m .slots) i .present ≡ true → (c : Character) (core : CharacterCore) → moveIn n s ts t (m .slots) i ≡ moved.To c → toNet c ≡ net.Core core → Read s ts c core
     reads p c core q w =
@@ -185,40 +168,19 @@ module _ (n : ℕ) (s : Sides) (ts : List ℕ) (t : Tuning) (map : T (isMap s ts
         go true p z = recorded (moveIn n s ts t (m .slots) i) refl p z
         go false p z = subst (Upto (suc i)) (same-more m m' z) (absent p (e ∙ sym z))
 
-  -- a number that stops the moves is not 0
-  refuses : (i : ℕ) (m : Moving) (k : ℕ) → moveTurn n s ts t i m ≡ stop k → 0 < k
-  unfolding recordOf
-  refuses i m k e = go (slotAt (m .slots) i .present) e
-    where
-      named : (o : Net) → publish m i (ofNet o) ≡ stop k → 0 < k
-      named net.TickTooLarge z = stops 9 k z
-      named (net.Core core) z = absurd (stop-or-more k _ (sym z))
-
-      recorded : (d : Moved) → publish m i (recordOf d) ≡ stop k → 0 < k
-      recorded moved.BadMap z = stops 0 k z
-      recorded moved.BadId z = stops 1 k z
-      recorded moved.TooFar z = stops 8 k z
-      recorded (moved.To c) z = named (toNet c) z
-
-      go : (b : Bool) → cond b (publish m i (recordOf (moveIn n s ts t (m .slots) i))) (more m) ≡ stop k → 0 < k
-      go true z = recorded (moveIn n s ts t (m .slots) i) z
-      go false z = absurd (stop-or-more k m (sym z))
-
-  step-sofar : (i : ℕ) (m : Moving) → (i ≤ n → Upto i m) → Ends (λ m'. suc i ≤ n → Upto (suc i) m') (λ k. 0 < k) (moveTurn n s ts t i m)
+  step-sofar : (i : ℕ) (m : Moving) → (i ≤ n → Upto i m) → Ends (λ m'. suc i ≤ n → Upto (suc i) m') (λ k. Unit {0}) (moveTurn n s ts t i m)
   step-sofar i m h = go (moveTurn n s ts t i m) refl
     where
-      go : (a : Turn Moving ℕ) → moveTurn n s ts t i m ≡ a → Ends (λ m'. suc i ≤ n → Upto (suc i) m') (λ k. 0 < k) a
+      go : (a : Turn Moving ℕ) → moveTurn n s ts t i m ≡ a → Ends (λ m'. suc i ≤ n → Upto (suc i) m') (λ k. Unit {0}) a
       go (more m') e = λ l. turn i m (h (omega arith)) (omega arith) m' e
-      go (stop k) e = refuses i m k e
+      go (stop k) e = tt
 
-  start : ((k : ℕ) → Standing s ts (slotAt ss k)) → Upto 0 (movingFrom n ss)
+  start : Stands s ts ss → Upto 0 (movingFrom n ss)
   unfolding run
   start h = record {
     reached = refl;
+    settling = nobody-moved n s ts t ss;
     stands = h;
-    same = λ k. refl;
-    seats = full;
-    moved = λ k l. absurd (none k l);
     size = length-replicate n unpublished;
     told = λ k l. absurd (none k l);
     untold = λ k l. replicate-every (λ (p : Published). p .present ≡ false) n unpublished unpublished refl refl k;
@@ -227,11 +189,11 @@ module _ (n : ℕ) (s : Sides) (ts : List ℕ) (t : Tuning) (map : T (isMap s ts
       none : (k : ℕ) → k < 0 → ⊥
       none k l = omega arith
 
-  all : (a : Turn Moving ℕ) → Ends (λ m. n + 0 ≤ n → Upto (n + 0) m) (λ k. 0 < k) a → Ends (Upto n) (λ k. 0 < k) a
+  all : (a : Turn Moving ℕ) → Ends (λ m. n + 0 ≤ n → Upto (n + 0) m) (λ k. Unit {0}) a → Ends (Upto n) (λ k. Unit {0}) a
   all (more m) f = subst (λ (j : ℕ). Upto j m) (omega arith) (f (omega arith))
   all (stop k) l = l
 
-  -- after all moves; a number that refuses them is not 0
-  pub moves-sofar : ((k : ℕ) → Standing s ts (slotAt ss k)) → Ends (Sofar n s ts t ss n) (λ k. 0 < k) (moveAll n ss s ts t)
+  -- after all moves
+  pub moves-sofar : Stands s ts ss → Ends (Sofar n s ts t ss n) (λ k. Unit {0}) (moveAll n ss s ts t)
   unfolding moveAll
-  moves-sofar h = all (run (moveTurn n s ts t) n 0 (movingFrom n ss)) (run-kept (moveTurn n s ts t) (λ i m. i ≤ n → Upto i m) (λ k. 0 < k) step-sofar n 0 (movingFrom n ss) (λ l. start h))
+  moves-sofar h = all (run (moveTurn n s ts t) n 0 (movingFrom n ss)) (run-kept (moveTurn n s ts t) (λ i m. i ≤ n → Upto i m) (λ k. Unit {0}) step-sofar n 0 (movingFrom n ss) (λ l. start h))

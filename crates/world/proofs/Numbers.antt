@@ -1,9 +1,8 @@
 -- With which numbers a step answers: 0, 1 or 9, and never 10. Assumes nothing.
-use Prim.Native.Nat.{ℕ, zero, suc, _+_, _≤_, _<_}
+use Prim.Native.Nat.{ℕ, suc, _+_, _≤_, _<_}
 use native.Mathlib.Omega.{arith}
-use native.Mathlib.Nat.{eq-or-lt-of-le}
 use mathlib.Core.Bool.{Bool, true, false, cond, true≢false}
-use mathlib.Core.List.{List, [], _∷_}
+use mathlib.Core.List.{List}
 use mathlib.Core.Logic.{_⊎_, inl, inr, ⊎-elim}
 use mathlib.Core.Path.{_≡_, refl, sym, ap, _∙_, subst}
 use lib.Dec.{ltb}
@@ -43,6 +42,7 @@ use Rattle.character.specs.declared.walk.PlayerWalk.the-variants as among
 use Rattle.character.specs.Walk.{movedTo, playerWalk, rested, afterBox, moveAt}
 use Rattle.world.specs.Step.{Moving, afterTick, tickTurn, tickAll, ofNet, recordOf, publish, moveIn, moveTurn, movingFrom, moveAll, stepRefused, stepAnswer, stepOn, step}
 use Rattle.world.specs.declared.World.{World}
+use Rattle.world.proofs.Seats.{last-or-below, present-within}
 
 -- a tick leaves no hook that has held for more than 60 ticks
 hold-short : (h : Hook) → tickOf (hold h) ≤ 60
@@ -59,12 +59,6 @@ hold-short (Attached p) = omega arith
 hold-short (Retracting0 p) = omega arith
 hold-short (Retracting1 p) = omega arith
 hold-short (Retracting2 p) = omega arith
-
--- somebody is there only within the list
-present-within : (ss : List Slot) (j : ℕ) → slotAt ss j .present ≡ true → j < length ss
-present-within [] j e = absurd (true≢false (sym e))
-present-within (x ∷ ss) zero e = omega arith
-present-within (x ∷ ss) (suc j) e = let h : j < length ss = present-within ss j e in omega arith
 
 -- ---- ticks
 abbrev Short : Slot → Type 0
@@ -84,9 +78,6 @@ module _ (n : ℕ) (s : Sides) (ts : List ℕ) (t : Tuning) where
   abbrev Ticks : ℕ → List Slot → Type 0
   Ticks i us = (length us ≤ n) × ((k : ℕ) → k < i → Short (slotAt us k))
 
-  below : (k i : ℕ) → (k ≡ i → ⊥) → k < suc i → k < i
-  below k i d l = ⊎-elim (λ e. absurd (d e)) (λ h. h) (eq-or-lt-of-le (omega arith))
-
   tick-turn : (i : ℕ) (us : List Slot) → Ticks i us → Ends (Ticks (suc i)) (λ r. r ≡ 9) (tickTurn n s ts t i us)
   tick-turn i us h = go (slotAt us i .present) refl
     where
@@ -104,14 +95,14 @@ module _ (n : ℕ) (s : Sides) (ts : List ℕ) (t : Tuning) where
           let a = present-within us i p in
           let b = tick-length us n c i s ts (slotAt us i .input) t in
           let e = length-set (k .slots) i (withCharacter (slotAt (k .slots) i) (k .me)) in
-          rw (eq-eqb (k .number) 0 (z .0)) (omega (arith, h .0), set-others (λ j x. j < suc i → Short x) (k .slots) i (withCharacter (slotAt (k .slots) i) (k .me)) nowhere (omega arith) (λ j d l. others j (below j i d l)) (λ l q. z .1))
+          rw (eq-eqb (k .number) 0 (z .0)) (omega (arith, h .0), set-others (λ j x. j < suc i → Short x) (k .slots) i (withCharacter (slotAt (k .slots) i) (k .me)) nowhere (omega arith) (λ j d l. others j (omega arith)) (λ l q. z .1))
 
       refuses : k .number ≡ 9 → Ends (Ticks (suc i)) (λ r. r ≡ 9) (afterTick i k)
       refuses z = rw (ne-eqb (k .number) 0 (λ e. omega arith)) z
 
       go : (b : Bool) → slotAt us i .present ≡ b → Ends (Ticks (suc i)) (λ r. r ≡ 9) (cond b (afterTick i k) (more us))
       go true p = ⊎-elim (ticks p) refuses (tick-short n c i us s ts (slotAt us i .input) t)
-      go false p = (h .0, λ j l. ⊎-elim (λ e. λ q. absurd (true≢false (sym q ∙ ap (λ (m : ℕ). slotAt us m .present) e ∙ p))) (h .1 j) (eq-or-lt-of-le (omega arith)))
+      go false p = (h .0, λ j l. ⊎-elim (λ e. λ q. absurd (true≢false (sym q ∙ ap (λ (m : ℕ). slotAt us m .present) e ∙ p))) (h .1 j) (last-or-below j i l))
 
   ticks-short : (us : List Slot) → length us ≤ n → Ends (Ticks n) (λ r. r ≡ 9) (tickAll n us s ts t)
   unfolding tickAll

@@ -1,4 +1,4 @@
--- What holds of a world between the calls, and that a step with player collision 0 keeps it. Assumes nothing.
+-- What holds of a world between the calls beside that it is settled, and that a step with player collision 0 keeps it. Assumes nothing.
 use Prim.Native.Nat.{ℕ, _<_}
 use native.Mathlib.Omega.{arith}
 use mathlib.Core.Bool.{Bool, true, false, cond, true≢false}
@@ -9,7 +9,7 @@ use lib.Ieee.{binary32, ofBits, ofInt, round, div, ne}
 use lib.Ieee.Fits.{nan-fits}
 use lib.Ieee.Bits.{ofBits-fits}
 use lib.IntN.{ℤ, pos}
-use lib.ListN.{length, getD, set, length-set, length-replicate}
+use lib.ListN.{getD}
 use Rattle.turns.specs.Turns.{Turn, more, stop, next, run}
 use Rattle.turns.proofs.Kept.{Ends}
 use Rattle.number.specs.Number.{c0}
@@ -21,13 +21,13 @@ use Rattle.tuning.specs.declared.Tuning.{Tuning}
 use Rattle.character.specs.Character.{spawn}
 use Rattle.character.specs.Tick.{slotAt, nowhere}
 use Rattle.character.specs.declared.Slot.{Slot}
-use Rattle.records.specs.Representable.{Representable}
 use Rattle.physics.proofs.Slots.{set-every, replicate-every}
-use Rattle.world.specs.World.{emptySlot, freshTunings, fresh, tuningCount, playerCollision, withSlot}
+use Rattle.world.specs.World.{emptySlot, freshTunings, fresh, playerCollision, withSlot}
 use Rattle.world.specs.Step.{Moving, tickAll, moveAll, moveTurn, movingFrom, stepRefused, stepAnswer, stepOn, step}
 use Rattle.world.specs.Demand3.{left, leftIn, leftFrom, recordAt, FaithfulTo}
 use Rattle.world.specs.declared.Stepped.{Stepped}
 use Rattle.world.specs.declared.World.{World}
+use Rattle.world.proofs.Seats.{Same, Settling, ticks-same, moves-settle}
 use Rattle.world.proofs.Standing.{Standing, Stands, ticks-stand}
 use Rattle.world.proofs.Moves.{Sofar, moves-sofar}
 
@@ -39,21 +39,12 @@ collision-off tunings e = rw e refl
 module _ (n : ℕ) (s : Sides) (ts : List ℕ) where
   -- z is player collision
   pub record Reached (z : ℤ) (w : World) : Type 0 where
-    pub seats : length (w .slots) ≡ n
-    pub stands : (k : ℕ) → Standing s ts (slotAt (w .slots) k)
-    pub representable : (k : ℕ) → k < n → slotAt (w .slots) k .present ≡ true → Representable (slotAt (w .slots) k .character)
+    pub stands : Stands s ts (w .slots)
     pub tuned : getD (w .tunings) playerCollision (pos 0) ≡ z
-    pub tunings : length (w .tunings) ≡ tuningCount
 
   -- ---- a slot set, and a fresh world
-  pub set-reached : (z : ℤ) (w : World) (j : ℕ) (x : Slot) → Reached z w → Standing s ts x → (x .present ≡ true → Representable (x .character)) → Reached z (withSlot w j x)
-  set-reached z w j x h a r = record {
-    seats = length-set (w .slots) j x ∙ h .seats;
-    stands = set-every (λ k y. Standing s ts y) (w .slots) j x nowhere (h .stands) a;
-    representable = set-every (λ k y. k < n → y .present ≡ true → Representable (y .character)) (w .slots) j x nowhere (h .representable) (λ l. r);
-    tuned = h .tuned;
-    tunings = h .tunings;
-  }
+  pub set-reached : (z : ℤ) (w : World) (j : ℕ) (x : Slot) → Reached z w → Standing s ts x → Reached z (withSlot w j x)
+  set-reached z w j x h a = record { stands = set-every (λ k. Standing s ts) (w .slots) j x nowhere (h .stands) a; tuned = h .tuned }
 
   pub empty-standing : Standing s ts emptySlot
   unfolding emptySlot spawn
@@ -64,13 +55,7 @@ module _ (n : ℕ) (s : Sides) (ts : List ℕ) where
 
   pub fresh-reached : Reached (pos 100) (fresh n)
   unfolding fresh freshTunings emptySlot
-  fresh-reached = record {
-    seats = length-replicate n emptySlot;
-    stands = replicate-every (Standing s ts) n emptySlot nowhere empty-standing nowhere-standing;
-    representable = λ k l. replicate-every (λ (y : Slot). y .present ≡ true → Representable (y .character)) n emptySlot nowhere (λ e. absurd (true≢false (sym e))) (λ e. absurd (true≢false (sym e))) k;
-    tuned = refl;
-    tunings = refl;
-  }
+  fresh-reached = record { stands = replicate-every (Standing s ts) n emptySlot nowhere empty-standing nowhere-standing; tuned = refl }
 
   -- ---- a step
   -- what a step's answer says of the world before it
@@ -100,31 +85,25 @@ module _ (n : ℕ) (s : Sides) (ts : List ℕ) where
       faithful = λ e. absurd (omega arith);
     }
 
-    accepted : (us : List Slot) (m : Moving) → tickAll n (w .slots) s ts t ≡ more us → Stands s ts n (w .tunings) (w .slots) us → Sofar n s ts t us n m → Steps (pos 0) w (stepAnswer n w (more m))
+    accepted : (us : List Slot) (m : Moving) → tickAll n (w .slots) s ts t ≡ more us → Same (w .slots) us → Sofar n s ts t us n m → Steps (pos 0) w (stepAnswer n w (more m))
     accepted us m e d f = record {
-      reached = record {
-        seats = f .seats;
-        stands = f .stands;
-        representable = λ k l p. f .moved k l (sym (f .same k) ∙ p);
-        tuned = h .tuned;
-        tunings = h .tunings;
-      };
-      same = λ k. f .same k ∙ d .1 k .1;
-      published = λ z j l. f .told j l .0 ∙ d .1 j .1;
-      faithful = λ z j l p. subst (FaithfulTo (recordAt (m .records) j .core)) (left-is w us j e) (f .told j l .1 (d .1 j .1 ∙ p));
+      reached = record { stands = f .stands; tuned = h .tuned };
+      same = λ k. f .settling .same .present k ∙ d .present k;
+      published = λ z j l. f .told j l .0 ∙ d .present j;
+      faithful = λ z j l p. subst (FaithfulTo (recordAt (m .records) j .core)) (left-is w us j e) (f .told j l .1 (d .present j ∙ p));
     }
 
-    moved : (us : List Slot) → tickAll n (w .slots) s ts t ≡ more us → Stands s ts n (w .tunings) (w .slots) us → (a : Turn Moving ℕ) → Ends (Sofar n s ts t us n) (λ k. 0 < k) a → Steps (pos 0) w (stepAnswer n w a)
-    moved us e d (stop k) l = refused k l
-    moved us e d (more m) f = accepted us m e d f
+    moved : (us : List Slot) → tickAll n (w .slots) s ts t ≡ more us → Same (w .slots) us → (a : Turn Moving ℕ) → Ends (Settling n s ts t us n) (λ k. 0 < k) a → Ends (Sofar n s ts t us n) (λ k. Unit {0}) a → Steps (pos 0) w (stepAnswer n w a)
+    moved us e d (stop k) l u = refused k l
+    moved us e d (more m) g f = accepted us m e d f
 
-    ticked : (a : Turn (List Slot) ℕ) → tickAll n (w .slots) s ts t ≡ a → Ends (Stands s ts n (w .tunings) (w .slots)) (λ k. 0 < k) a → Steps (pos 0) w (stepAnswer n w (next (λ us. moveAll n us s ts t) a))
-    ticked (stop k) e l = refused k l
-    ticked (more us) e d = moved us e d (moveAll n us s ts t) (moves-sofar n s ts t map off us (d .0 ∙ h .seats) (λ k. d .1 k .0))
+    ticked : (a : Turn (List Slot) ℕ) → tickAll n (w .slots) s ts t ≡ a → Ends (Same (w .slots)) (λ k. 0 < k) a → Ends (Stands s ts) (λ k. Unit {0}) a → Steps (pos 0) w (stepAnswer n w (next (λ us. moveAll n us s ts t) a))
+    ticked (stop k) e l u = refused k l
+    ticked (more us) e d g = moved us e d (moveAll n us s ts t) (moves-settle n s ts t us) (moves-sofar n s ts t map off us g)
 
     step-on : Steps (pos 0) w (stepOn n w s ts)
     unfolding stepOn
-    step-on = ticked (tickAll n (w .slots) s ts t) refl (ticks-stand s ts n (w .tunings) (w .slots) (h .stands))
+    step-on = ticked (tickAll n (w .slots) s ts t) refl (ticks-same n s ts t (w .slots)) (ticks-stand s ts n (w .tunings) (w .slots) (h .stands))
 
   -- refused with 1 where the map is none
   pub steps : (w : World) → Reached (pos 0) w → Steps (pos 0) w (step n w s ts)

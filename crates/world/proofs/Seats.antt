@@ -1,5 +1,5 @@
 -- What the ticks and the moves of a step leave of the slots, whatever player collision is. Assumes nothing.
-use Prim.Native.Nat.{ℕ, zero, suc, _+_, _≤_, _<_}
+use Prim.Native.Nat.{ℕ, zero, suc, _<_}
 use native.Mathlib.Omega.{arith}
 use native.Mathlib.Nat.{pos-of-ne-zero, eq-or-lt-of-le}
 use mathlib.Core.Bool.{Bool, true, false, cond, true≢false}
@@ -9,7 +9,7 @@ use mathlib.Core.Path.{_≡_, refl, sym, ap, _∙_, subst}
 use lib.Dec.{eqb}
 use lib.ListN.{length, set, length-set}
 use borrow.Author.Tests.{eqb-false}
-use Rattle.turns.specs.Turns.{Turn, more, stop, run}
+use Rattle.turns.specs.Turns.{more, stop, run}
 use Rattle.turns.proofs.Kept.{Ends, run-kept}
 use Rattle.tiles.specs.declared.Sides.{Sides}
 use Rattle.tuning.specs.declared.Tuning.{Tuning}
@@ -25,7 +25,6 @@ use Rattle.records.specs.Records.{toNet, fromNet, quantize}
 use Rattle.records.specs.Representable.{Representable}
 use Rattle.records.specs.declared.Net.{Net}
 use Rattle.records.specs.declared.Net.the-variants as net
-use Rattle.records.specs.declared.Quantized.the-variants as quantized
 use Rattle.records.proofs.FromNet.{quantized-representable}
 use Rattle.physics.proofs.Slots.{set-every, set-others}
 use Rattle.physics.proofs.Others.{tick-others, tick-absent, tick-length}
@@ -34,10 +33,6 @@ use Rattle.world.specs.Step.{Moving, afterTick, tickTurn, tickAll, ofNet
 -- the last of the indices below i + 1, or one before it
 pub last-or-below : (k i : ℕ) → k < suc i → (k ≡ i) ⊎ (k < i)
 last-or-below k i h = eq-or-lt-of-le (omega arith)
-
--- one that is not the last
-pub below : (k i : ℕ) → (k ≡ i → ⊥) → k < suc i → k < i
-below k i d h = ⊎-elim (λ e. absurd (d e)) (λ l. l) (last-or-below k i h)
 
 -- somebody is there only within the list
 pub present-within : (ss : List Slot) (j : ℕ) → slotAt ss j .present ≡ true → j < length ss
@@ -122,7 +117,7 @@ module _ (n : ℕ) (s : Sides) (ts : List ℕ) (t : Tuning) where
         named p c net.TickTooLarge e = omega arith
         named p c (net.Core core) e = record {
           same = same-on ss (m .slots) _ (h .same) (same-set (m .slots) i (fromNet core) p);
-          moved = set-others (λ k x. k < suc i → x .present ≡ true → Representable (x .character)) (m .slots) i (withCharacter (slotAt (m .slots) i) (fromNet core)) nowhere (present-within (m .slots) i p) (λ k d l. h .moved k (below k i d l)) (λ l q. net-representable c core e);
+          moved = set-others (λ k x. k < suc i → x .present ≡ true → Representable (x .character)) (m .slots) i (withCharacter (slotAt (m .slots) i) (fromNet core)) nowhere (present-within (m .slots) i p) (λ k d l. h .moved k (omega arith)) (λ l q. net-representable c core e);
         }
 
         recorded : slotAt (m .slots) i .present ≡ true → (d : Moved) → Ends (Settling (suc i)) (λ r. 0 < r) (publish m i (recordOf d))
