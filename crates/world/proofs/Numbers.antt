@@ -40,9 +40,9 @@ use Rattle.character.specs.declared.walk.Moved.the-variants as moved
 use Rattle.character.specs.declared.walk.PlayerWalk.{PlayerWalk}
 use Rattle.character.specs.declared.walk.PlayerWalk.the-variants as among
 use Rattle.character.specs.Walk.{movedTo, playerWalk, rested, afterBox, moveAt}
-use Rattle.world.specs.Step.{Moving, afterTick, tickTurn, tickAll, ofNet, recordOf, publish, moveIn, moveTurn, movingFrom, moveAll, stepRefused, stepAnswer, stepOn, step}
+use Rattle.world.specs.Step.{Moving, afterTick, tickTurn, tickAll, ofNet, recordOf, publish, moveTurn, movingFrom, moveAll, stepRefused, stepAnswer, stepOn, step}
 use Rattle.world.specs.declared.World.{World}
-use Rattle.world.proofs.Seats.{last-or-below, present-within}
+use Rattle.world.proofs.Seats.{last-or-below, present-within, by-test}
 
 -- a tick leaves no hook that has held for more than 60 ticks
 hold-short : (h : Hook) → tickOf (hold h) ≤ 60
@@ -79,7 +79,7 @@ module _ (n : ℕ) (s : Sides) (ts : List ℕ) (t : Tuning) where
   Ticks i us = (length us ≤ n) × ((k : ℕ) → k < i → Short (slotAt us k))
 
   tick-turn : (i : ℕ) (us : List Slot) → Ticks i us → Ends (Ticks (suc i)) (λ r. r ≡ 9) (tickTurn n s ts t i us)
-  tick-turn i us h = go (slotAt us i .present) refl
+  tick-turn i us h = by-test (Ends (Ticks (suc i)) (λ r. r ≡ 9)) (slotAt us i .present) (λ p. ⊎-elim (ticks p) refuses (tick-short n c i us s ts (slotAt us i .input) t)) nobody
     where
       c : Character
       c = slotAt us i .character
@@ -100,9 +100,8 @@ module _ (n : ℕ) (s : Sides) (ts : List ℕ) (t : Tuning) where
       refuses : k .number ≡ 9 → Ends (Ticks (suc i)) (λ r. r ≡ 9) (afterTick i k)
       refuses z = rw (ne-eqb (k .number) 0 (λ e. omega arith)) z
 
-      go : (b : Bool) → slotAt us i .present ≡ b → Ends (Ticks (suc i)) (λ r. r ≡ 9) (cond b (afterTick i k) (more us))
-      go true p = ⊎-elim (ticks p) refuses (tick-short n c i us s ts (slotAt us i .input) t)
-      go false p = (h .0, λ j l. ⊎-elim (λ e. λ q. absurd (true≢false (sym q ∙ ap (λ (m : ℕ). slotAt us m .present) e ∙ p))) (h .1 j) (last-or-below j i l))
+      nobody : slotAt us i .present ≡ false → Ticks (suc i) us
+      nobody p = (h .0, λ j l. ⊎-elim (λ e. λ q. absurd (true≢false (sym q ∙ ap (λ (m : ℕ). slotAt us m .present) e ∙ p))) (h .1 j) (last-or-below j i l))
 
   ticks-short : (us : List Slot) → length us ≤ n → Ends (Ticks n) (λ r. r ≡ 9) (tickAll n us s ts t)
   unfolding tickAll
@@ -141,7 +140,7 @@ module _ (n : ℕ) (s : Sides) (ts : List ℕ) (t : Tuning) where
 
   move-turn : (i : ℕ) (m : Moving) → Waits i m → Ends (Waits (suc i)) (λ r. r ≡ 9) (moveTurn n s ts t i m)
   unfolding recordOf
-  move-turn i m h = go (slotAt (m .slots) i .present) refl
+  move-turn i m h = by-test (Ends (Waits (suc i)) (λ r. r ≡ 9)) (slotAt (m .slots) i .present) (λ p. moves p (move-left n c i (m .slots) s ts t)) (λ p. λ k l. h k (omega arith))
     where
       c : Character
       c = slotAt (m .slots) i .character
@@ -155,10 +154,6 @@ module _ (n : ℕ) (s : Sides) (ts : List ℕ) (t : Tuning) where
       moves : slotAt (m .slots) i .present ≡ true → {o : Moved} → Left c o → Ends (Waits (suc i)) (λ r. r ≡ 9) (publish m i (recordOf o))
       moves p far = refl
       moves p (to d e) = records p d e
-
-      go : (b : Bool) → slotAt (m .slots) i .present ≡ b → Ends (Waits (suc i)) (λ r. r ≡ 9) (cond b (publish m i (recordOf (moveIn n s ts t (m .slots) i))) (more m))
-      go true p = moves p (move-left n c i (m .slots) s ts t)
-      go false p = λ k l. h k (omega arith)
 
   moves-short : (us : List Slot) → ((k : ℕ) → Short (slotAt us k)) → Ends (Waits (n + 0)) (λ r. r ≡ 9) (moveAll n us s ts t)
   unfolding moveAll

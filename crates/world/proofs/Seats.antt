@@ -9,7 +9,7 @@ use mathlib.Core.Path.{_≡_, refl, sym, ap, _∙_, subst}
 use lib.Dec.{eqb}
 use lib.ListN.{length, set, length-set}
 use borrow.Author.Tests.{eqb-false}
-use Rattle.turns.specs.Turns.{more, stop, run}
+use Rattle.turns.specs.Turns.{run}
 use Rattle.turns.proofs.Kept.{Ends, run-kept}
 use Rattle.tiles.specs.declared.Sides.{Sides}
 use Rattle.tuning.specs.declared.Tuning.{Tuning}
@@ -28,7 +28,7 @@ use Rattle.records.specs.declared.Net.the-variants as net
 use Rattle.records.proofs.FromNet.{quantized-representable}
 use Rattle.physics.proofs.Slots.{set-every, set-others}
 use Rattle.physics.proofs.Others.{tick-others, tick-absent, tick-length}
-use Rattle.world.specs.Step.{Moving, afterTick, tickTurn, tickAll, ofNet, recordOf, publish, moveIn, moveTurn, movingFrom, moveAll}
+use Rattle.world.specs.Step.{Moving, tickTurn, tickAll, ofNet, recordOf, publish, moveIn, moveTurn, movingFrom, moveAll}
 
 -- the last of the indices below i + 1, or one before it
 pub last-or-below : (k i : ℕ) → k < suc i → (k ≡ i) ⊎ (k < i)
@@ -39,6 +39,11 @@ pub present-within : (ss : List Slot) (j : ℕ) → slotAt ss j .present ≡ tru
 present-within [] j e = absurd (true≢false (sym e))
 present-within (x ∷ ss) zero e = omega arith
 present-within (x ∷ ss) (suc j) e = let h : j < length ss = present-within ss j e in omega arith
+
+-- a fact of what a test picks, from either way
+pub by-test : {A : Type 0} (P : A → Type 0) (b : Bool) {x y : A} → (b ≡ true → P x) → (b ≡ false → P y) → P (cond b x y)
+by-test P true f g = f refl
+by-test P false f g = g refl
 
 -- what a record of a character reads as
 pub net-representable : (c : Character) (core : CharacterCore) → toNet c ≡ net.Core core → Representable (fromNet core)
@@ -81,7 +86,7 @@ module _ (n : ℕ) (s : Sides) (ts : List ℕ) (t : Tuning) where
   }
 
   tick-turn : (ss : List Slot) (j : ℕ) (us : List Slot) → Same ss us → Ends (Same ss) (λ r. 0 < r) (tickTurn n s ts t j us)
-  tick-turn ss j us h = go (slotAt us j .present) refl
+  tick-turn ss j us h = by-test (Ends (Same ss) (λ r. 0 < r)) (slotAt us j .present) (λ p. by-test (Ends (Same ss) (λ r. 0 < r)) (eqb (k .number) 0) (λ e. ticks p) (λ e. pos-of-ne-zero (eqb-false (k .number) 0 e))) (λ p. h)
     where
       k : Ticked
       k = tickAt n (slotAt us j .character) j us s ts (slotAt us j .input) t
@@ -89,13 +94,8 @@ module _ (n : ℕ) (s : Sides) (ts : List ℕ) (t : Tuning) where
       same : Same us (k .slots)
       same = tick-same us (slotAt us j .character) j (slotAt us j .input)
 
-      ticks : slotAt us j .present ≡ true → (b : Bool) → eqb (k .number) 0 ≡ b → Ends (Same ss) (λ r. 0 < r) (cond b (more (set (k .slots) j (withCharacter (slotAt (k .slots) j) (k .me)))) (stop (k .number)))
-      ticks p true e = same-on ss us _ h (same-on us (k .slots) _ same (same-set (k .slots) j (k .me) (same .present j ∙ p)))
-      ticks p false e = pos-of-ne-zero (eqb-false (k .number) 0 e)
-
-      go : (b : Bool) → slotAt us j .present ≡ b → Ends (Same ss) (λ r. 0 < r) (cond b (afterTick j k) (more us))
-      go true p = ticks p (eqb (k .number) 0) refl
-      go false p = h
+      ticks : slotAt us j .present ≡ true → Same ss (set (k .slots) j (withCharacter (slotAt (k .slots) j) (k .me)))
+      ticks p = same-on ss us _ h (same-on us (k .slots) _ same (same-set (k .slots) j (k .me) (same .present j ∙ p)))
 
   -- a number that refuses the ticks is not 0
   pub ticks-same : (ss : List Slot) → Ends (Same ss) (λ r. 0 < r) (tickAll n ss s ts t)
@@ -111,13 +111,13 @@ module _ (n : ℕ) (s : Sides) (ts : List ℕ) (t : Tuning) where
 
     pub move-turn : (i : ℕ) (m : Moving) → Settling i m → Ends (Settling (suc i)) (λ r. 0 < r) (moveTurn n s ts t i m)
     unfolding recordOf
-    move-turn i m h = go (slotAt (m .slots) i .present) refl
+    move-turn i m h = by-test (Ends (Settling (suc i)) (λ r. 0 < r)) (slotAt (m .slots) i .present) (λ p. recorded p (moveIn n s ts t (m .slots) i)) nobody
       where
         named : slotAt (m .slots) i .present ≡ true → (c : Character) (o : Net) → toNet c ≡ o → Ends (Settling (suc i)) (λ r. 0 < r) (publish m i (ofNet o))
         named p c net.TickTooLarge e = omega arith
         named p c (net.Core core) e = record {
           same = same-on ss (m .slots) _ (h .same) (same-set (m .slots) i (fromNet core) p);
-          moved = set-others (λ k x. k < suc i → x .present ≡ true → Representable (x .character)) (m .slots) i (withCharacter (slotAt (m .slots) i) (fromNet core)) nowhere (present-within (m .slots) i p) (λ k d l. h .moved k (omega arith)) (λ l q. net-representable c core e);
+          moved = set-others (λ k x. k < suc i → x .present ≡ true → Representable (x .character)) (m .slots) i _ nowhere (present-within (m .slots) i p) (λ k d l. h .moved k (omega arith)) (λ l q. net-representable c core e);
         }
 
         recorded : slotAt (m .slots) i .present ≡ true → (d : Moved) → Ends (Settling (suc i)) (λ r. 0 < r) (publish m i (recordOf d))
@@ -126,9 +126,8 @@ module _ (n : ℕ) (s : Sides) (ts : List ℕ) (t : Tuning) where
         recorded p moved.TooFar = omega arith
         recorded p (moved.To c) = named p c (toNet c) refl
 
-        go : (b : Bool) → slotAt (m .slots) i .present ≡ b → Ends (Settling (suc i)) (λ r. 0 < r) (cond b (publish m i (recordOf (moveIn n s ts t (m .slots) i))) (more m))
-        go true p = recorded p (moveIn n s ts t (m .slots) i)
-        go false p = record { same = h .same; moved = λ k l. ⊎-elim (λ e. λ q. absurd (true≢false (sym q ∙ ap (λ (j : ℕ). slotAt (m .slots) j .present) e ∙ p))) (h .moved k) (last-or-below k i l) }
+        nobody : slotAt (m .slots) i .present ≡ false → Settling (suc i) m
+        nobody p = record { same = h .same; moved = λ k l. ⊎-elim (λ e. λ q. absurd (true≢false (sym q ∙ ap (λ (j : ℕ). slotAt (m .slots) j .present) e ∙ p))) (h .moved k) (last-or-below k i l) }
 
     pub nobody-moved : Settling 0 (movingFrom n ss)
     nobody-moved = record { same = same-self ss; moved = λ k l. absurd (omega arith) }

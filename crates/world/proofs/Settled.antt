@@ -1,6 +1,6 @@
 -- Every world that calls can reach is settled, for every number of slots, map and player collision. Assumes nothing.
 use Prim.Native.Nat.{ℕ, _<_}
-use mathlib.Core.Bool.{Bool, true, false, cond, true≢false}
+use mathlib.Core.Bool.{true, false, true≢false}
 use mathlib.Core.List.{List, [], _∷_}
 use mathlib.Core.Path.{_≡_, refl, sym, ap, _∙_}
 use lib.Dec.{ltb}
@@ -21,14 +21,15 @@ use Rattle.records.specs.Representable.{Representable}
 use Rattle.records.proofs.FromNet.{spawn-representable}
 use Rattle.physics.proofs.Slots.{set-every}
 use Rattle.world.specs.World.{emptySlot, freshTunings, fresh, tuningCount, withSlot, withTuning}
-use Rattle.world.specs.Calls.{refused, accepted, placeOf, pointOf, tune}
-use Rattle.world.specs.Step.{Moving, tickAll, moveAll, stepRefused, stepAnswer, stepOn, step}
+use Rattle.world.specs.Calls.{placeOf, pointOf, tune}
+use Rattle.world.specs.Step.{Moving, tickAll, moveAll, stepAnswer, stepOn, step}
 use Rattle.world.specs.Demand3.{inputOf, answer, after}
 use Rattle.world.specs.Settled.{Settled, AfterSettled}
 use Rattle.world.specs.declared.Answer.{Answer}
+use Rattle.world.specs.declared.Stepped.{Stepped}
 use Rattle.world.specs.declared.World.{World}
 use Rattle.world.proofs.Outcomes.{Outcome, no, yes, reach-i32, joined, Joins, join-outcome, leave-outcome, input-outcome}
-use Rattle.world.proofs.Seats.{Same, Settling, same-on, ticks-same, moves-settle}
+use Rattle.world.proofs.Seats.{by-test, Same, Settling, same-on, ticks-same, moves-settle}
 
 -- where an accepted join puts somebody
 pub joined-representable : (n : ℕ) (w : World) (s : Sides) (ts : List ℕ) (id x y : ℤ) → Joins n w s ts id x y → Representable (spawn (pointOf x y))
@@ -58,14 +59,13 @@ module _ (n : ℕ) where
   -- ---- tune
   tune-settled : (w : World) (index z : ℤ) → Settled n w → Settled n (tune w index z .world)
   unfolding tune
-  tune-settled w index z h = go (ltb k tuningCount)
+  tune-settled w index z h = by-test (λ (a : Answer). Settled n (a .world)) (ltb k tuningCount) (λ e. set) (λ e. h)
     where
       k : ℕ
       k = placeOf tuningCount index
 
-      go : (b : Bool) → Settled n (cond b (accepted (withTuning w k z)) (refused w 3) .world)
-      go true = record { seats = h .seats; tunings = length-set (w .tunings) k z ∙ h .tunings; representable = h .representable; empty = h .empty }
-      go false = h
+      set : Settled n (withTuning w k z)
+      set = record { seats = h .seats; tunings = length-set (w .tunings) k z ∙ h .tunings; representable = h .representable; empty = h .empty }
 
   -- ---- step
   module _ (s : Sides) (ts : List ℕ) (w : World) (h : Settled n w) where
@@ -89,11 +89,7 @@ module _ (n : ℕ) where
 
     step-settled : Settled n (step n w s ts .world)
     unfolding step stepOn
-    step-settled = go (isMap s ts)
-      where
-        go : (b : Bool) → Settled n (cond b (stepOn n w s ts) (stepRefused n w 1) .world)
-        go true = ticked-settled (tickAll n (w .slots) s ts t) (ticks-same n s ts t (w .slots))
-        go false = h
+    step-settled = by-test (λ (a : Stepped). Settled n (a .world)) (isMap s ts) (λ e. ticked-settled (tickAll n (w .slots) s ts t) (ticks-same n s ts t (w .slots))) (λ e. h)
 
   -- ---- every call, and every list of them
   module _ (s : Sides) (ts : List ℕ) where

@@ -1,14 +1,13 @@
 -- What every slot keeps through the ticks of a step: a clear box, and values of the format. Assumes nothing.
 use Prim.Native.Nat.{ℕ}
-use mathlib.Core.Bool.{Bool, true, false, cond}
+use mathlib.Core.Bool.{true}
 use mathlib.Core.List.{List}
-use mathlib.Core.Path.{_≡_, refl, sym, subst}
+use mathlib.Core.Path.{_≡_, sym, subst}
 use lib.Dec.{T, eqb}
 use lib.Ieee.{Float, binary32, fits}
 use lib.IntN.{ℤ}
 use lib.ListN.{set}
 use lib.Ieee.Fits.{ofInt-fits, div-fits}
-use Rattle.turns.specs.Turns.{more, stop}
 use Rattle.turns.proofs.Kept.{Ends, run-kept}
 use Rattle.float.specs.Convert.{c256, i32ToF32, from256ths}
 use Rattle.vector.specs.declared.vec2.{vec2}
@@ -24,7 +23,8 @@ use Rattle.records.specs.Representable.{Pair, Representable}
 use Rattle.physics.proofs.Slots.{set-every}
 use Rattle.physics.proofs.Others.{SameButVel, tick-others, tick-pos}
 use Rattle.physics.proofs.FitsTick.{FitsPair, tick-fits}
-use Rattle.world.specs.Step.{afterTick, tickTurn, tickAll}
+use Rattle.world.specs.Step.{tickTurn, tickAll}
+use Rattle.world.proofs.Seats.{by-test}
 
 -- ---- values of the format
 i32-fits : (z : ℤ) → T (fits binary32 (i32ToF32 z))
@@ -59,7 +59,7 @@ module _ (s : Sides) (ts : List ℕ) where
   -- ---- a tick, and all of them
   module _ (n : ℕ) (tunings : List ℤ) where
     turn-stands : (j : ℕ) (us : List Slot) → Stands us → Ends Stands (λ r. Unit {0}) (tickTurn n s ts (tuningOf tunings) j us)
-    turn-stands j us h = go (slotAt us j .present) refl
+    turn-stands j us h = by-test (Ends Stands (λ r. Unit {0})) (slotAt us j .present) (λ p. by-test (Ends Stands (λ r. Unit {0})) (eqb (k .number) 0) (λ e. ticks p) (λ e. tt)) (λ p. h)
       where
         c : Character
         c = slotAt us j .character
@@ -86,13 +86,8 @@ module _ (s : Sides) (ts : List ℕ) where
         others : Stands (k .slots)
         others m = same-standing (slotAt us m) (slotAt (k .slots) m) (tick-others us n c j s ts i (tuningOf tunings) m) (h m) (fit .1 m)
 
-        ticks : slotAt us j .present ≡ true → (b : Bool) → Ends Stands (λ r. Unit {0}) (cond b (more (set (k .slots) j (withCharacter (slotAt (k .slots) j) (k .me)))) (stop (k .number)))
-        ticks p true = set-every (λ m. Standing) (k .slots) j (withCharacter (slotAt (k .slots) j) (k .me)) nowhere others (me p)
-        ticks p false = tt
-
-        go : (b : Bool) → slotAt us j .present ≡ b → Ends Stands (λ r. Unit {0}) (cond b (afterTick j k) (more us))
-        go true p = ticks p (eqb (k .number) 0)
-        go false p = h
+        ticks : slotAt us j .present ≡ true → Stands (set (k .slots) j (withCharacter (slotAt (k .slots) j) (k .me)))
+        ticks p = set-every (λ m. Standing) (k .slots) j (withCharacter (slotAt (k .slots) j) (k .me)) nowhere others (me p)
 
     pub ticks-stand : (ss : List Slot) → Stands ss → Ends Stands (λ r. Unit {0}) (tickAll n ss s ts (tuningOf tunings))
     unfolding tickAll
