@@ -116,7 +116,7 @@ module _ (n : ℕ) (s : Sides) (ts : List ℕ) (t : Tuning) where
         named : slotAt (m .slots) i .present ≡ true → (c : Character) (o : Net) → toNet c ≡ o → Ends (Settling (suc i)) (λ r. 0 < r) (publish m i (ofNet o))
         named p c net.TickTooLarge e = omega arith
         named p c (net.Core core) e = record {
-          same = same-on ss (m .slots) _ (h .same) (same-set (m .slots) i (fromNet core) p);
+          same = same-on ss (m .slots) _ (h .same) (same-set (m .slots) i _ p);
           moved = set-others (λ k x. k < suc i → x .present ≡ true → Representable (x .character)) (m .slots) i _ nowhere (present-within (m .slots) i p) (λ k d l. h .moved k (omega arith)) (λ l q. net-representable c core e);
         }
 
@@ -124,7 +124,7 @@ module _ (n : ℕ) (s : Sides) (ts : List ℕ) (t : Tuning) where
         recorded p moved.BadMap = omega arith
         recorded p moved.BadId = omega arith
         recorded p moved.TooFar = omega arith
-        recorded p (moved.To c) = named p c (toNet c) refl
+        recorded p (moved.To c) = named p _ (toNet _) refl
 
         nobody : slotAt (m .slots) i .present ≡ false → Settling (suc i) m
         nobody p = record { same = h .same; moved = λ k l. ⊎-elim (λ e. λ q. absurd (true≢false (sym q ∙ ap (λ (j : ℕ). slotAt (m .slots) j .present) e ∙ p))) (h .moved k) (last-or-below k i l) }

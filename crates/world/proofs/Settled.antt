@@ -59,13 +59,13 @@ module _ (n : ℕ) where
   -- ---- tune
   tune-settled : (w : World) (index z : ℤ) → Settled n w → Settled n (tune w index z .world)
   unfolding tune
-  tune-settled w index z h = by-test (λ (a : Answer). Settled n (a .world)) (ltb k tuningCount) (λ e. set) (λ e. h)
+  tune-settled w index z h = by-test (λ (a : Answer). Settled n (a .world)) (ltb k tuningCount) (λ e. set _) (λ e. h)
     where
       k : ℕ
       k = placeOf tuningCount index
 
-      set : Settled n (withTuning w k z)
-      set = record { seats = h .seats; tunings = length-set (w .tunings) k z ∙ h .tunings; representable = h .representable; empty = h .empty }
+      set : (v : ℤ) → Settled n (withTuning w k v)
+      set v = record { seats = h .seats; tunings = length-set (w .tunings) k v ∙ h .tunings; representable = h .representable; empty = h .empty }
 
   -- ---- step
   module _ (s : Sides) (ts : List ℕ) (w : World) (h : Settled n w) where
