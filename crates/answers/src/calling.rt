@@ -1,9 +1,9 @@
 // What a call does to a world.
 use call::Call;
 use calls::input;
-use calls::join;
 use calls::leave;
 use calls::tune;
+use joins::join;
 use snap_obj::PlayerInput;
 use steps::no_records;
 use steps::step;

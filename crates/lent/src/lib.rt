@@ -1,7 +1,9 @@
 // The sixteen slots of a world, lent as one slice and stepped there. The borrow checker covers no function over a reference to structs: `load`, `store` and `step_lent` are proved by hand.
-use calls::fresh;
 use character::SEATS;
 use character::Slot;
+use seats::fresh;
+use seats::slot_at;
+use seats::with_slot;
 use steps::step;
 use tiles::Sides;
 use tuning::TUNINGS;
@@ -10,9 +12,7 @@ use world::Stepped;
 use world::World;
 ghost use mathlib.Core.Path.{_≡_};
 ghost use lib.ListN.{length};
-ghost use Prim.Native.Nat.{_<_};
-ghost use Rattle.character.specs.Tick.{seats, slotAt};
-ghost use Rattle.world.specs.World.{withSlot};
+ghost use Rattle.character.specs.Tick.{seats};
 ghost use Rattle.lent.specs.Lent.{worldOf, lentStep, toldOf, slotsLeft};
 
 // What a step over lent slots answers: the next slots stand in the slice.
@@ -28,22 +28,6 @@ fn unread(tunings: [i32; TUNINGS]) -> World
     let mut world = fresh();
     world.tunings = tunings;
     world
-}
-
-fn with_slot(mut world: World, id: usize, slot: Slot) -> World
-    requires { ⌜ id < seats ⌝ }
-    ensures { λ r. ⌜ r ≡ withSlot world id slot ⌝ }
-{
-    world.slots[id] = slot;
-    world
-}
-
-fn slot_at(world: World, id: usize) -> Slot
-    requires { ⌜ id < seats ⌝ }
-    ensures { λ r. ⌜ r ≡ slotAt (world .slots) id ⌝ }
-{
-    let slots = world.slots;
-    slots[id]
 }
 
 fn next_world(stepped: Stepped) -> World

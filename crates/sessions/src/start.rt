@@ -2,7 +2,7 @@
 use crate::line::Session;
 use crate::line::Turned;
 use crate::line::ended;
-use calls::fresh;
+use seats::fresh;
 use map_text::MOST_BYTES;
 use map_text::MapPart;
 use map_text::read_map;

@@ -6,9 +6,10 @@ use mathlib.Core.Path.{_≡_, sym, ap, _∙_}
 use Rattle.turns.specs.Turns.{Turn, more, stop}
 use Rattle.character.specs.declared.Slot.{Slot}
 use Rattle.world.specs.Step.{Moving}
-use Rattle.halves.specs.Halves.{ticksOf, movesOf}
-use Rattle.halves.specs.declared.Ticks.{Ticks}
-use Rattle.halves.specs.declared.Moves.{Moves}
+use Rattle.ticking.specs.Ticks.{ticksOf}
+use Rattle.ticking.specs.declared.Ticks.{Ticks}
+use Rattle.moving.specs.Moves.{movesOf}
+use Rattle.moving.specs.declared.Moves.{Moves}
 
 pub ticks-done : (ss : List Slot) (t : Turn (List Slot) ℕ) (k : Ticks) → k ≡ ticksOf ss t → k .done ≡ true → t ≡ more (k .slots)
 ticks-done ss (more us) k e d = ap (λ (u : Ticks). more (u .slots)) (sym e)

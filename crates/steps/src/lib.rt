@@ -1,8 +1,8 @@
 // Step: every present id by rising id ticks; then by rising id each moves and is quantized.
 use character::SEATS;
-use halves::move_all;
-use halves::tick_all;
-use halves::unpublished;
+use moving::move_all;
+use moving::unpublished;
+use ticking::tick_all;
 use tiles::Sides;
 use tiles::is_map;
 use tuning::tuning_of;

@@ -27,11 +27,15 @@ use Rattle.world.specs.declared.Recorded.the-variants.{Refused, Core}
 use Rattle.world.specs.declared.Stepped.{Stepped}
 use Rattle.world.specs.declared.World.{World}
 
+-- the slot j with another character
+abbrev pub putBack : List Slot → ℕ → Character → List Slot
+putBack ss j c = set ss j (withCharacter (slotAt ss j) c)
+
 -- ---- every present id by rising id ticks
 
 -- the slots after the tick of the id j, or the number that refuses it
 abbrev pub afterTick : ℕ → Ticked → Turn (List Slot) ℕ
-afterTick j k = cond (eqb (k .number) 0) (more (set (k .slots) j (withCharacter (slotAt (k .slots) j) (k .me)))) (stop (k .number))
+afterTick j k = cond (eqb (k .number) 0) (more (putBack (k .slots) j (k .me))) (stop (k .number))
 
 abbrev pub tickTurn : ℕ → Sides → List ℕ → Tuning → ℕ → List Slot → Turn (List Slot) ℕ
 tickTurn n s ts t j ss = cond (slotAt ss j .present) (afterTick j (tickAt n (slotAt ss j .character) j ss s ts (slotAt ss j .input) t)) (more ss)
@@ -67,7 +71,7 @@ recordOf (moved.To c) = ofNet (toNet c)
 -- the record is published, and the id j is what it reads as
 abbrev pub publish : Moving → ℕ → Recorded → Turn Moving ℕ
 publish m j (Refused k) = stop k
-publish m j (Core core) = more (record { slots = set (m .slots) j (withCharacter (slotAt (m .slots) j) (fromNet core)); records = set (m .records) j (record { present = true; core = core }) })
+publish m j (Core core) = more (record { slots = putBack (m .slots) j (fromNet core); records = set (m .records) j (record { present = true; core = core }) })
 
 -- what `move_` gives the id j among the slots as they stand
 abbrev pub moveIn : ℕ → Sides → List ℕ → Tuning → List Slot → ℕ → Moved

@@ -4,7 +4,7 @@ mod digest;
 mod requests;
 mod words;
 
-use calls::fresh;
+use seats::fresh;
 use casts::cast_signed;
 use digest::world_digest;
 use libc::STDIN_FILENO;

@@ -1,9 +1,9 @@
 // A recorded call, run on a world.
 use crate::digest::records_digest;
 use calls::input;
-use calls::join;
 use calls::leave;
 use calls::tune;
+use joins::join;
 use snap_obj::PlayerInput;
 use steps::step;
 use tiles::Sides;

@@ -1,0 +1,64 @@
+// Join: somebody takes a seat.
+use boxes::check_box;
+use character::Character;
+use character::SEATS;
+use character::Slot;
+use float::i32_to_f32;
+use seats::accepted;
+use seats::no_input;
+use seats::place_of;
+use seats::refused;
+use seats::with_slot;
+use tiles::Sides;
+use tiles::is_map;
+use vector::vec2;
+use world::Answer;
+use world::World;
+ghost use mathlib.Core.Path.{_≡_};
+ghost use lib.Dec.{T};
+ghost use Prim.Native.Nat.{_<_};
+ghost use Rattle.tiles.specs.Map.{isMap};
+ghost use Rattle.character.specs.Tick.{seats};
+ghost use Rattle.world.specs.Calls.{inReach, joinAt, join};
+
+fn in_reach(z: i32) -> bool
+    ensures { λ r. ⌜ r ≡ inReach z ⌝ }
+{
+    -100000 <= z && z <= 100000
+}
+
+pub fn join(world: World, sides: Sides, tiles: &[u8], id: i32, x: i32, y: i32) -> Answer
+    ensures { λ r. ⌜ r ≡ join seats world sides (now (tiles .entry)) id x y ⌝ }
+{
+    if is_map(sides, tiles) {
+        let at = place_of(SEATS, id);
+        if at < SEATS {
+            if in_reach(x) && in_reach(y) {
+                let pos = vec2::new(i32_to_f32(x), i32_to_f32(y));
+                return join_at(world, sides, tiles, at, pos);
+            }
+            return refused(world, 4);
+        }
+        return refused(world, 2);
+    }
+    refused(world, 1)
+}
+
+fn join_at(world: World, sides: Sides, tiles: &[u8], at: usize, pos: vec2) -> Answer
+    requires { ⌜ T (isMap sides (now tiles)) × (at < seats) ⌝ }
+    ensures { λ r. ⌜ r ≡ joinAt world sides (now (tiles .entry)) at pos ⌝ }
+{
+    if check_box(sides, tiles, pos, vec2::new(28.0, 28.0)) {
+        return refused(world, 5);
+    }
+    let slot = world.slots[at];
+    if slot.present {
+        return refused(world, 7);
+    }
+    let joined = Slot {
+        present: true,
+        character: Character::spawn(pos),
+        input: no_input(),
+    };
+    accepted(with_slot(world, at, joined))
+}
