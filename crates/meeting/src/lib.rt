@@ -4,6 +4,7 @@ use number::saturated_add;
 use tuning::Tuning;
 use vector::vec2;
 ghost use mathlib.Core.Path.{_≡_};
+ghost use Rattle.vector.specs.Vec2.{vdistance};
 ghost use Rattle.meeting.specs.Meeting.{additionalVel, pushed, push, pull, dragged, held, meet, touches};
 
 // The velocities of a character and of another that it meets.
@@ -37,7 +38,7 @@ fn pushed(pos: vec2, vel: vec2, other: vec2, distance: f32) -> vec2
 }
 
 // The same, where the other is near and not in the same place.
-pub fn push(pos: vec2, vel: vec2, other: vec2, distance: f32, player_collision: f32) -> vec2
+fn push(pos: vec2, vel: vec2, other: vec2, distance: f32, player_collision: f32) -> vec2
     ensures { λ r. ⌜ r ≡ push pos vel other distance «player_collision» ⌝ }
 {
     if player_collision != 0.0 {
@@ -48,6 +49,19 @@ pub fn push(pos: vec2, vel: vec2, other: vec2, distance: f32, player_collision: 
         }
     }
     vel
+}
+
+// The same, where the distance is still to be found.
+fn collide(pos: vec2, vel: vec2, other: vec2, player_collision: f32) -> vec2
+    ensures { λ r. ⌜ r ≡ push pos vel other (vdistance pos other) «player_collision» ⌝ }
+{
+    let way = other.sub(pos);
+    let square = vec2::dot(way, way);
+    // Most are far: a comparison spares the root.
+    if 1225.0 <= square {
+        return vel;
+    }
+    push(pos, vel, other, root::root(square), player_collision)
 }
 
 // A velocity that a hook pulls along dir, up to the speed.
@@ -105,17 +119,15 @@ pub fn meet(
 ) -> Velocities
     ensures { λ r. ⌜ r ≡ meet pos vel hook «other_pos» «other_vel» cid tuning ⌝ }
 {
-    let distance = vec2::distance(pos, other_pos);
-    let pushed = push(pos, vel, other_pos, distance, tuning.player_collision);
     let velocities = Velocities {
-        me: pushed,
+        me: collide(pos, vel, other_pos, tuning.player_collision),
         other: other_vel,
     };
     let Hook::Grabbed(hooked, _) = hook else {
         return velocities;
     };
     if hooked.0 == cid {
-        return held(pos, other_pos, velocities, distance, tuning);
+        return held(pos, other_pos, velocities, vec2::distance(pos, other_pos), tuning);
     }
     velocities
 }

@@ -4,10 +4,9 @@ use lib.Dec.{T}
 use lib.Ieee.{Float, binary32, le}
 use borrow.Author.Needs.{needs}
 use Rattle.root.specs.Root.{root}
-use Rattle.vector.specs.declared.vec2.{vec2}
-use Rattle.vector.specs.Vec2.{vdot, vdistance}
+use Rattle.vector.specs.Vec2.{vdistance}
 use Rattle.meeting.specs.Meeting.{touches}
-use Rattle.meeting.proofs.Far.{c784, square, distance-is, far}
+use Rattle.meeting.proofs.Far.{c784, square, square-is, distance-is, far}
 use Rattle.meeting.proofs.touches.Statement.{statement}
 use Rattle.meeting.proofs.touches.Tie as tie
 
@@ -20,7 +19,7 @@ dot-requires c κs = search needs
 returns : tie.Need-returns
 returns c =
     let a = c .before .before .before .args in
-    let e : c .before .dot .result ≡ square (a .p) (a .q) = c .before .dot .ensures ∙ ap (λ (v : vec2). vdot v v) (c .before .before .sub .ensures) in
+    let e : c .before .dot .result ≡ square (a .p) (a .q) = square-is (a .p) (a .q) _ _ (c .before .before .sub .ensures) (c .before .dot .ensures) in
     far (a .p) (a .q) (subst (λ (x : Float). T (le c784 x)) e (subst T (sym (c .if1 .taken)) tt))
 
 root-requires : tie.Need-root-requires
@@ -31,7 +30,7 @@ unfolding touches
 returns-2 c =
     let b = c .before .before .before in
     let a = b .before .before .args in
-    let d : c .before .root .result ≡ vdistance (a .p) (a .q) = c .before .root .ensures ∙ ap (root binary32) (b .dot .ensures ∙ ap (λ (v : vec2). vdot v v) (b .before .sub .ensures)) ∙ distance-is (a .p) (a .q) in
+    let d : c .before .root .result ≡ vdistance (a .p) (a .q) = c .before .root .ensures ∙ ap (root binary32) (square-is (a .p) (a .q) _ _ (b .before .sub .ensures) (b .dot .ensures)) ∙ distance-is (a .p) (a .q) in
     simp (← d, c .if2 .taken)
 
 returns-3 : tie.Need-returns-3
@@ -39,7 +38,7 @@ unfolding touches
 returns-3 c =
     let b = c .before .before .before in
     let a = b .before .before .args in
-    let d : c .before .root .result ≡ vdistance (a .p) (a .q) = c .before .root .ensures ∙ ap (root binary32) (b .dot .ensures ∙ ap (λ (v : vec2). vdot v v) (b .before .sub .ensures)) ∙ distance-is (a .p) (a .q) in
+    let d : c .before .root .result ≡ vdistance (a .p) (a .q) = c .before .root .ensures ∙ ap (root binary32) (square-is (a .p) (a .q) _ _ (b .before .sub .ensures) (b .dot .ensures)) ∙ distance-is (a .p) (a .q) in
     simp (← d, c .if2 .left)
 
 pub touches-spec : {M : Type 1} → statement M
