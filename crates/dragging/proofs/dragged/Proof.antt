@@ -1,9 +1,9 @@
--- `hooking::dragged` meets its contract. Assumes nothing.
+-- `dragging::dragged` meets its contract. Assumes nothing.
 use borrow.Author.Needs.{needs}
 use Rattle.hook.proofs.Variants.{not-attached}
-use Rattle.hooking.specs.Hooking.{dragged}
-use Rattle.hooking.proofs.dragged.Statement.{statement}
-use Rattle.hooking.proofs.dragged.Tie as tie
+use Rattle.dragging.specs.Dragging.{dragged}
+use Rattle.dragging.proofs.dragged.Statement.{statement}
+use Rattle.dragging.proofs.dragged.Tie as tie
 
 enum-known-hook : tie.Need-enum-known-hook
 enum-known-hook c = search needs

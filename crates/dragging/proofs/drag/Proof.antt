@@ -1,8 +1,8 @@
--- `hooking::drag` meets its contract. Assumes nothing.
+-- `dragging::drag` meets its contract. Assumes nothing.
 use borrow.Author.Needs.{needs}
-use Rattle.hooking.specs.Hooking.{drag}
-use Rattle.hooking.proofs.drag.Statement.{statement}
-use Rattle.hooking.proofs.drag.Tie as tie
+use Rattle.dragging.specs.Dragging.{drag}
+use Rattle.dragging.proofs.drag.Statement.{statement}
+use Rattle.dragging.proofs.drag.Tie as tie
 
 distance-requires : tie.Need-distance-requires
 distance-requires c κs = search needs

@@ -1,8 +1,8 @@
--- `hooking::helped` meets its contract. Assumes nothing.
+-- `dragging::helped` meets its contract. Assumes nothing.
 use borrow.Author.Needs.{needs}
-use Rattle.hooking.specs.Hooking.{helped}
-use Rattle.hooking.proofs.helped.Statement.{statement}
-use Rattle.hooking.proofs.helped.Tie as tie
+use Rattle.dragging.specs.Dragging.{helped}
+use Rattle.dragging.proofs.helped.Statement.{statement}
+use Rattle.dragging.proofs.helped.Tie as tie
 
 as-float-requires : tie.Need-as-float-requires
 as-float-requires c κs = search needs

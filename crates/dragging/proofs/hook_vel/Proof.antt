@@ -1,8 +1,8 @@
--- `hooking::hook_vel` meets its contract. Assumes nothing.
+-- `dragging::hook_vel` meets its contract. Assumes nothing.
 use borrow.Author.Needs.{needs}
-use Rattle.hooking.specs.Hooking.{hookVel}
-use Rattle.hooking.proofs.hook_vel.Statement.{statement}
-use Rattle.hooking.proofs.hook_vel.Tie as tie
+use Rattle.dragging.specs.Dragging.{hookVel}
+use Rattle.dragging.proofs.hook_vel.Statement.{statement}
+use Rattle.dragging.proofs.hook_vel.Tie as tie
 
 sub-requires : tie.Need-sub-requires
 sub-requires c κs = search needs

@@ -1,8 +1,8 @@
--- `hooking::lifted` meets its contract. Assumes nothing.
+-- `dragging::lifted` meets its contract. Assumes nothing.
 use borrow.Author.Needs.{needs}
-use Rattle.hooking.specs.Hooking.{lifted}
-use Rattle.hooking.proofs.lifted.Statement.{statement}
-use Rattle.hooking.proofs.lifted.Tie as tie
+use Rattle.dragging.specs.Dragging.{lifted}
+use Rattle.dragging.proofs.lifted.Statement.{statement}
+use Rattle.dragging.proofs.lifted.Tie as tie
 
 new-requires : tie.Need-new-requires
 new-requires c κs = search needs
