@@ -1,9 +1,9 @@
--- `records::to_net` meets its contract. Assumes nothing.
+-- `to_net::to_net` meets its contract. Assumes nothing.
 use borrow.Author.Needs.{needs}
 use borrow.Author.Tests.{lt-leb, le-leb}
 use Rattle.records.specs.Records.{toNet}
-use Rattle.records.proofs.to_net.Statement.{statement}
-use Rattle.records.proofs.to_net.Tie as tie
+use Rattle.to_net.proofs.to_net.Statement.{statement}
+use Rattle.to_net.proofs.to_net.Tie as tie
 
 tick-requires : tie.Need-tick-requires
 tick-requires c κs = search needs

@@ -1,4 +1,4 @@
--- `records::core_of` meets its contract. Assumes nothing.
+-- `to_net::core_of` meets its contract. Assumes nothing.
 use mathlib.Core.Path.{_∙_, ap}
 use Prim.Native.Nat.{suc-le-suc}
 use native.Mathlib.Nat.{le-of-eq, lt-of-le-of-lt}
@@ -7,12 +7,12 @@ use mir.Facts.{toZ-pos}
 use mir.Syntax.{w32}
 use borrow.Author.Needs.{needs}
 use Rattle.casts.proofs.Signed.{held}
 use Rattle.records.specs.Records.{coreOf}
 use Rattle.float.specs.Convert.{to256ths}
 use Rattle.vector.specs.declared.vec2.{vec2}
 use Rattle.whole.specs.Whole.{roundToI32}
-use Rattle.records.proofs.core_of.Statement.{statement}
-use Rattle.records.proofs.core_of.Tie as tie
+use Rattle.to_net.proofs.core_of.Statement.{statement}
+use Rattle.to_net.proofs.core_of.Tie as tie
 
 net-pos-requires : tie.Need-net-pos-requires
 net-pos-requires c κs = search needs

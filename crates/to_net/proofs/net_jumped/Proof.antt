@@ -1,7 +1,7 @@
--- `records::net_jumped` meets its contract. Assumes nothing.
+-- `to_net::net_jumped` meets its contract. Assumes nothing.
 use Rattle.records.specs.Records.{netJumped}
-use Rattle.records.proofs.net_jumped.Statement.{statement}
-use Rattle.records.proofs.net_jumped.Tie as tie
+use Rattle.to_net.proofs.net_jumped.Statement.{statement}
+use Rattle.to_net.proofs.net_jumped.Tie as tie
 
 returns : tie.Need-returns
 unfolding netJumped

@@ -1,8 +1,8 @@
--- `records::quantize` meets its contract. Assumes nothing.
+-- `from_net::quantize` meets its contract. Assumes nothing.
 use borrow.Author.Needs.{needs}
 use Rattle.records.specs.Records.{quantize}
-use Rattle.records.proofs.quantize.Statement.{statement}
-use Rattle.records.proofs.quantize.Tie as tie
+use Rattle.from_net.proofs.quantize.Statement.{statement}
+use Rattle.from_net.proofs.quantize.Tie as tie
 
 to-net-requires : tie.Need-to-net-requires
 to-net-requires c κs = search needs
