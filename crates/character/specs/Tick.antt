@@ -26,10 +26,11 @@ use Rattle.lines.specs.declared.LineCheck.the-variants as line
 use Rattle.inputs.specs.Inputs.{moveDirection, targetDir, aim, jumps, hooks}
 use Rattle.controls.specs.Controls.{grounded, controlOf, jump, landed, walk, clampSpeed}
 use Rattle.controls.specs.declared.JumpState.{JumpState}
-use Rattle.hooking.specs.Hooking.{fire, fly, strike, nearer, grab, retract, hold, dragged}
+use Rattle.hooking.specs.Hooking.{fire, fly, strike, nearer, grab, retract, hold}
 use Rattle.hooking.specs.declared.Flight.{Flight}
 use Rattle.hooking.specs.declared.Nearest.{Nearest}
 use Rattle.hooking.specs.declared.Nearest.the-variants.{Nobody}
+use Rattle.dragging.specs.Dragging.{dragged}
 use Rattle.meeting.specs.Meeting.{meet}
 use Rattle.meeting.specs.declared.Velocities.{Velocities}
 use Rattle.character.specs.declared.Character.{Character}

@@ -1,14 +1,12 @@
--- What `tick` of lib.rs does to a hook without others, and how an attached hook pulls. Definitions only.
+-- What `tick` of lib.rs does to a hook without others. Definitions only.
 use Prim.Native.Nat.{ℕ, _+_}
 use mathlib.Core.Bool.{Bool, cond}
 use lib.Dec.{ltb}
-use lib.Ieee.{Float, binary32, mul, lt, ofBits}
-use Rattle.number.specs.Number.{c0, c28, c1·5, c0·75}
-use Rattle.vector.specs.Vec2.{vnew, vadd, vsub, vmul, vlength, vnormalize, vdistance, closestPointOnLine}
+use lib.Ieee.{Float, lt}
+use Rattle.number.specs.Number.{c28, c1·5}
+use Rattle.vector.specs.Vec2.{vadd, vsub, vmul, vnormalize, vdistance, closestPointOnLine}
 use Rattle.vector.specs.declared.vec2.{vec2}
-use Rattle.direction.specs.Direction.{asFloat}
-use Rattle.direction.specs.declared.MoveDirection.{MoveDirection}
-use Rattle.hook.specs.Hook.{onAttached, onGrabbed}
+use Rattle.hook.specs.Hook.{onGrabbed}
 use Rattle.hook.specs.declared.CharacterId.{CharacterId}
 use Rattle.hook.specs.declared.Hook.{Hook}
 use Rattle.hook.specs.declared.Hook.the-variants.{Retracted, Idle, Flying, Grabbed, Attached, Retracting0, Retracting1, Retracting2}
@@ -21,17 +19,6 @@ use Rattle.hooking.specs.declared.Flight.{Flight}
 use Rattle.hooking.specs.declared.Nearest.{Nearest}
 use Rattle.hooking.specs.declared.Nearest.the-variants.{Nobody}
 use Rattle.hooking.specs.declared.Nearest.the-variants as near
-
--- DISABLE_HOOK_DISTANCE
-abbrev pub c46 : Float
-c46 = ofBits binary32 0x4238_0000
-
--- 0.3 and 0.95
-abbrev pub c0·3 : Float
-c0·3 = ofBits binary32 0x3e99_999a
-
-abbrev pub c0·95 : Float
-c0·95 = ofBits binary32 0x3f73_3333
 
 -- an idle hook is fired, any other stays
 unfoldable pub fired : Hook → vec2 → vec2 → Hook
@@ -98,27 +85,3 @@ held c t = cond (ltb 60 (t + 1)) Retracted (Grabbed c (t + 1))
 
 unfoldable pub hold : Hook → Hook
 hold h = onGrabbed held h h
-
--- downwards a hook has 30 % of its power
-unfoldable pub lifted : vec2 → vec2
-lifted v = cond (lt c0 (v .y)) (vnew (v .x) (mul binary32 (v .y) c0·3)) v
-
--- in the direction that is wanted it has more than against it
-unfoldable pub helped : vec2 → MoveDirection → vec2
-helped v d = cond (lt c0 (mul binary32 (v .x) (asFloat d))) (vnew (mul binary32 (v .x) c0·95) (v .y)) (vnew (mul binary32 (v .x) c0·75) (v .y))
-
--- the pull of an attached hook
-unfoldable pub hookVel : vec2 → vec2 → MoveDirection → Tuning → vec2
-hookVel p q d t = helped (lifted (vmul (vnormalize (vsub q p)) (t .«hook_drag_accel»))) d
-
--- the velocity that it drags to: where it is far enough, and below the limit or slowing down
-unfoldable pub drag : vec2 → vec2 → vec2 → MoveDirection → Tuning → vec2
-drag p v q d t =
-    let new = vadd v (hookVel p q d t) in
-    cond (lt c46 (vdistance q p))
-    (cond (lt (vlength new) (t .«hook_drag_speed»)) new (cond (lt (vlength new) (vlength v)) new v))
-    v
-
--- an attached hook drags, no other
-unfoldable pub dragged : Hook → vec2 → vec2 → MoveDirection → Tuning → vec2
-dragged h p v d t = onAttached (λ q. drag p v q d t) v h

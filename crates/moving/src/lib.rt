@@ -2,13 +2,13 @@
 use character::Moved;
 use character::SEATS;
 use character::Slot;
+use from_net::from_net;
 use records::Net;
-use records::from_net;
-use records::to_net;
 use seats::put_back;
 use snap_obj::CharacterCore;
 use snap_obj::Tick;
 use tiles::Sides;
+use to_net::to_net;
 use tuning::Tuning;
 use world::Published;
 use world::Recorded;

@@ -25,7 +25,8 @@ use Rattle.tuning.specs.declared.Tuning.{Tuning}
 use Rattle.controls.specs.Controls.{c6000, grounded, controlOf, jump, slowed, walk, clampSpeed}
 use Rattle.controls.specs.declared.Control.{Control}
 use Rattle.controls.specs.declared.JumpState.{JumpState}
-use Rattle.hooking.specs.Hooking.{c46, hold, hookVel, drag, dragged}
+use Rattle.hooking.specs.Hooking.{hold}
+use Rattle.dragging.specs.Dragging.{c46, hookVel, drag, dragged}
 use Rattle.meeting.specs.Meeting as meeting
 use Rattle.meeting.specs.declared.Velocities.{Velocities}
 use Rattle.character.specs.declared.Character.{Character}
