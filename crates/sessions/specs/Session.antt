@@ -1,8 +1,9 @@
 -- What the next line of a text does to a session. Definitions only.
-use Prim.Native.Nat.{ℕ, _+_, _≤_, _<_}
-use mathlib.Core.Bool.{true, false}
+use Prim.Native.Nat.{ℕ, _+_, _*_, _≤_, _<_}
+use mathlib.Core.Bool.{Bool, true, false, not, _&&_}
 use mathlib.Core.List.{List, []}
 use mathlib.Core.Path.{_≡_}
+use lib.Dec.{leb}
 use lib.IntN.{pos}
 use lib.ListN.{length}
 use Rattle.tiles.specs.declared.Sides.{Sides}
@@ -35,6 +36,17 @@ pub data LineRan (n : ℕ) (text : List ℕ) (s : Sides) (ts : List ℕ) (b : Se
   fault : b .place < length text → CallAt text (b .place) line.Fault → r ≡ endedAt (b .call) (b .place) (b .world) (r .next) → Put d at (answerBytes (pos (b .call)) (pos textFault)) e (r .next) → LineRan n text s ts b d at r e
   -- a call: it is run, and its answer is written
   call : (c : Call) (past : ℕ) → b .place < length text → CallAt text (b .place) (line.Read c past) → r ≡ goesOn (b .call + 1) past (ran n s ts (b .world) c .world) (r .next) → Put d at (ranBytes n (pos (b .call)) (ran n s ts (b .world) c)) e (r .next) → LineRan n text s ts b d at r e
+
+-- the most calls that a text can have, and the most bytes of a line
+abbrev pub mostCalls : ℕ
+mostCalls = 65536
+
+abbrev pub mostLine : ℕ
+mostLine = 216
+
+-- another line is run: the session has not ended, a text can have the call that is due, and the buffer has room for a line of each seat
+abbrev pub another : ℕ → Bool → ℕ → ℕ → ℕ → Bool
+another n done due used len = not done && leb due mostCalls && leb (used + mostLine * n) len
 
 -- any number of lines: the session b with the buffer d up to the place `at` becomes the session f with the buffer e up to the place `to`
 pub data LinesRan (n : ℕ) (text : List ℕ) (s : Sides) (ts : List ℕ) (b : Session) (d : List ℕ) (at : ℕ) : Session → List ℕ → ℕ → Type 0 where

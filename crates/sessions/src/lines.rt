@@ -5,11 +5,11 @@ use crate::line::run_line;
 use character::SEATS;
 use output_lines::MOST_LINE;
 use tiles::Sides;
-ghost use mathlib.Core.Bool.{true};
+ghost use mathlib.Core.Bool.{false};
 ghost use mathlib.Core.Path.{_≡_};
-ghost use Prim.Native.Nat.{_+_, _*_, _≤_};
+ghost use lib.ListN.{length};
 ghost use Rattle.character.specs.Tick.{seats};
-ghost use Rattle.sessions.specs.Session.{LinesRan};
+ghost use Rattle.sessions.specs.Session.{another, LinesRan};
 
 // No answer is longer: a line for each seat.
 pub const MOST_ANSWER: usize = MOST_LINE * SEATS;
@@ -26,13 +26,11 @@ pub fn run_lines(
     buf: &mut [u8],
 ) -> Turned
     ensures { λ r. ⌜ LinesRan seats (now (text .entry)) sides (now (tiles .entry)) session (now (buf .entry)) 0 (r .session) (now (buf .exit)) (r .next) ⌝ }
+    ensures { λ r. ⌜ another seats (r .session .done) (r .session .call) (r .next) (length (now (buf .entry))) ≡ false ⌝ }
 {
     let mut now = session;
     let mut used = 0;
-    for _ in 0..MOST_CALLS {
-        if !goes_on(now.done, now.call, used, buf.len()) {
-            break;
-        }
+    while another(now.done, now.call, used, buf.len()) {
         let turned = run_line(text, sides, tiles, now, buf, used);
         now = turned.session;
         used = turned.next;
@@ -44,8 +42,8 @@ pub fn run_lines(
 }
 
 // Whether there is another line to run, and room for its answer.
-fn goes_on(done: bool, call: u32, used: usize, len: usize) -> bool
-    ensures { λ r. ⌜ (r ≡ true → (call ≤ 65536) × (used + 216 * seats ≤ len)) ⌝ }
+fn another(done: bool, call: u32, used: usize, len: usize) -> bool
+    ensures { λ r. ⌜ r ≡ another seats done call used len ⌝ }
 {
     if done {
         return false;
