@@ -67,7 +67,7 @@ fn no_input() -> PlayerInput
     }
 }
 
-fn empty_slot() -> Slot
+pub fn empty_slot() -> Slot
     ensures { λ r. ⌜ r ≡ emptySlot ⌝ }
 {
     Slot {
