@@ -90,7 +90,7 @@ fn accepted(world: World) -> Answer
 }
 
 // Which of `count` places z names; `count` where it names none.
-fn place_of(count: usize, z: i32) -> usize
+pub fn place_of(count: usize, z: i32) -> usize
     ensures { λ r. ⌜ r ≡ placeOf count z ⌝ }
 {
     if z < 0 {

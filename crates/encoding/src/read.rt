@@ -11,7 +11,7 @@ use snap_obj::Tick;
 use tuning::TUNINGS;
 use world::World;
 ghost use mathlib.Core.Path.{_≡_};
-ghost use Prim.Native.Nat.{_≤_};
+ghost use Prim.Native.Nat.{_+_, _*_, _≤_, _<_};
 ghost use lib.ListN.{length, take, drop};
 ghost use Rattle.character.specs.Tick.{seats};
 ghost use Rattle.encoding.specs.Encoding.{fromZero, isPresent, readable, seatCore, seatInput, seatOf, seatsOf, decoding};
@@ -92,14 +92,22 @@ fn seat_of(seat: &[i32]) -> Slot
     }
 }
 
+// The seat with the id `id` of a world's numbers.
+pub fn seat_at(numbers: &[i32], id: usize) -> Slot
+    requires { ⌜ (length (now numbers) ≡ 354) × (id < seats) ⌝ }
+    ensures { λ r. ⌜ r ≡ seatOf (drop (18 + 21 * id) (now (numbers .entry))) ⌝ }
+{
+    let at = TUNINGS + SEAT * id;
+    seat_of(&numbers[at..])
+}
+
 fn seats_of(numbers: &[i32]) -> [Slot; SEATS]
     requires { ⌜ length (now numbers) ≡ 354 ⌝ }
     ensures { λ r. ⌜ r ≡ seatsOf seats (drop 18 (now (numbers .entry))) ⌝ }
 {
     let mut slots = [empty_slot(); SEATS];
-    for i in 0..SEATS {
-        let at = TUNINGS + SEAT * i;
-        slots[i] = seat_of(&numbers[at..]);
+    for id in 0..SEATS {
+        slots[id] = seat_at(numbers, id);
     }
     slots
 }

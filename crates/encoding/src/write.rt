@@ -68,7 +68,7 @@ fn record_numbers(published: Published) -> [i32; RECORD]
     ]
 }
 
-fn seat_numbers(slot: Slot) -> [i32; SEAT]
+pub fn seat_numbers(slot: Slot) -> [i32; SEAT]
     ensures { λ r. ⌜ r ≡ seatNumbers slot ⌝ }
 {
     let input = slot.input;
