@@ -1,11 +1,21 @@
 // The C interface: each function is the one of the crates below with its name.
 mod aim;
 mod walks;
+mod worlds;
 
 pub use aim::ponguriena_net_angle;
 pub use aim::ponguriena_velocity_ramp;
 pub use walks::ponguriena_check_line;
 pub use walks::ponguriena_move_box;
+pub use worlds::ponguriena_fresh;
+pub use worlds::ponguriena_input;
+pub use worlds::ponguriena_join;
+pub use worlds::ponguriena_leave;
+pub use worlds::ponguriena_player_input;
+pub use worlds::ponguriena_record;
+pub use worlds::ponguriena_step;
+pub use worlds::ponguriena_tune;
+pub use worlds::ponguriena_tuning;
 ghost use mathlib.Core.Path.{_≡_};
 ghost use lib.Ieee.{binary32};
 ghost use Rattle.root.specs.Root.{root};

@@ -1,3 +1,4 @@
+-- `exports::aim::ponguriena_velocity_ramp` meets its contract. Assumes nothing.
 -- a tuning that was turned into a float
 use mathlib.Core.Path.{_≡_, ap, _∙_}
 use lib.Ieee.{Float}
