@@ -2,6 +2,7 @@
 
 mod call;
 pub mod draw;
+pub mod encoding;
 mod others;
 mod physics;
 mod refusal;

@@ -8,7 +8,7 @@ mod records;
 mod state;
 
 pub use angle_method::find_angles_by;
-pub use records::{CORE_NUMBERS, INPUT_NUMBERS, core_numbers, input_numbers};
+pub use records::{CORE_NUMBERS, INPUT_NUMBERS, core_numbers, core_of, input_numbers, input_of};
 pub use state::{STATE_WORDS, State, hook_of};
 
 include!(concat!(env!("OUT_DIR"), "/world.rs"));

@@ -35,6 +35,13 @@ pub fn walled(width: usize, height: usize, random: &mut Xorshift) -> Map {
     map
 }
 
+/// Walls all around, and nothing between.
+pub fn hall(width: usize, height: usize, random: &mut Xorshift) -> Map {
+    let mut map = Map::new(width, height, vec![0; width * height]);
+    put_edge(&mut map, random);
+    map
+}
+
 fn put_edge(map: &mut Map, random: &mut Xorshift) {
     let (right, bottom) = (map.width - 1, map.height - 1);
     let [first, second] = [0, 1].map(|_| pick(random, &SOLID));
