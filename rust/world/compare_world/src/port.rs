@@ -1,0 +1,45 @@
+//! Calls of the port.
+
+use harness::Call;
+use original::input_numbers;
+use ponguriena::{Map, PlayerInput, Records, Refusal, World, buffers};
+
+/// Records after an accepted step.
+pub fn call(world: &mut World, map: &Map, call: Call) -> Result<Option<Records>, Refusal> {
+    match call {
+        Call::Join { id, x, y } => world.join(map, id, x, y)?,
+        Call::Leave { id } => world.leave(id)?,
+        Call::Input { id, input } => {
+            world.input(id, PlayerInput::from_numbers(input_numbers(input)))?
+        }
+        Call::Step => return world.step(map).map(Some),
+        Call::Tune { index, hundredths } => world.tune(index, hundredths)?,
+    }
+    Ok(None)
+}
+
+/// An accepted step writes the records.
+pub fn call_on(
+    world: &mut [i32],
+    map: &Map,
+    call: Call,
+    records: &mut [i32],
+) -> Result<(), Refusal> {
+    match call {
+        Call::Join { id, x, y } => buffers::join(world, map, id, x, y),
+        Call::Leave { id } => buffers::leave(world, id),
+        Call::Input { id, input } => {
+            let input = PlayerInput::from_numbers(input_numbers(input));
+            buffers::input(world, id, input)
+        }
+        Call::Step => buffers::step(world, map, records),
+        Call::Tune { index, hundredths } => buffers::tune(world, index, hundredths),
+    }
+}
+
+/// 0 where it was accepted.
+pub fn number<T>(answer: &Result<T, Refusal>) -> u32 {
+    answer
+        .as_ref()
+        .map_or_else(|refusal| refusal.number(), |_| 0)
+}
