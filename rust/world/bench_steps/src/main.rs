@@ -1,60 +1,62 @@
-//! Time per step of a whole world.
+//! Time per step of a whole world, by the port through its C interface and by
+//! document 01's world over libtw2. The latter is timed with the aim angle found
+//! in three ways: by a scan of all entries, as document 01 says it, by halving, and
+//! by the port's own function. Ratios below 1 say that the port is faster.
 
+mod play;
 mod scene;
 mod scenes;
+mod sides;
 
-use harness::World;
 use original::find_angles_by;
+use play::{compare, time_per_step};
 use reference::{Xorshift, net_angle, scanned_angle};
-use scene::{STEPS, Scene};
-use std::hint::black_box;
-use std::time::{Duration, Instant};
+use scene::Scene;
+use sides::{Original, Port};
+use timing::least_times;
 
-const ROUNDS: usize = 100;
+const ROUNDS: usize = 60;
 
 fn main() {
     let mut random = Xorshift::default();
-    let map = scenes::map(&mut random);
-    for scenes in [scenes::named, scenes::by_players, scenes::by_speed] {
-        for scene in scenes(&map, &mut random) {
-            row(&scene);
-        }
+    for scenes in [scenes::games, scenes::by_players, scenes::by_speed] {
+        print_heading();
+        scenes(&mut random).iter().for_each(print_row);
+        println!();
     }
 }
 
-fn row(scene: &Scene) {
-    let mut best = [f64::INFINITY; 2];
-    for _ in 0..ROUNDS {
-        for (k, f) in [scanned_angle, net_angle].into_iter().enumerate() {
-            find_angles_by(f);
-            best[k] = best[k].min(play(scene).as_nanos() as f64 / scene.steps() as f64 / 1000.0);
-        }
-    }
+fn print_heading() {
     println!(
-        "{:<20} {:>8.2} {:>8.1} {:>8.2} {:>8.2}",
-        scene.name,
-        scene.speeds.mean(),
-        scene.speeds.fast(),
-        best[0],
-        best[1]
+        "{:<18} {:>6} {:>6} {:>9} {:^26} {:^23}",
+        "", "mean", "above", "port", "libtw2, microseconds", "ratio"
+    );
+    println!(
+        "{:<18} {:>6} {:>6} {:>9} {:>8} {:>8} {:>8} {:>7} {:>7} {:>7}",
+        "scene", "speed", "ramp", "us", "scan", "halving", "port's", "scan", "halving", "port's"
     );
 }
 
-fn play(scene: &Scene) -> Duration {
-    let mut world = World::fresh();
-    for &call in &scene.start {
-        world.call(&scene.map, call).expect("ok");
-    }
-    let mut total = Duration::ZERO;
-    for block in &scene.blocks {
-        for &call in block {
-            world.call(&scene.map, call).expect("ok");
+fn print_row(scene: &Scene) {
+    compare(scene);
+    let by = |angles: fn(i32, i32) -> i32| {
+        move || {
+            find_angles_by(angles);
+            time_per_step::<Original>(scene)
         }
-        let start = Instant::now();
-        for _ in 0..STEPS {
-            black_box(world.step(black_box(&scene.map))).expect("ok");
-        }
-        total += start.elapsed();
-    }
-    total
+    };
+    let [port, rust @ ..] = least_times(
+        ROUNDS,
+        [
+            &mut || time_per_step::<Port>(scene),
+            &mut by(scanned_angle),
+            &mut by(net_angle),
+            &mut by(ponguriena::net_angle),
+        ],
+    );
+    let (speed, fast) = (scene.speeds.mean(), scene.speeds.fast());
+    print!("{:<18} {speed:>6.1} {fast:>5.0}% {port:>9.2}", scene.name);
+    rust.iter().for_each(|time| print!(" {time:>8.2}"));
+    rust.iter().for_each(|time| print!(" {:>7.2}", port / time));
+    println!();
 }

@@ -11,7 +11,7 @@ use original::State;
 use reference::Xorshift;
 use tile_map::Map;
 use tile_map::draw::{below, pick};
-use tile_map::walled::walled;
+use tile_map::walled::{hall, walled};
 
 const WIDTH: usize = 256;
 const HEIGHT: usize = 128;
@@ -27,16 +27,14 @@ const FAST: i32 = 30;
 /// In hundredths, for those who run.
 const ACCEL: i32 = 1000;
 
-pub fn map(random: &mut Xorshift) -> Map {
-    walled(WIDTH, HEIGHT, random)
-}
-
-pub fn named(map: &Map, random: &mut Xorshift) -> Vec<Scene> {
+/// Those that a league would play.
+pub fn games(random: &mut Xorshift) -> Vec<Scene> {
+    let map = &walled(WIDTH, HEIGHT, random);
     let fast = Plan {
         map,
         players: SEATS,
         tunings: &running(FAST),
-        tell: half_run,
+        tell: most_run,
     };
     vec![
         Scene::drawn("sixteen in play", &ordinary(map, SEATS), random),
@@ -47,7 +45,8 @@ pub fn named(map: &Map, random: &mut Xorshift) -> Vec<Scene> {
 }
 
 /// Growth with the number of players.
-pub fn by_players(map: &Map, random: &mut Xorshift) -> Vec<Scene> {
+pub fn by_players(random: &mut Xorshift) -> Vec<Scene> {
+    let map = &walled(WIDTH, HEIGHT, random);
     let scene = |&players: &usize| {
         let name = format!("players: {players}");
         Scene::drawn(&name, &ordinary(map, players), random)
@@ -55,8 +54,9 @@ pub fn by_players(map: &Map, random: &mut Xorshift) -> Vec<Scene> {
     PLAYERS.iter().map(scene).collect()
 }
 
-/// Growth with speed.
-pub fn by_speed(map: &Map, random: &mut Xorshift) -> Vec<Scene> {
+/// Growth with speed, where no wall is in the way for long.
+pub fn by_speed(random: &mut Xorshift) -> Vec<Scene> {
+    let map = &hall(WIDTH, HEIGHT, random);
     let scene = |&speed: &i32| {
         let plan = Plan {
             map,
@@ -99,14 +99,14 @@ fn now_and_then(world: &World, id: i32, random: &mut Xorshift) -> Option<PlayerI
     }
 }
 
-/// Every other player; the rest stand and aim.
-fn half_run(world: &World, id: i32, random: &mut Xorshift) -> Option<PlayerInput> {
+/// Three of four run; the rest stand and aim.
+fn most_run(world: &World, id: i32, random: &mut Xorshift) -> Option<PlayerInput> {
     let input = run(world, id, random)?;
-    let direction = if id % 2 == 0 { input.direction } else { 0 };
+    let direction = if id % 4 == 3 { 0 } else { input.direction };
     Some(PlayerInput { direction, ..input })
 }
 
-/// On, or any way after a wall; nobody hooks.
+/// On, or any way after a wall; nobody jumps or hooks.
 fn run(world: &World, id: i32, random: &mut Xorshift) -> Option<PlayerInput> {
     let vel = State::from(world.slots[id as usize].character).vel;
     let direction = match vel.x {
@@ -114,12 +114,10 @@ fn run(world: &World, id: i32, random: &mut Xorshift) -> Option<PlayerInput> {
         x if x < -1.0 => -1,
         _ => pick(random, &[-1, 1]),
     };
-    let jump = i32::from(direction == 0);
-    let (hook, input) = (0, any_input(random));
     Some(PlayerInput {
         direction,
-        jump,
-        hook,
-        ..input
+        jump: 0,
+        hook: 0,
+        ..any_input(random)
     })
 }
