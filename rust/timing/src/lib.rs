@@ -21,27 +21,30 @@ pub fn print_row<A: Copy, R>(
     mut port: impl FnMut(A) -> R,
     mut reference: impl FnMut(A) -> R,
 ) {
-    let [port_time, reference_time] = least_times(
+    let [[port_time], [reference_time]] = least_times(
         ROUNDS,
         [
-            &mut || time_per_call(&mut port, passes, inputs),
-            &mut || time_per_call(&mut reference, passes, inputs),
+            &mut || [time_per_call(&mut port, passes, inputs)],
+            &mut || [time_per_call(&mut reference, passes, inputs)],
         ],
     );
     let ratio = port_time / reference_time;
     println!("{name:<16} {kind:<9} {port_time:>9.2} {reference_time:>9.2} {ratio:>9.2}");
 }
 
-/// The least time that each took, over so many rounds.
-pub fn least_times<const N: usize>(
+/// Each run gives the times of its parts; the least of each part over all rounds
+/// counts, so that little of what else the machine does is in it.
+pub fn least_times<const RUNS: usize, const PARTS: usize>(
     rounds: usize,
-    mut runs: [&mut dyn FnMut() -> f64; N],
-) -> [f64; N] {
-    let mut least = [f64::INFINITY; N];
+    mut runs: [&mut dyn FnMut() -> [f64; PARTS]; RUNS],
+) -> [[f64; PARTS]; RUNS] {
+    let mut least = [[f64::INFINITY; PARTS]; RUNS];
     // In turn, so that a change of the clock rate meets all.
     for _ in 0..rounds {
         for (least, run) in least.iter_mut().zip(&mut runs) {
-            *least = least.min(run());
+            for (least, time) in least.iter_mut().zip(run()) {
+                *least = least.min(time);
+            }
         }
     }
     least

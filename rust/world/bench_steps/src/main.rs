@@ -9,7 +9,7 @@ mod scenes;
 mod sides;
 
 use original::find_angles_by;
-use play::{compare, time_per_step};
+use play::{compare, per_step, times};
 use reference::{Xorshift, net_angle, scanned_angle};
 use scene::Scene;
 use sides::{Original, Port};
@@ -42,18 +42,19 @@ fn print_row(scene: &Scene) {
     let by = |angles: fn(i32, i32) -> i32| {
         move || {
             find_angles_by(angles);
-            time_per_step::<Original>(scene)
+            times::<Original>(scene)
         }
     };
     let [port, rust @ ..] = least_times(
         ROUNDS,
         [
-            &mut || time_per_step::<Port>(scene),
+            &mut || times::<Port>(scene),
             &mut by(scanned_angle),
             &mut by(net_angle),
             &mut by(ponguriena::net_angle),
         ],
-    );
+    )
+    .map(per_step);
     let (speed, fast) = (scene.speeds.mean(), scene.speeds.fast());
     print!("{:<18} {speed:>6.1} {fast:>5.0}% {port:>9.2}", scene.name);
     rust.iter().for_each(|time| print!(" {time:>8.2}"));

@@ -1,22 +1,26 @@
 //! A scene played by one side, and by both to compare them.
 
-use crate::scene::{STEPS, Scene};
+use crate::scene::{BLOCKS, STEPS, Scene};
 use crate::sides::{Original, Port, Side};
-use std::time::{Duration, Instant};
+use harness::Call;
+use std::time::Instant;
 
-/// Microseconds per step, with the joins and the inputs left out.
-pub fn time_per_step<'a, S: Side<'a>>(scene: &'a Scene) -> f64 {
+/// Seconds for each few steps. The joins and the inputs between them are left out.
+pub fn times<'a, S: Side<'a>>(scene: &'a Scene) -> [f64; BLOCKS] {
     let mut side = begun::<S>(scene);
-    let mut time = Duration::ZERO;
-    for calls in &scene.blocks {
+    scene.blocks.each_ref().map(|calls| {
         calls.iter().for_each(|&call| side.call(call));
         let start = Instant::now();
         for _ in 0..STEPS {
-            side.step();
+            side.call(Call::Step);
         }
-        time += start.elapsed();
-    }
-    time.as_secs_f64() * 1e6 / scene.steps() as f64
+        start.elapsed().as_secs_f64()
+    })
+}
+
+/// Microseconds per step.
+pub fn per_step(times: [f64; BLOCKS]) -> f64 {
+    times.iter().sum::<f64>() * 1e6 / (BLOCKS * STEPS) as f64
 }
 
 /// Stops where the worlds or the records differ after a step.
@@ -28,8 +32,8 @@ pub fn compare(scene: &Scene) {
             original.call(call);
         }
         for _ in 0..STEPS {
-            port.step();
-            original.step();
+            port.call(Call::Step);
+            original.call(Call::Step);
             let same = port.numbers() == original.numbers();
             assert!(same, "{}: port and libtw2 differ", scene.name);
         }

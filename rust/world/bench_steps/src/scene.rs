@@ -8,7 +8,7 @@ use reference::Xorshift;
 use tile_map::Map;
 
 /// So many times somebody is told something.
-const BLOCKS: usize = 60;
+pub const BLOCKS: usize = 60;
 
 /// Steps from one time to the next.
 pub const STEPS: usize = 5;
@@ -25,7 +25,7 @@ pub struct Scene {
     /// Tunes and joins.
     pub start: Vec<Call>,
     /// The inputs before each few steps.
-    pub blocks: Vec<Vec<Call>>,
+    pub blocks: [Vec<Call>; BLOCKS],
     pub speeds: Speeds,
 }
 
@@ -50,34 +50,24 @@ pub struct Speeds {
 impl Scene {
     pub fn drawn(name: &str, plan: &Plan, random: &mut Xorshift) -> Scene {
         let mut world = World::fresh();
-        let mut scene = Scene {
+        let mut speeds = Speeds::default();
+        let start = plan.start(random);
+        accept(&mut world, plan.map, &start);
+        let blocks = [(); BLOCKS].map(|()| {
+            let calls = plan.inputs(&world, random);
+            accept(&mut world, plan.map, &calls);
+            for _ in 0..STEPS {
+                speeds.add(&world.step(plan.map).expect("short walks"));
+            }
+            calls
+        });
+        Scene {
             name: name.to_string(),
             map: plan.map.clone(),
-            start: plan.start(random),
-            blocks: Vec::new(),
-            speeds: Speeds::default(),
-        };
-        scene
-            .start
-            .iter()
-            .for_each(|&call| accept(&mut world, plan.map, call));
-        for _ in 0..BLOCKS {
-            let calls = plan.inputs(&world, random);
-            calls
-                .iter()
-                .for_each(|&call| accept(&mut world, plan.map, call));
-            for _ in 0..STEPS {
-                scene
-                    .speeds
-                    .add(&world.step(plan.map).expect("short walks"));
-            }
-            scene.blocks.push(calls);
+            start,
+            blocks,
+            speeds,
         }
-        scene
-    }
-
-    pub fn steps(&self) -> usize {
-        self.blocks.len() * STEPS
     }
 }
 
@@ -113,9 +103,11 @@ fn join(map: &Map, id: i32, random: &mut Xorshift) -> Call {
     }
 }
 
-fn accept(world: &mut World, map: &Map, call: Call) {
-    if let Err(refusal) = world.call(map, call) {
-        panic!("a call of the scene is refused: {refusal:?}");
+fn accept(world: &mut World, map: &Map, calls: &[Call]) {
+    for &call in calls {
+        if let Err(refusal) = world.call(map, call) {
+            panic!("a call of the scene is refused: {refusal:?}");
+        }
     }
 }
 

@@ -5,7 +5,6 @@
 
 mod any_numbers;
 mod differs;
-mod port;
 mod replay;
 mod sequences;
 mod single_calls;

@@ -1,11 +1,11 @@
 //! A sequence whose answers are known, through the safe `World`.
 
 use crate::differs::{Differs, same, same_numbers};
-use crate::port::{call, number};
 use harness::encoding::encoded;
 use harness::{Published, SEATS};
 use original::{CORE_NUMBERS, core_numbers, input_numbers};
 use ponguriena::{Map, Records, World};
+use port_calls::{call, number};
 use record_calls::{Line, Sequence};
 
 /// Beside those of seats and of tunings.

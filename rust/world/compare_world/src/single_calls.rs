@@ -2,11 +2,11 @@
 
 use crate::any_numbers::{self, Numbers};
 use crate::differs::{Differs, same, same_numbers};
-use crate::port::{call_on, number};
 use crate::sequences;
 use harness::draw::any_call;
 use harness::encoding::{RECORDS_NUMBERS, decoded, encoded, encoded_records};
 use harness::{Call, Refusal};
+use port_calls::{call_on, lent, number};
 use reference::Xorshift;
 use std::fmt::{Display, Formatter, Result as Written};
 use std::panic::catch_unwind;
@@ -72,13 +72,8 @@ fn compare_call(
 }
 
 fn left_by_port(mut world: Numbers, map: &Map, call: Call) -> Left {
-    let lent = ponguriena::Map {
-        width: map.width as u32,
-        height: map.height as u32,
-        tiles: &map.tiles,
-    };
     let mut records = [UNWRITTEN; RECORDS_NUMBERS];
-    let answer = number(&call_on(&mut world, &lent, call, &mut records));
+    let answer = number(&call_on(&mut world, &lent(map), call, &mut records));
     Left {
         answer,
         world,
