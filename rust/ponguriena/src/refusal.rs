@@ -93,3 +93,16 @@ impl Display for Refusal {
 }
 
 impl Error for Refusal {}
+
+#[cfg(test)]
+mod tests {
+    use super::Refusal;
+
+    #[test]
+    fn every_number_comes_back() {
+        for number in (0..100).chain([u32::MAX]) {
+            let answer = Refusal::of_answer(number);
+            assert_eq!(answer.map_or_else(Refusal::number, |()| 0), number);
+        }
+    }
+}

@@ -35,10 +35,13 @@ unsafe extern "C" {
 const NOTHING: u32 = 0;
 
 /// Row by row; a map whose sides do not fit its tiles is refused.
-#[derive(Clone, Copy)]
+#[derive(Clone, Copy, Debug)]
 pub struct Map<'a> {
+    /// 1 to 1,024.
     pub width: u32,
+    /// 1 to 1,024.
     pub height: u32,
+    /// 1 is solid, 3 is solid and holds no hook, every other is open.
     pub tiles: &'a [u8],
 }
 

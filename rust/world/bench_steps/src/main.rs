@@ -3,6 +3,7 @@
 //! in three ways: by a scan of all entries, as document 01 says it, by halving, and
 //! by the port's own function. Ratios below 1 say that the port is faster.
 
+mod calls;
 mod play;
 mod scene;
 mod scenes;
@@ -24,6 +25,7 @@ fn main() {
         scenes(&mut random).iter().for_each(print_row);
         println!();
     }
+    calls::print_calls(&scenes::games(&mut random)[0]);
 }
 
 fn print_heading() {

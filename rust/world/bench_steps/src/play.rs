@@ -7,7 +7,7 @@ use std::time::Instant;
 
 /// Seconds for each few steps. The joins and the inputs between them are left out.
 pub fn times<'a, S: Side<'a>>(scene: &'a Scene) -> [f64; BLOCKS] {
-    let mut side = begun::<S>(scene);
+    let mut side = S::begun(scene);
     scene.blocks.each_ref().map(|calls| {
         calls.iter().for_each(|&call| side.call(call));
         let start = Instant::now();
@@ -25,7 +25,7 @@ pub fn per_step(times: [f64; BLOCKS]) -> f64 {
 
 /// Stops where the worlds or the records differ after a step.
 pub fn compare(scene: &Scene) {
-    let (mut port, mut original) = (begun::<Port>(scene), begun::<Original>(scene));
+    let (mut port, mut original) = (Port::begun(scene), Original::begun(scene));
     for calls in &scene.blocks {
         for &call in calls {
             port.call(call);
@@ -38,10 +38,4 @@ pub fn compare(scene: &Scene) {
             assert!(same, "{}: port and libtw2 differ", scene.name);
         }
     }
-}
-
-fn begun<'a, S: Side<'a>>(scene: &'a Scene) -> S {
-    let mut side = S::on(scene);
-    scene.start.iter().for_each(|&call| side.call(call));
-    side
 }

@@ -6,8 +6,16 @@ use harness::encoding::{RECORDS_NUMBERS, WORLD_NUMBERS, encoded, encoded_records
 use ponguriena::buffers;
 use port_calls::{call_on, lent};
 
-pub trait Side<'a> {
+pub trait Side<'a>: Sized {
     fn on(scene: &'a Scene) -> Self;
+
+    /// After the joins.
+    fn begun(scene: &'a Scene) -> Self {
+        let mut side = Self::on(scene);
+        scene.start.iter().for_each(|&call| side.call(call));
+        side
+    }
+
     fn call(&mut self, call: Call);
     /// The whole world, and what the last step published.
     fn numbers(&self) -> ([i32; WORLD_NUMBERS], [i32; RECORDS_NUMBERS]);
@@ -56,8 +64,15 @@ impl<'a> Side<'a> for Original<'a> {
     }
 
     fn call(&mut self, call: Call) {
-        let answer = self.world.call(self.map, call);
-        self.published = answer.expect("the scene was accepted when it was drawn");
+        let (world, map) = (&mut self.world, self.map);
+        let answer = match call {
+            Call::Join { id, x, y } => world.join(map, id, x, y),
+            Call::Leave { id } => world.leave(id),
+            Call::Input { id, input } => world.input(id, input),
+            Call::Tune { index, hundredths } => world.tune(index, hundredths),
+            Call::Step => world.step(map).map(|published| self.published = published),
+        };
+        answer.expect("the scene was accepted when it was drawn");
     }
 
     fn numbers(&self) -> ([i32; WORLD_NUMBERS], [i32; RECORDS_NUMBERS]) {

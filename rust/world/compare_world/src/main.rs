@@ -8,6 +8,8 @@ mod differs;
 mod replay;
 mod sequences;
 mod single_calls;
+#[cfg(test)]
+mod tests;
 
 use differs::Differs;
 use record_calls::all_sequences;
