@@ -139,7 +139,8 @@ static void lengths(void) {
     same("leave", ponguriena_leave(world, less, 16), PONGURIENA_BAD_LENGTH);
     same("input", ponguriena_input(world, less, 16, 0, 0, 0, 0, 0), PONGURIENA_BAD_LENGTH);
     same("tune", ponguriena_tune(world, less, 18, 0), PONGURIENA_BAD_LENGTH);
-    same("step", ponguriena_step(world, LENGTH(world), 0, 0, OPEN_TILES, 9, records, 255),
+    same("step",
+         ponguriena_step(world, LENGTH(world), 0, 0, OPEN_TILES, 9, records, LENGTH(records) - 1),
          PONGURIENA_BAD_LENGTH);
     same("record", ponguriena_record(world, LENGTH(world), 16, &number, 1), PONGURIENA_BAD_LENGTH);
     same("player_input", ponguriena_player_input(world, LENGTH(world), 16, &number, 1),
