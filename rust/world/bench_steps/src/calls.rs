@@ -1,4 +1,4 @@
-//! Time per call of the calls that are not steps, in a world of sixteen players.
+//! Time per call of the calls that are not steps.
 
 use crate::scene::Scene;
 use crate::sides::{Original, Port, Side};
@@ -7,9 +7,15 @@ use timing::{print_heading, print_row};
 
 const PASSES: usize = 50;
 
-/// On the worlds with which the scene begins.
-pub fn print_calls(scene: &Scene) {
+pub fn print_calls(scenes: &[Scene]) {
     print_heading();
+    for scene in scenes {
+        print_calls_in(scene);
+    }
+}
+
+/// On the worlds with which the scene begins.
+fn print_calls_in(scene: &Scene) {
     let ids = 0..SEATS as i32;
     let inputs: Vec<Call> = scene.blocks.iter().flatten().copied().collect();
     print_call("input", scene, &inputs[..SEATS]);
@@ -28,7 +34,7 @@ pub fn print_calls(scene: &Scene) {
 fn print_call(name: &str, scene: &Scene, calls: &[Call]) {
     let (mut port, mut original) = (Port::begun(scene), Original::begun(scene));
     let port = |call| port.call(call);
-    print_row(name, "sixteen", PASSES, calls, port, |call| {
+    print_row(name, &scene.name, PASSES, calls, port, |call| {
         original.call(call)
     });
 }

@@ -25,7 +25,7 @@ fn main() {
         scenes(&mut random).iter().for_each(print_row);
         println!();
     }
-    calls::print_calls(&scenes::games(&mut random)[0]);
+    calls::print_calls(&scenes::crowds(&mut random));
 }
 
 fn print_heading() {

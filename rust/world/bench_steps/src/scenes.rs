@@ -54,6 +54,13 @@ pub fn by_players(random: &mut Xorshift) -> Vec<Scene> {
     PLAYERS.iter().map(scene).collect()
 }
 
+/// For the calls that are not steps.
+pub fn crowds(random: &mut Xorshift) -> [Scene; 2] {
+    let map = &walled(WIDTH, HEIGHT, random);
+    [("sixteen", SEATS), ("one", 1)]
+        .map(|(name, players)| Scene::drawn(name, &ordinary(map, players), random))
+}
+
 /// Growth with speed, where no wall is in the way for long.
 pub fn by_speed(random: &mut Xorshift) -> Vec<Scene> {
     let map = &hall(WIDTH, HEIGHT, random);
