@@ -14,20 +14,9 @@ mod tests;
 use differs::Differs;
 use record_calls::all_sequences;
 use std::env;
-use std::process::ExitCode;
 
-fn main() -> ExitCode {
+fn main() -> Result<(), String> {
     let arguments: Vec<String> = env::args().skip(1).collect();
-    match compare(&arguments) {
-        Ok(()) => ExitCode::SUCCESS,
-        Err(error) => {
-            eprintln!("{error}");
-            ExitCode::FAILURE
-        }
-    }
-}
-
-fn compare(arguments: &[String]) -> Result<(), String> {
     let number = |word: &String| {
         word.parse::<u64>()
             .map_err(|_| format!("{word}: no number"))
