@@ -23,7 +23,7 @@ const COURSE: [&str; 10] = [
 ];
 
 /// The players' names, by id, and where they start.
-const PLAYERS: [(&str, i32); 3] = [("hooker", 130), ("jumper", 90), ("runner", 50)];
+const PLAYERS: [(&str, i32); 3] = [("climber", 130), ("jumper", 90), ("runner", 50)];
 
 const START_Y: i32 = 273;
 const STEPS: usize = 120;
@@ -85,7 +85,7 @@ fn input(name: &str, core: &CharacterCore, step: usize) -> PlayerInput {
             jump: pressed,
             ..RIGHT
         },
-        "hooker" => PlayerInput {
+        "climber" => PlayerInput {
             hook: i32::from(core.y > 90),
             ..RIGHT
         },
@@ -96,5 +96,5 @@ fn input(name: &str, core: &CharacterCore, step: usize) -> PlayerInput {
 fn print_record(step: usize, name: &str, core: &CharacterCore) {
     let (x, y) = (core.x, core.y);
     let [vel_x, vel_y] = [core.vel_x, core.vel_y].map(|speed| f64::from(speed) / 256.0);
-    println!("step {step:>3} {name}: at {x:>4} {y:>3}, velocity {vel_x:>6.2} {vel_y:>6.2}");
+    println!("step {step:>3} {name:>7}: at {x:>4} {y:>3}, velocity {vel_x:>6.2} {vel_y:>6.2}");
 }
