@@ -6,7 +6,7 @@
 //! cargo run --release --example race
 //! ```
 
-use ponguriena::{CharacterCore, Map, PlayerInput, Refusal, World};
+use ponguriena::{CharacterCore, Map, PlayerInput, Records, Refusal, World};
 
 /// Solid at `#`; hooks do not hold at `=`.
 const COURSE: [&str; 10] = [
@@ -49,16 +49,20 @@ fn main() -> Result<(), Refusal> {
         world.join(&map, id, x, START_Y)?;
     }
     for step in 1..=STEPS {
-        for (id, (name, _)) in (0..).zip(PLAYERS) {
-            let core = world.record(id)?;
-            world.input(id, input(name, &core, step))?;
-        }
+        tell(&mut world, step)?;
         let records = world.step(&map)?;
         if step % PRINTED_EVERY == 0 {
-            for (id, core) in &records {
-                print_record(step, PLAYERS[id as usize].0, &core);
-            }
+            print_records(step, &records);
         }
+    }
+    Ok(())
+}
+
+/// Everybody wants something else before each step.
+fn tell(world: &mut World, step: usize) -> Result<(), Refusal> {
+    for (id, (name, _)) in (0..).zip(PLAYERS) {
+        let core = world.record(id)?;
+        world.input(id, input(name, &core, step))?;
     }
     Ok(())
 }
@@ -93,8 +97,11 @@ fn input(name: &str, core: &CharacterCore, step: usize) -> PlayerInput {
     }
 }
 
-fn print_record(step: usize, name: &str, core: &CharacterCore) {
-    let (x, y) = (core.x, core.y);
-    let [vel_x, vel_y] = [core.vel_x, core.vel_y].map(|speed| f64::from(speed) / 256.0);
-    println!("step {step:>3} {name:>7}: at {x:>4} {y:>3}, velocity {vel_x:>6.2} {vel_y:>6.2}");
+fn print_records(step: usize, records: &Records) {
+    for (id, core) in records {
+        let (name, _) = PLAYERS[id as usize];
+        let (x, y) = (core.x, core.y);
+        let [vel_x, vel_y] = [core.vel_x, core.vel_y].map(|speed| f64::from(speed) / 256.0);
+        println!("step {step:>3} {name:>7}: at {x:>4} {y:>3}, velocity {vel_x:>6.2} {vel_y:>6.2}");
+    }
 }
