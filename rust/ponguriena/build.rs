@@ -17,6 +17,8 @@ fn main() {
         );
         return;
     }
+    // For the test that builds a C program.
+    println!("cargo::rustc-env=PONGURIENA_ARCHIVE={}", archive.display());
     println!("cargo::rustc-link-search=native={}", folder.display());
     println!("cargo::rustc-link-lib=static=exports");
 }

@@ -1,14 +1,25 @@
-//! Safe Rust functions over the static library of the Rattle crate `exports`.
+//! Safe Rust functions over the static library of the Rattle crate `exports`: the
+//! [`World`] of characters with its calls, the same calls on lent numbers
+//! ([`buffers`]), and what they are made of: walks over a [`Map`], the aim angle, the
+//! velocity ramp, the root and the conversions. `include/ponguriena.h` is for C.
 
 // Nothing checks the declarations in these modules against the Rattle source: a
 // change of a signature there must be repeated here by hand.
 mod aim;
+pub mod buffers;
 mod floats;
+mod refusal;
+mod snap_obj;
 mod walks;
+mod world;
 
 pub use aim::{net_angle, velocity_ramp};
+pub use buffers::SEATS;
 pub use floats::{
     from_256ths, hundredths_to_f32, i32_to_f32, quantize, quantize_256ths, root, round_to_i32,
     to_256ths, trunc_to_i32,
 };
+pub use refusal::Refusal;
+pub use snap_obj::{CORE_NUMBERS, CharacterCore, INPUT_NUMBERS, PlayerInput};
 pub use walks::{Map, check_line, move_box};
+pub use world::{Records, RecordsIter, World};

@@ -1,6 +1,8 @@
 //! The walks of a line and of a box over a tile map. `world` of libtw2 says in
 //! Rust what each of them means, document 01 when it is refused.
 
+use crate::refusal::Refusal;
+
 unsafe extern "C" {
     // `tiles` must point to `tiles_length` bytes.
     fn ponguriena_check_line(
@@ -30,25 +32,31 @@ unsafe extern "C" {
     ) -> u32;
 }
 
-const NOT_REFUSED: u32 = 0;
 const NOTHING: u32 = 0;
 
 /// Row by row; a map whose sides do not fit its tiles is refused.
-#[derive(Clone, Copy)]
+#[derive(Clone, Copy, Debug)]
 pub struct Map<'a> {
+    /// 1 to 1,024.
     pub width: u32,
+    /// 1 to 1,024.
     pub height: u32,
+    /// 1 is solid, 3 is solid and holds no hook, every other is open.
     pub tiles: &'a [u8],
 }
 
 /// The first point of the line that is solid, with its tile: 1 Normal, 3 Unhookable.
-/// The error is the number of the refusal: 1 map at fault, 9 too many turns.
+/// Refused: a map at fault, too many turns.
 #[inline]
-pub fn check_line(map: Map, from: [f32; 2], to: [f32; 2]) -> Result<Option<([f32; 2], u32)>, u32> {
+pub fn check_line(
+    map: Map,
+    from: [f32; 2],
+    to: [f32; 2],
+) -> Result<Option<([f32; 2], u32)>, Refusal> {
     let [mut point_x, mut point_y] = [0.0; 2];
     let mut tile = NOTHING;
     // SAFETY: the pointer and the length are those of one slice.
-    let refusal = unsafe {
+    let answer = unsafe {
         ponguriena_check_line(
             map.width,
             map.height,
@@ -63,26 +71,23 @@ pub fn check_line(map: Map, from: [f32; 2], to: [f32; 2]) -> Result<Option<([f32
             &mut tile,
         )
     };
-    match (refusal, tile) {
-        (NOT_REFUSED, NOTHING) => Ok(None),
-        (NOT_REFUSED, _) => Ok(Some(([point_x, point_y], tile))),
-        _ => Err(refusal),
-    }
+    Refusal::of_answer(answer)?;
+    Ok((tile != NOTHING).then_some(([point_x, point_y], tile)))
 }
 
 /// The position and the velocity after the move of a box of the size `box_`.
-/// The error is the number of the refusal: 1 map at fault, 9 too many turns.
+/// Refused: a map at fault, too many turns.
 #[inline]
 pub fn move_box(
     map: Map,
     pos: [f32; 2],
     vel: [f32; 2],
     box_: [f32; 2],
-) -> Result<([f32; 2], [f32; 2]), u32> {
+) -> Result<([f32; 2], [f32; 2]), Refusal> {
     let [mut pos_x, mut pos_y] = pos;
     let [mut vel_x, mut vel_y] = vel;
     // SAFETY: the pointer and the length are those of one slice.
-    let refusal = unsafe {
+    let answer = unsafe {
         ponguriena_move_box(
             map.width,
             map.height,
@@ -96,8 +101,6 @@ pub fn move_box(
             box_[1],
         )
     };
-    match refusal {
-        NOT_REFUSED => Ok(([pos_x, pos_y], [vel_x, vel_y])),
-        _ => Err(refusal),
-    }
+    Refusal::of_answer(answer)?;
+    Ok(([pos_x, pos_y], [vel_x, vel_y]))
 }

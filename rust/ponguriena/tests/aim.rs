@@ -1,7 +1,7 @@
 //! Compares the port with the reference, bit for bit; all NaNs count as one.
 
 use reference::aim_edges::{game_ramp, random_ramp, random_target, target_edges};
-use reference::{Bits, CIRCLE, Xorshift};
+use reference::{Bits, Xorshift};
 
 const TARGETS: usize = 2_000_000;
 const SCANNED_TARGETS: usize = 20_000;
@@ -23,11 +23,7 @@ fn net_angle_is_the_largest_that_fits() {
     let mut random = Xorshift::default();
     let randoms = std::iter::repeat_with(|| random_target(&mut random)).take(SCANNED_TARGETS);
     for (x, y) in target_edges().into_iter().chain(randoms) {
-        let up = i64::from(y).abs();
-        let fits = |&(cos, sin): &(i64, i64)| up * cos - i64::from(x) * sin >= 0;
-        let largest = CIRCLE.iter().rposition(fits).unwrap_or(0) as i32;
-        let signed = if y < 0 { -largest } else { largest };
-        let expected = if (x, y) == (0, 0) { 0 } else { signed };
+        let expected = reference::scanned_angle(x, y);
         assert_eq!(ponguriena::net_angle(x, y), expected, "net_angle({x}, {y})");
     }
 }

@@ -1,6 +1,6 @@
 //! That each value of a walk gets through the C interface to its place.
 
-use ponguriena::{Map, check_line, move_box};
+use ponguriena::{Map, Refusal, check_line, move_box};
 
 /// Open above, solid below.
 const TILES: [u8; 6] = [0, 0, 0, 3, 3, 1];
@@ -31,8 +31,17 @@ fn boxes() {
 #[test]
 fn refusals() {
     let narrow = Map { width: 2, ..MAP };
-    assert_eq!(check_line(narrow, [0.0; 2], [9.0; 2]), Err(1));
-    assert_eq!(move_box(narrow, [0.0; 2], [9.0; 2], CHARACTER), Err(1));
-    assert_eq!(check_line(MAP, [0.0; 2], [70000.0; 2]), Err(9));
-    assert_eq!(move_box(MAP, [0.0; 2], [70000.0; 2], CHARACTER), Err(9));
+    assert_eq!(check_line(narrow, [0.0; 2], [9.0; 2]), Err(Refusal::BadMap));
+    assert_eq!(
+        move_box(narrow, [0.0; 2], [9.0; 2], CHARACTER),
+        Err(Refusal::BadMap)
+    );
+    assert_eq!(
+        check_line(MAP, [0.0; 2], [70000.0; 2]),
+        Err(Refusal::TooFar)
+    );
+    assert_eq!(
+        move_box(MAP, [0.0; 2], [70000.0; 2], CHARACTER),
+        Err(Refusal::TooFar)
+    );
 }

@@ -19,15 +19,38 @@ pub static CIRCLE: LazyLock<Vec<(i64, i64)>> = LazyLock::new(|| {
         .collect()
 });
 
-/// The aim angle of a target, in 1/256 radian.
+/// The aim angle of a target, in 1/256 radian, by halving: the entries that fit
+/// are the first ones.
 pub fn net_angle(x: i32, y: i32) -> i32 {
-    if (x, y) == (0, 0) {
-        return 0;
+    let fitting = CIRCLE.partition_point(|entry| fits(x, y, entry));
+    signed(x, y, fitting as i32 - 1)
+}
+
+/// The same by the words of document 01, with no use of the order in which
+/// entries fit: a scan of them all.
+pub fn scanned_angle(x: i32, y: i32) -> i32 {
+    let mut largest = 0;
+    for (n, entry) in CIRCLE.iter().enumerate() {
+        if fits(x, y, entry) {
+            largest = n;
+        }
     }
-    let (x, up) = (i64::from(x), i64::from(y).abs());
-    let fitting = CIRCLE.partition_point(|&(cos, sin)| up * cos - x * sin >= 0);
-    let largest = fitting as i32 - 1;
-    if y < 0 { -largest } else { largest }
+    signed(x, y, largest as i32)
+}
+
+/// Whether the entry's angle is at most that of the target (x, |y|).
+fn fits(x: i32, y: i32, &(cos, sin): &(i64, i64)) -> bool {
+    i64::from(y).abs() * cos - i64::from(x) * sin >= 0
+}
+
+fn signed(x: i32, y: i32, largest: i32) -> i32 {
+    if (x, y) == (0, 0) {
+        0
+    } else if y < 0 {
+        -largest
+    } else {
+        largest
+    }
 }
 
 /// `c` to the power of `e`, by squares and square roots.

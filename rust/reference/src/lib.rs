@@ -8,7 +8,7 @@ mod bits;
 pub mod edges;
 mod xorshift;
 
-pub use aim::{CIRCLE, net_angle, powf, velocity_ramp};
+pub use aim::{CIRCLE, net_angle, powf, scanned_angle, velocity_ramp};
 pub use bits::{Bits, on_bits};
 pub use xorshift::Xorshift;
 

@@ -21,15 +21,33 @@ pub fn print_row<A: Copy, R>(
     mut port: impl FnMut(A) -> R,
     mut reference: impl FnMut(A) -> R,
 ) {
-    let mut port_time = f64::INFINITY;
-    let mut reference_time = f64::INFINITY;
-    // In turn, so that a change of the clock rate meets both.
-    for _ in 0..ROUNDS {
-        port_time = port_time.min(time_per_call(&mut port, passes, inputs));
-        reference_time = reference_time.min(time_per_call(&mut reference, passes, inputs));
-    }
+    let [[port_time], [reference_time]] = least_times(
+        ROUNDS,
+        [
+            &mut || [time_per_call(&mut port, passes, inputs)],
+            &mut || [time_per_call(&mut reference, passes, inputs)],
+        ],
+    );
     let ratio = port_time / reference_time;
     println!("{name:<16} {kind:<9} {port_time:>9.2} {reference_time:>9.2} {ratio:>9.2}");
+}
+
+/// Each run gives the times of its parts; the least of each part over all rounds
+/// counts, so that little of what else the machine does is in it.
+pub fn least_times<const RUNS: usize, const PARTS: usize>(
+    rounds: usize,
+    mut runs: [&mut dyn FnMut() -> [f64; PARTS]; RUNS],
+) -> [[f64; PARTS]; RUNS] {
+    let mut least = [[f64::INFINITY; PARTS]; RUNS];
+    // In turn, so that a change of the clock rate meets all.
+    for _ in 0..rounds {
+        for (least, run) in least.iter_mut().zip(&mut runs) {
+            for (least, time) in least.iter_mut().zip(run()) {
+                *least = least.min(time);
+            }
+        }
+    }
+    least
 }
 
 /// Nanoseconds, with the cost of the loop itself, which is the same for both.

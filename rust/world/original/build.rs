@@ -9,7 +9,7 @@ const FOLDER_VARIABLE: &str = "LIBTW2_SRC";
 const STAND_INS: [(&str, &str); 2] = [
     (
         "self.angle = target_dir.angle();",
-        "self.angle = Angle::from_net(reference::net_angle(input.target_x, input.target_y));",
+        "self.angle = Angle::from_net(angle_method::net_angle(input.target_x, input.target_y));",
     ),
     ("curvature.powf(", "reference::powf(curvature, "),
 ];

@@ -5,6 +5,7 @@ mod inputs;
 
 use inputs::{Body, CHARACTER, bodies, walled_map};
 use original::{Collision, vec2};
+use port_calls::lent;
 use reference::Xorshift;
 use tile_map::Map;
 use timing::{print_heading, print_row};
@@ -24,11 +25,7 @@ fn main() {
 }
 
 fn print_move_box(kind: &str, mut map: &Map, bodies: &[Body]) {
-    let lent = ponguriena::Map {
-        width: map.width as u32,
-        height: map.height as u32,
-        tiles: &map.tiles,
-    };
+    let lent = lent(map);
     let size = pair(CHARACTER);
     let port = |body: Body| ponguriena::move_box(lent, pair(body.pos), pair(body.vel), size);
     let mut reference = |body: Body| {

@@ -2,7 +2,7 @@
 
 use crate::refusal::Refusal;
 use libtw2_gamenet::snap_obj::PlayerInput;
-use original::input_numbers;
+use original::{input_numbers, input_of};
 
 /// The code and six arguments.
 pub const CALL_NUMBERS: usize = 7;
@@ -35,15 +35,9 @@ impl Call {
         Ok(match numbers {
             [1, id, x, y, 0, 0, 0] => Call::Join { id, x, y },
             [2, id, 0, 0, 0, 0, 0] => Call::Leave { id },
-            [3, id, direction, target_x, target_y, jump, hook] => Call::Input {
+            [3, id, input @ ..] => Call::Input {
                 id,
-                input: PlayerInput {
-                    direction,
-                    target_x,
-                    target_y,
-                    jump,
-                    hook,
-                },
+                input: input_of(input),
             },
             [4, 0, 0, 0, 0, 0, 0] => Call::Step,
             [5, index, hundredths, 0, 0, 0, 0] => Call::Tune { index, hundredths },

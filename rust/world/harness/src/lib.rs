@@ -2,6 +2,7 @@
 
 mod call;
 pub mod draw;
+pub mod encoding;
 mod others;
 mod physics;
 mod refusal;
@@ -13,7 +14,7 @@ mod walks;
 mod world;
 
 pub use call::{CALL_NUMBERS, Call};
-pub use physics::{moved, ticked};
+pub use physics::Rules;
 pub use refusal::Refusal;
 pub use slot::{SEATS, Slot, Slots};
 pub use world::{LONGEST_SIDE, NOTHING, Published, World};

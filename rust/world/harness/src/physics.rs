@@ -8,37 +8,43 @@ use libtw2_gamenet::msg::game::SvTuneParams;
 use original::{Character, Hook, State};
 use tile_map::Map;
 
-/// Changes the velocities of others that are dragged; after a refusal they are void.
-pub fn ticked(
-    map: &Map,
-    tuning: &SvTuneParams,
-    slots: &mut Slots,
-    id: usize,
-) -> Result<Character, Refusal> {
-    let mut walks = walks(map, tuning);
-    let mut me = without_overflow(slots[id].character);
-    let input = slots[id].input;
-    me.tick(&mut walks, &mut Others::new(id, slots), input, tuning);
-    walks.answer()?;
-    Ok(me)
+/// What is the same for everybody in a step.
+#[derive(Clone, Copy)]
+pub struct Rules<'a> {
+    pub map: &'a Map,
+    pub tuning: &'a SvTuneParams,
 }
 
-/// Leaves the others as they are.
-pub fn moved(
-    map: &Map,
-    tuning: &SvTuneParams,
-    slots: &mut Slots,
-    id: usize,
-) -> Result<Character, Refusal> {
-    let mut walks = walks(map, tuning);
-    let mut me = slots[id].character;
-    me.move_(&mut walks, &mut Others::new(id, slots), tuning);
-    walks.answer()?;
-    Ok(me)
-}
+impl Rules<'_> {
+    /// Changes the velocities of others that are dragged; after a refusal they are void.
+    pub fn ticked(self, slots: &mut Slots, id: usize) -> Result<Character, Refusal> {
+        let me = without_overflow(slots[id].character);
+        let input = slots[id].input;
+        self.walked(me, &mut Others::new(id, slots), |me, walks, others| {
+            me.tick(walks, others, input, self.tuning)
+        })
+    }
 
-fn walks<'a>(map: &'a Map, tuning: &SvTuneParams) -> Walks<'a> {
-    Walks::new(map, tuning.player_collision.to_float() != 0.0)
+    /// Leaves the others as they are.
+    pub fn moved(self, slots: &mut Slots, id: usize) -> Result<Character, Refusal> {
+        let me = slots[id].character;
+        self.walked(me, &mut Others::new(id, slots), |me, walks, others| {
+            me.move_(walks, others, self.tuning)
+        })
+    }
+
+    fn walked(
+        self,
+        mut me: Character,
+        others: &mut Others,
+        act: impl FnOnce(&mut Character, &mut Walks, &mut Others),
+    ) -> Result<Character, Refusal> {
+        let player_collision = self.tuning.player_collision.to_float() != 0.0;
+        let mut walks = Walks::new(self.map, player_collision);
+        act(&mut me, &mut walks, others);
+        walks.answer()?;
+        Ok(me)
+    }
 }
 
 /// The sum of the last tick and 1 overflows; by document 01 it is Retracted as with the tick before.

@@ -10,6 +10,10 @@ pub const ORDINARY: [i32; TUNINGS] = [
     100,
 ];
 
+pub const GROUND_CONTROL_SPEED: usize = 0;
+pub const GROUND_CONTROL_ACCEL: usize = 1;
+pub const AIR_CONTROL_SPEED: usize = 5;
+pub const AIR_CONTROL_ACCEL: usize = 6;
 pub const AIR_FRICTION: usize = 7;
 pub const HOOK_LENGTH: usize = 8;
 pub const HOOK_FIRE_SPEED: usize = 9;

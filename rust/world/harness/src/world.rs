@@ -1,11 +1,10 @@
 //! The world and its five calls. A refused call leaves it as it was.
 
 use crate::call::Call;
-use crate::physics::{moved, ticked};
+use crate::physics::Rules;
 use crate::refusal::Refusal;
 use crate::slot::{SEATS, Slot, Slots};
 use crate::tunings::{ORDINARY, TUNINGS, tune_params};
-use libtw2_gamenet::msg::game::SvTuneParams;
 use libtw2_gamenet::snap_obj::{CharacterCore, PlayerInput};
 use original::{CHARACTER_SIZE, Character, Collision, vec2};
 use tile_map::Map;
@@ -75,10 +74,11 @@ impl World {
 
     pub fn step(&mut self, map: &Map) -> Result<Published, Refusal> {
         check_map(map)?;
-        let tuning = tune_params(self.tunings);
+        let tuning = &tune_params(self.tunings);
+        let rules = Rules { map, tuning };
         let mut slots = self.slots;
-        tick_all(map, &tuning, &mut slots)?;
-        let published = move_all(map, &tuning, &mut slots)?;
+        tick_all(rules, &mut slots)?;
+        let published = move_all(rules, &mut slots)?;
         self.slots = slots;
         Ok(published)
     }
@@ -91,21 +91,21 @@ impl World {
 }
 
 /// Each finds the others as they stand then.
-fn tick_all(map: &Map, tuning: &SvTuneParams, slots: &mut Slots) -> Result<(), Refusal> {
+fn tick_all(rules: Rules, slots: &mut Slots) -> Result<(), Refusal> {
     for id in 0..SEATS {
         if slots[id].present {
-            slots[id].character = ticked(map, tuning, slots, id)?;
+            slots[id].character = rules.ticked(slots, id)?;
         }
     }
     Ok(())
 }
 
 /// Each is quantized before the next one moves.
-fn move_all(map: &Map, tuning: &SvTuneParams, slots: &mut Slots) -> Result<Published, Refusal> {
+fn move_all(rules: Rules, slots: &mut Slots) -> Result<Published, Refusal> {
     let mut published = NOTHING;
     for id in 0..SEATS {
         if slots[id].present {
-            let record = moved(map, tuning, slots, id)?.to_net();
+            let record = rules.moved(slots, id)?.to_net();
             slots[id].character = Character::from_net(&record);
             published[id] = Some(record);
         }

@@ -2,14 +2,12 @@
 //! lines have the same length.
 
 use record_calls::all_sequences;
-use std::io::{BufWriter, Result, Write, stdout};
+use std::io::Result;
+use vector_lines::print_all;
 
 fn main() -> Result<()> {
-    let mut out = BufWriter::new(stdout().lock());
-    for sequence in all_sequences() {
-        for line in sequence.lines {
-            writeln!(out, "{}", line.text())?;
-        }
-    }
-    out.flush()
+    let lines = all_sequences()
+        .into_iter()
+        .flat_map(|sequence| sequence.lines);
+    print_all(lines.map(|line| line.text()))
 }

@@ -4,7 +4,7 @@ use crate::all_sequences;
 use crate::sequence::Line;
 use harness::draw::is_clear;
 use harness::tunings::{PLAYER_COLLISION, tune_params};
-use harness::{Call, NOTHING, Refusal, SEATS, Slots, World, moved, ticked};
+use harness::{Call, NOTHING, Refusal, Rules, SEATS, Slots, World};
 use original::{Hook, State};
 use std::collections::BTreeSet;
 use tile_map::maps::open;
@@ -169,16 +169,19 @@ fn leavers_are_held_and_newcomers_too() {
 
 /// The slots when the step ended, and whether all had ticked by then.
 fn where_refused(world: &World, line: &Line) -> (Slots, bool) {
-    let tuning = tune_params(world.tunings);
+    let rules = Rules {
+        map: &line.map,
+        tuning: &tune_params(world.tunings),
+    };
     let mut slots = world.slots;
     for id in (0..SEATS).filter(|&id| world.slots[id].present) {
-        match ticked(&line.map, &tuning, &mut slots, id) {
+        match rules.ticked(&mut slots, id) {
             Ok(me) => slots[id].character = me,
             Err(_) => return (slots, false),
         }
     }
     for id in (0..SEATS).filter(|&id| world.slots[id].present) {
-        match moved(&line.map, &tuning, &mut slots, id) {
+        match rules.moved(&mut slots, id) {
             Ok(mut me) => {
                 me.quantize();
                 slots[id].character = me;

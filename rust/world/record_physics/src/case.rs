@@ -2,7 +2,7 @@
 
 use crate::scene::Scene;
 use harness::tunings::tune_params;
-use harness::{Slot, Slots, moved, ticked};
+use harness::{Rules, Slot, Slots};
 use original::{State, input_numbers};
 use reference::Bits;
 
@@ -38,11 +38,14 @@ impl Case {
 
     pub fn answer(&self) -> Answer {
         let scene = &self.scene;
-        let tuning = tune_params(scene.tunings);
+        let rules = Rules {
+            map: &scene.map,
+            tuning: &tune_params(scene.tunings),
+        };
         let mut slots = scene.slots;
         let me = match self.op {
-            Op::Tick => ticked(&scene.map, &tuning, &mut slots, scene.id),
-            Op::Move => moved(&scene.map, &tuning, &mut slots, scene.id),
+            Op::Tick => rules.ticked(&mut slots, scene.id),
+            Op::Move => rules.moved(&mut slots, scene.id),
         };
         match me {
             Ok(me) => Answer {

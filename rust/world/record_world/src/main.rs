@@ -10,16 +10,11 @@ mod tests;
 
 use case::Case;
 use reference::Xorshift;
-use std::collections::HashSet;
+use std::io::Result;
+use vector_lines::print_once;
 
-fn main() {
-    let mut seen = HashSet::new();
-    for case in all_cases() {
-        let text = case.text();
-        if seen.insert(text.clone()) {
-            println!("{text}");
-        }
-    }
+fn main() -> Result<()> {
+    print_once(all_cases().iter().map(Case::text))
 }
 
 fn all_cases() -> Vec<Case> {

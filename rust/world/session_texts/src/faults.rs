@@ -1,13 +1,14 @@
 //! Texts at fault: a text that is well, with one thing wrong.
 
 use crate::play::small;
+use crate::written::sequence_text;
 use reference::Xorshift;
 
 pub type Fault = fn(&[u8], &mut Xorshift) -> Vec<u8>;
 
 /// A fault somewhere in a small text.
 pub fn text_with(fault: Fault, random: &mut Xorshift) -> Vec<u8> {
-    let text = small(random);
+    let text = sequence_text(&small(random));
     fault(&text, random)
 }
 

@@ -6,7 +6,7 @@ mod lengths;
 mod line_faults;
 mod maps;
 mod places;
-mod play;
+pub mod play;
 mod programs;
 mod sequences;
 #[cfg(test)]
@@ -18,9 +18,16 @@ mod written;
 pub use programs::output_of;
 pub use timed::timed;
 
+use Draw::{Bytes, Game};
+use record_calls::Sequence;
 use reference::Xorshift;
+use written::sequence_text;
 
-type Draw = fn(&mut Xorshift) -> Vec<u8>;
+#[derive(Clone, Copy)]
+enum Draw {
+    Game(fn(&mut Xorshift) -> Sequence),
+    Bytes(fn(&mut Xorshift) -> Vec<u8>),
+}
 
 pub struct Text {
     /// What it is about.
@@ -30,19 +37,19 @@ pub struct Text {
 
 /// Texts of games, and how many of each are recorded.
 const GAMES: [(&str, Draw, usize); 13] = [
-    ("ordinary play", play::ordinary, 24),
-    ("every seat", play::full, 8),
-    ("no player collision", play::apart, 12),
-    ("extreme tunings", play::extreme, 20),
-    ("long walks", sequences::too_far, 14),
-    ("limits of arguments", play::limits, 14),
-    ("ends of maps", play::at_map_ends, 14),
-    ("recorded sequences", sequences::recorded, 14),
-    ("nearly the longest text", lengths::nearly_longest, 1),
-    ("the longest text", lengths::longest, 3),
-    ("a text too long", lengths::too_long, 3),
-    ("long play", play::long, 0),
-    ("many calls", lengths::many_calls, 0),
+    ("ordinary play", Game(play::ordinary), 24),
+    ("every seat", Game(play::full), 8),
+    ("no player collision", Game(play::apart), 12),
+    ("extreme tunings", Game(play::extreme), 20),
+    ("long walks", Bytes(sequences::too_far), 14),
+    ("limits of arguments", Game(play::limits), 14),
+    ("ends of maps", Game(play::at_map_ends), 14),
+    ("recorded sequences", Bytes(sequences::recorded), 14),
+    ("nearly the longest text", Bytes(lengths::nearly_longest), 1),
+    ("the longest text", Bytes(lengths::longest), 3),
+    ("a text too long", Bytes(lengths::too_long), 3),
+    ("long play", Game(play::long), 0),
+    ("many calls", Bytes(lengths::many_calls), 0),
 ];
 
 /// Each fault is recorded so often.
@@ -52,13 +59,22 @@ const FAULTS_RECORDED: usize = 3;
 const EXAMPLE: &str = "width height\n3 3\ntiles\n0 0 0\n0 0 0\n0 0 0\ncall a b c d e f\n\
                        1 0 48 48 0 0 0\n4 0 0 0 0 0 0\n";
 
+impl Draw {
+    fn bytes(self, random: &mut Xorshift) -> Vec<u8> {
+        match self {
+            Game(draw) => sequence_text(&draw(random)),
+            Bytes(draw) => draw(random),
+        }
+    }
+}
+
 /// The text of that number. Games and faults take turns.
 pub fn drawn(seed: u64, number: u64) -> Text {
     let mut random = Xorshift::seeded(seed.wrapping_mul(1 << 32).wrapping_add(number));
     let turn = (number / 2) as usize;
     if number.is_multiple_of(2) {
         let (kind, draw, _) = GAMES[turn % GAMES.len()];
-        let bytes = draw(&mut random);
+        let bytes = draw.bytes(&mut random);
         return Text { kind, bytes };
     }
     let faults = faults::all();
@@ -75,7 +91,7 @@ pub fn recorded() -> Vec<Text> {
     let mut texts = vec![Text { kind, bytes }];
     for (kind, draw, count) in GAMES {
         for _ in 0..count {
-            let bytes = draw(&mut random);
+            let bytes = draw.bytes(&mut random);
             texts.push(Text { kind, bytes });
         }
     }

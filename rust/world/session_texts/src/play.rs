@@ -1,7 +1,6 @@
-//! Texts of games.
+//! Games.
 
 use crate::maps::{end_map, walled_map};
-use crate::written::sequence_text;
 use harness::draw::{any_call, extreme_tuning, input_at_somebody, place, present_id};
 use harness::tunings::{PLAYER_COLLISION, TUNINGS};
 use harness::{Call, SEATS};
@@ -13,18 +12,18 @@ use tile_map::maps::{open, room};
 const SHORT: usize = 70;
 const LONG: usize = 600;
 
-pub fn ordinary(random: &mut Xorshift) -> Vec<u8> {
+pub fn ordinary(random: &mut Xorshift) -> Sequence {
     let sequence = Sequence::on(&walled_map(random));
     played(sequence, SHORT, random)
 }
 
-pub fn long(random: &mut Xorshift) -> Vec<u8> {
+pub fn long(random: &mut Xorshift) -> Sequence {
     let sequence = Sequence::on(&walled_map(random));
     played(sequence, LONG, random)
 }
 
 /// For faults; ends with a step.
-pub fn small(random: &mut Xorshift) -> Vec<u8> {
+pub fn small(random: &mut Xorshift) -> Sequence {
     let (width, height) = (2 + below(random, 7), 2 + below(random, 5));
     let map = random_map(width, height, 3, random);
     let mut sequence = joined(Sequence::on(&map), 2, random);
@@ -32,33 +31,33 @@ pub fn small(random: &mut Xorshift) -> Vec<u8> {
         let call = any_call(&sequence.world, &map, random);
         sequence.call(call);
     }
-    sequence_text(&sequence.steps(1))
+    sequence.steps(1)
 }
 
 /// Player collision is off.
-pub fn apart(random: &mut Xorshift) -> Vec<u8> {
+pub fn apart(random: &mut Xorshift) -> Sequence {
     let sequence = Sequence::on(&walled_map(random)).tuned(PLAYER_COLLISION, 0);
     played(sequence, SHORT, random)
 }
 
 /// On maps of one row, of one column, and the like.
-pub fn at_map_ends(random: &mut Xorshift) -> Vec<u8> {
+pub fn at_map_ends(random: &mut Xorshift) -> Sequence {
     let sequence = Sequence::on(&end_map(random));
     played(sequence, SHORT / 2, random)
 }
 
 /// Every seat taken, and everybody told something.
-pub fn full(random: &mut Xorshift) -> Vec<u8> {
+pub fn full(random: &mut Xorshift) -> Sequence {
     let mut sequence = joined(Sequence::on(&walled_map(random)), SEATS, random);
     for id in 0..SEATS as i32 {
         let input = input_at_somebody(&sequence.world, id, random);
         sequence = sequence.told(id, input);
     }
-    sequence_text(&sequence.steps(10))
+    sequence.steps(10)
 }
 
 /// Many tunings, or all, at their ends.
-pub fn extreme(random: &mut Xorshift) -> Vec<u8> {
+pub fn extreme(random: &mut Xorshift) -> Sequence {
     let count = 2 + below(random, 5);
     let mut sequence = joined(Sequence::on(&walled_map(random)), count, random);
     let one_in = pick(random, &[1, 2, 6]);
@@ -72,17 +71,17 @@ pub fn extreme(random: &mut Xorshift) -> Vec<u8> {
         let input = input_at_somebody(&sequence.world, id, random);
         sequence = sequence.told(id, input).steps(1);
     }
-    sequence_text(&sequence)
+    sequence
 }
 
 /// Every argument at its limits.
-pub fn limits(random: &mut Xorshift) -> Vec<u8> {
+pub fn limits(random: &mut Xorshift) -> Sequence {
     let map = pick(random, &[open as fn() -> _, room])();
     let mut sequence = Sequence::on(&map);
     for _ in 0..SHORT {
         sequence.call(call_at_limits(random));
     }
-    sequence_text(&sequence)
+    sequence
 }
 
 fn call_at_limits(random: &mut Xorshift) -> Call {
@@ -122,12 +121,12 @@ pub fn joined(mut sequence: Sequence, count: usize, random: &mut Xorshift) -> Se
     sequence
 }
 
-fn played(sequence: Sequence, calls: usize, random: &mut Xorshift) -> Vec<u8> {
+fn played(sequence: Sequence, calls: usize, random: &mut Xorshift) -> Sequence {
     let count = 1 + below(random, SEATS / 2);
     let mut sequence = joined(sequence, count, random);
     for _ in 0..calls {
         let call = any_call(&sequence.world, &sequence.map, random);
         sequence.call(call);
     }
-    sequence_text(&sequence)
+    sequence
 }

@@ -3,6 +3,7 @@
 pub mod draw;
 pub mod maps;
 pub mod turns;
+pub mod walled;
 
 use original::{Collision, CollisionType, vec2};
 use reference::round_to_i32;

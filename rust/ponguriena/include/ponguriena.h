@@ -1,0 +1,138 @@
+/* The C interface of Ponguriena: the character physics of Teeworlds 0.6.
+ *
+ * Link target/staticlib/libexports.a, which `rt staticlib exports` writes.
+ *
+ * A call that may be refused answers 0 where it did its work, and else the number
+ * of the refusal; then it has written nothing. No numbers stop a call. A pointer
+ * that comes with a length points to so many elements; one without points to one.
+ * What a call writes must not overlap what else it is lent. */
+#ifndef PONGURIENA_H
+#define PONGURIENA_H
+
+#include <stddef.h>
+#include <stdint.h>
+
+#ifdef __cplusplus
+extern "C" {
+#endif
+
+/* Answers. */
+enum {
+    PONGURIENA_ACCEPTED = 0,
+    PONGURIENA_BAD_MAP = 1,       /* a side not 1 to 1,024, or tiles not width times height */
+    PONGURIENA_BAD_ID = 2,        /* no seat has this id */
+    PONGURIENA_BAD_TUNING = 3,    /* no tuning has this index */
+    PONGURIENA_OUT_OF_REACH = 4,  /* a join outside -100,000 to 100,000 */
+    PONGURIENA_NOT_CLEAR = 5,     /* a join whose box is not clear of solid tiles */
+    PONGURIENA_PRESENT = 7,       /* a join of an id that is present */
+    PONGURIENA_ABSENT = 8,        /* an id that is absent */
+    PONGURIENA_TOO_FAR = 9,       /* a walk of 65,537 turns or more */
+    PONGURIENA_BAD_LENGTH = 17    /* a buffer of the wrong length; found before all else */
+};
+
+/* Lengths, in numbers. */
+enum {
+    PONGURIENA_SEATS = 16,                /* ids are 0 to 15 */
+    PONGURIENA_TUNINGS = 18,              /* each in hundredths */
+    PONGURIENA_RECORD = 15,               /* tick, x, y, vel_x, vel_y, angle, direction, jumped,
+                                             hooked_player, hook_state, hook_tick, hook_x, hook_y,
+                                             hook_dx, hook_dy */
+    PONGURIENA_INPUT = 5,                 /* direction, target_x, target_y, jump, hook */
+    PONGURIENA_SEAT = 1 + PONGURIENA_RECORD + PONGURIENA_INPUT, /* presence (1 or 0), record, input */
+    PONGURIENA_WORLD = PONGURIENA_TUNINGS + PONGURIENA_SEATS * PONGURIENA_SEAT, /* tunings, seats */
+    PONGURIENA_PUBLISHED = 1 + PONGURIENA_RECORD,               /* presence, record */
+    PONGURIENA_RECORDS = PONGURIENA_SEATS * PONGURIENA_PUBLISHED /* for each seat */
+};
+
+/* The world: PONGURIENA_WORLD numbers that the caller keeps. Any numbers are taken for a world. */
+
+/* Nobody is present, and the tunings are those of the game. */
+uint32_t ponguriena_fresh(int32_t *world, size_t world_length);
+
+/* The id joins at a place; its input is all 0. */
+uint32_t ponguriena_join(int32_t *world, size_t world_length, uint32_t width, uint32_t height,
+                         const uint8_t *tiles, size_t tiles_length, int32_t id, int32_t x,
+                         int32_t y);
+
+/* The id is absent from now on; hooks that are held on it stay as they are. */
+uint32_t ponguriena_leave(int32_t *world, size_t world_length, int32_t id);
+
+/* What the id wants in every step from now on. */
+uint32_t ponguriena_input(int32_t *world, size_t world_length, int32_t id, int32_t direction,
+                          int32_t target_x, int32_t target_y, int32_t jump, int32_t hook);
+
+/* Sets a tuning; every number is taken. */
+uint32_t ponguriena_tune(int32_t *world, size_t world_length, int32_t index, int32_t hundredths);
+
+/* Everybody present ticks, then moves; the records are PONGURIENA_RECORDS numbers. */
+uint32_t ponguriena_step(int32_t *world, size_t world_length, uint32_t width, uint32_t height,
+                         const uint8_t *tiles, size_t tiles_length, int32_t *records,
+                         size_t records_length);
+
+/* The record of an id that is present: PONGURIENA_RECORD numbers. */
+uint32_t ponguriena_record(const int32_t *world, size_t world_length, int32_t id, int32_t *record,
+                           size_t record_length);
+
+/* The last input of an id that is present: PONGURIENA_INPUT numbers. */
+uint32_t ponguriena_player_input(const int32_t *world, size_t world_length, int32_t id,
+                                 int32_t *input, size_t input_length);
+
+/* A tuning. */
+uint32_t ponguriena_tuning(const int32_t *world, size_t world_length, int32_t index,
+                           int32_t *hundredths);
+
+/* Walks over a map: width times height tiles row by row. Tile 1 is solid, 3 is solid and holds no
+ * hook, every other is open. */
+
+/* The first solid point of a line and its tile, or tile 0 and no point. Answers 0, 1 or 9. */
+uint32_t ponguriena_check_line(uint32_t width, uint32_t height, const uint8_t *tiles,
+                               size_t tiles_length, float from_x, float from_y, float to_x,
+                               float to_y, float *point_x, float *point_y, uint32_t *tile);
+
+/* Moves a box by its velocity, which walls stop. Answers 0, 1 or 9. */
+uint32_t ponguriena_move_box(uint32_t width, uint32_t height, const uint8_t *tiles,
+                             size_t tiles_length, float *pos_x, float *pos_y, float *vel_x,
+                             float *vel_y, float box_x, float box_y);
+
+/* Aim and ramp. */
+
+/* The angle of a target in 1/256 radian. */
+int32_t ponguriena_net_angle(int32_t x, int32_t y);
+
+/* The factor for a speed; the tunings are in hundredths. */
+float ponguriena_velocity_ramp(float value, int32_t start, int32_t range, int32_t curvature);
+
+/* Floats: defined for every float, and any not-a-number may be any other. */
+
+/* The square root, correctly rounded. */
+float ponguriena_root(float x);
+
+/* The nearest integer, halves away from zero; saturates, and a not-a-number gives 0. */
+int32_t ponguriena_round_to_i32(float x);
+
+/* The integer part; saturates, and a not-a-number gives 0. */
+int32_t ponguriena_trunc_to_i32(float x);
+
+/* The nearest float, ties to even. */
+float ponguriena_i32_to_f32(int32_t n);
+
+/* A tuning as a float. */
+float ponguriena_hundredths_to_f32(int32_t n);
+
+/* The float of the nearest integer. */
+float ponguriena_quantize(float x);
+
+/* The nearest number of 256ths. */
+int32_t ponguriena_to_256ths(float v);
+
+/* The float of a number of 256ths. */
+float ponguriena_from_256ths(int32_t n);
+
+/* The float of the nearest number of 256ths. */
+float ponguriena_quantize_256ths(float v);
+
+#ifdef __cplusplus
+}
+#endif
+
+#endif

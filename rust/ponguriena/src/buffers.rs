@@ -1,0 +1,206 @@
+//! The calls on a world that the caller keeps as numbers and lends to each call.
+//!
+//! A world is [`WORLD_NUMBERS`] numbers: the tunings, then for each seat its
+//! presence (1 or 0), its record and its input. Every such list of numbers is taken
+//! for a world: who is absent is as in a fresh one whatever stands there, and a
+//! hook's tick below 0 counts as 0. A buffer of another length is refused with
+//! [`Refusal::BadLength`]. A refused call leaves every buffer as it was.
+//!
+//! ```
+//! use ponguriena::{Map, buffers};
+//!
+//! let map = Map { width: 3, height: 3, tiles: &[0; 9] };
+//! let mut world = [0; buffers::WORLD_NUMBERS];
+//! let mut records = [0; buffers::RECORDS_NUMBERS];
+//! buffers::fresh(&mut world)?;
+//! buffers::join(&mut world, &map, 0, 48, 48)?;
+//! buffers::step(&mut world, &map, &mut records)?;
+//! assert_eq!(records[..5], [1, 0, 48, 49, 0]);
+//! # Ok::<(), ponguriena::Refusal>(())
+//! ```
+
+use crate::refusal::Refusal;
+use crate::snap_obj::{CORE_NUMBERS, INPUT_NUMBERS, PlayerInput};
+use crate::walks::Map;
+
+/// The seats of a world. Ids are 0 up to one less.
+pub const SEATS: usize = 16;
+
+/// The tunings of a world, each in hundredths.
+pub const TUNINGS: usize = 18;
+
+/// A seat's presence, record and input.
+pub const SEAT_NUMBERS: usize = 1 + CORE_NUMBERS + INPUT_NUMBERS;
+
+/// A world.
+pub const WORLD_NUMBERS: usize = TUNINGS + SEATS * SEAT_NUMBERS;
+
+/// A seat's presence and record.
+pub const PUBLISHED_NUMBERS: usize = 1 + CORE_NUMBERS;
+
+/// What a step publishes.
+pub const RECORDS_NUMBERS: usize = SEATS * PUBLISHED_NUMBERS;
+
+// Each pointer is followed by the length of what it points to, in elements; a
+// pointer without a length points to one number. What a call may write must not
+// overlap what else it is lent. Any numbers may stand there.
+unsafe extern "C" {
+    fn ponguriena_fresh(world: *mut i32, length: usize) -> u32;
+    fn ponguriena_join(
+        world: *mut i32,
+        length: usize,
+        width: u32,
+        height: u32,
+        tiles: *const u8,
+        tiles_length: usize,
+        id: i32,
+        x: i32,
+        y: i32,
+    ) -> u32;
+    fn ponguriena_leave(world: *mut i32, length: usize, id: i32) -> u32;
+    fn ponguriena_input(
+        world: *mut i32,
+        length: usize,
+        id: i32,
+        direction: i32,
+        target_x: i32,
+        target_y: i32,
+        jump: i32,
+        hook: i32,
+    ) -> u32;
+    fn ponguriena_tune(world: *mut i32, length: usize, index: i32, hundredths: i32) -> u32;
+    fn ponguriena_step(
+        world: *mut i32,
+        length: usize,
+        width: u32,
+        height: u32,
+        tiles: *const u8,
+        tiles_length: usize,
+        records: *mut i32,
+        records_length: usize,
+    ) -> u32;
+    fn ponguriena_record(
+        world: *const i32,
+        length: usize,
+        id: i32,
+        record: *mut i32,
+        record_length: usize,
+    ) -> u32;
+    fn ponguriena_player_input(
+        world: *const i32,
+        length: usize,
+        id: i32,
+        input: *mut i32,
+        input_length: usize,
+    ) -> u32;
+    fn ponguriena_tuning(world: *const i32, length: usize, index: i32, hundredths: &mut i32)
+    -> u32;
+}
+
+/// Makes the world a fresh one: nobody present, the tunings of the game.
+#[inline]
+pub fn fresh(world: &mut [i32]) -> Result<(), Refusal> {
+    // SAFETY: the pointer and the length are those of one slice.
+    Refusal::of_answer(unsafe { ponguriena_fresh(world.as_mut_ptr(), world.len()) })
+}
+
+/// The id joins at a place; its input is all 0.
+#[inline]
+pub fn join(world: &mut [i32], map: &Map<'_>, id: i32, x: i32, y: i32) -> Result<(), Refusal> {
+    // SAFETY: each pointer and the length after it are those of one slice.
+    Refusal::of_answer(unsafe {
+        ponguriena_join(
+            world.as_mut_ptr(),
+            world.len(),
+            map.width,
+            map.height,
+            map.tiles.as_ptr(),
+            map.tiles.len(),
+            id,
+            x,
+            y,
+        )
+    })
+}
+
+/// The id is absent from now on. Hooks that are held on it stay as they are.
+#[inline]
+pub fn leave(world: &mut [i32], id: i32) -> Result<(), Refusal> {
+    // SAFETY: the pointer and the length are those of one slice.
+    Refusal::of_answer(unsafe { ponguriena_leave(world.as_mut_ptr(), world.len(), id) })
+}
+
+/// What the id wants in every step from now on.
+#[inline]
+pub fn input(world: &mut [i32], id: i32, input: PlayerInput) -> Result<(), Refusal> {
+    // SAFETY: the pointer and the length are those of one slice.
+    Refusal::of_answer(unsafe {
+        ponguriena_input(
+            world.as_mut_ptr(),
+            world.len(),
+            id,
+            input.direction,
+            input.target_x,
+            input.target_y,
+            input.jump,
+            input.hook,
+        )
+    })
+}
+
+/// Sets a tuning.
+#[inline]
+pub fn tune(world: &mut [i32], index: i32, hundredths: i32) -> Result<(), Refusal> {
+    // SAFETY: the pointer and the length are those of one slice.
+    let answer = unsafe { ponguriena_tune(world.as_mut_ptr(), world.len(), index, hundredths) };
+    Refusal::of_answer(answer)
+}
+
+/// Everybody present ticks, then moves. `records` gets for each seat its presence
+/// and its record.
+#[inline]
+pub fn step(world: &mut [i32], map: &Map<'_>, records: &mut [i32]) -> Result<(), Refusal> {
+    // SAFETY: each pointer and the length after it are those of one slice; the two
+    // that are written are lent for writing, so they do not overlap.
+    Refusal::of_answer(unsafe {
+        ponguriena_step(
+            world.as_mut_ptr(),
+            world.len(),
+            map.width,
+            map.height,
+            map.tiles.as_ptr(),
+            map.tiles.len(),
+            records.as_mut_ptr(),
+            records.len(),
+        )
+    })
+}
+
+/// Writes the record of an id that is present: [`CORE_NUMBERS`] numbers.
+#[inline]
+pub fn record(world: &[i32], id: i32, record: &mut [i32]) -> Result<(), Refusal> {
+    // SAFETY: each pointer and the length after it are those of one slice; the one
+    // that is written is lent for writing, so they do not overlap.
+    Refusal::of_answer(unsafe {
+        let (numbers, length) = (record.as_mut_ptr(), record.len());
+        ponguriena_record(world.as_ptr(), world.len(), id, numbers, length)
+    })
+}
+
+/// Writes the input of an id that is present: [`INPUT_NUMBERS`] numbers.
+#[inline]
+pub fn player_input(world: &[i32], id: i32, input: &mut [i32]) -> Result<(), Refusal> {
+    // SAFETY: as for `record`.
+    Refusal::of_answer(unsafe {
+        let (numbers, length) = (input.as_mut_ptr(), input.len());
+        ponguriena_player_input(world.as_ptr(), world.len(), id, numbers, length)
+    })
+}
+
+/// Writes a tuning.
+#[inline]
+pub fn tuning(world: &[i32], index: i32, hundredths: &mut i32) -> Result<(), Refusal> {
+    // SAFETY: the pointer and the length are those of one slice.
+    let answer = unsafe { ponguriena_tuning(world.as_ptr(), world.len(), index, hundredths) };
+    Refusal::of_answer(answer)
+}

@@ -1,0 +1,108 @@
+//! Why a call is declined.
+
+use std::error::Error;
+use std::fmt::{Display, Formatter, Result as Written};
+
+/// With the numbers of document 01. A call that is refused changes nothing.
+#[derive(Clone, Copy, Debug, Eq, Hash, PartialEq)]
+pub enum Refusal {
+    /// 1: a side of the map is not 1 to 1,024, or its tiles are not width times height.
+    BadMap,
+    /// 2: no seat has this id.
+    BadId,
+    /// 3: no tuning has this index.
+    BadTuning,
+    /// 4: a join with x or y outside -100,000 to 100,000.
+    OutOfReach,
+    /// 5: a join whose box is not clear of solid tiles.
+    NotClear,
+    /// 6: a text at fault. Only the session program reads texts.
+    BadText,
+    /// 7: a join of an id that is present.
+    Present,
+    /// 8: an id that is absent.
+    Absent,
+    /// 9: a walk of 65,537 turns or more.
+    TooFar,
+    /// 10: a record of a hook that has held for more than 2,147,483,647 ticks.
+    TickTooLarge,
+    /// 17: a buffer of the wrong length.
+    BadLength,
+    /// A number that has no name here. No function of this library gives one: who
+    /// sees it has linked another library than these declarations are for.
+    Unnamed(u32),
+}
+
+impl Refusal {
+    /// What a call answered: 0 where it was accepted.
+    pub(crate) fn of_answer(number: u32) -> Result<(), Refusal> {
+        Err(match number {
+            0 => return Ok(()),
+            1 => Refusal::BadMap,
+            2 => Refusal::BadId,
+            3 => Refusal::BadTuning,
+            4 => Refusal::OutOfReach,
+            5 => Refusal::NotClear,
+            6 => Refusal::BadText,
+            7 => Refusal::Present,
+            8 => Refusal::Absent,
+            9 => Refusal::TooFar,
+            10 => Refusal::TickTooLarge,
+            17 => Refusal::BadLength,
+            other => Refusal::Unnamed(other),
+        })
+    }
+
+    /// The number that the C interface answers.
+    pub fn number(self) -> u32 {
+        match self {
+            Refusal::BadMap => 1,
+            Refusal::BadId => 2,
+            Refusal::BadTuning => 3,
+            Refusal::OutOfReach => 4,
+            Refusal::NotClear => 5,
+            Refusal::BadText => 6,
+            Refusal::Present => 7,
+            Refusal::Absent => 8,
+            Refusal::TooFar => 9,
+            Refusal::TickTooLarge => 10,
+            Refusal::BadLength => 17,
+            Refusal::Unnamed(number) => number,
+        }
+    }
+}
+
+impl Display for Refusal {
+    fn fmt(&self, formatter: &mut Formatter<'_>) -> Written {
+        let words = match self {
+            Refusal::BadMap => "the sides of the map do not fit its tiles",
+            Refusal::BadId => "no seat has this id",
+            Refusal::BadTuning => "no tuning has this index",
+            Refusal::OutOfReach => "the place is out of reach",
+            Refusal::NotClear => "the place is not clear of solid tiles",
+            Refusal::BadText => "the text is at fault",
+            Refusal::Present => "the id is present",
+            Refusal::Absent => "the id is absent",
+            Refusal::TooFar => "a walk has too many turns",
+            Refusal::TickTooLarge => "the hook has held for too many ticks",
+            Refusal::BadLength => "a buffer has the wrong length",
+            Refusal::Unnamed(_) => "refused",
+        };
+        write!(formatter, "{words} ({})", self.number())
+    }
+}
+
+impl Error for Refusal {}
+
+#[cfg(test)]
+mod tests {
+    use super::Refusal;
+
+    #[test]
+    fn every_number_comes_back() {
+        for number in (0..100).chain([u32::MAX]) {
+            let answer = Refusal::of_answer(number);
+            assert_eq!(answer.map_or_else(Refusal::number, |()| 0), number);
+        }
+    }
+}

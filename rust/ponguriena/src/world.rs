@@ -1,0 +1,157 @@
+//! A world of characters and its five calls.
+
+use crate::buffers::{self, PUBLISHED_NUMBERS, RECORDS_NUMBERS, SEATS, WORLD_NUMBERS};
+use crate::refusal::Refusal;
+use crate::snap_obj::{CORE_NUMBERS, CharacterCore, INPUT_NUMBERS, PlayerInput};
+use crate::walks::Map;
+
+/// Sixteen seats, each empty or with a character and its last input, and the
+/// tunings. No call stops on any input: it does its work, or gives a [`Refusal`]
+/// and leaves the world as it was.
+///
+/// ```
+/// use ponguriena::{Map, PlayerInput, Refusal, World};
+///
+/// let map = Map { width: 3, height: 3, tiles: &[0, 0, 0, 0, 0, 0, 1, 1, 1] };
+/// let mut world = World::fresh();
+/// world.join(&map, 7, 20, 48)?;
+/// world.input(7, PlayerInput { direction: 1, ..PlayerInput::default() })?;
+/// for (id, core) in &world.step(&map)? {
+///     assert_eq!((id, core.x, core.y), (7, 22, 49));
+/// }
+/// assert_eq!(world.leave(8), Err(Refusal::Absent));
+/// # Ok::<(), Refusal>(())
+/// ```
+#[derive(Clone, Debug, Eq, PartialEq)]
+pub struct World {
+    numbers: [i32; WORLD_NUMBERS],
+}
+
+/// What a step publishes: the record of each id that was present, by rising id.
+///
+/// ```
+/// # let map = ponguriena::Map { width: 1, height: 1, tiles: &[0] };
+/// # let mut world = ponguriena::World::fresh();
+/// # world.join(&map, 3, 5, 5)?;
+/// let records = world.step(&map)?;
+/// let ids: Vec<i32> = records.iter().map(|(id, _)| id).collect();
+/// assert_eq!(ids, [3]);
+/// # Ok::<(), ponguriena::Refusal>(())
+/// ```
+#[derive(Clone, Debug, Eq, PartialEq)]
+pub struct Records {
+    numbers: [i32; RECORDS_NUMBERS],
+}
+
+impl World {
+    /// Nobody is present, and the tunings are those of the game.
+    pub fn fresh() -> World {
+        let mut numbers = [0; WORLD_NUMBERS];
+        // Only another length is refused, and then every later call answers so too.
+        let _ = buffers::fresh(&mut numbers);
+        World { numbers }
+    }
+
+    /// A world that was kept as numbers; [`buffers`] says what any numbers mean.
+    pub fn from_numbers(numbers: [i32; WORLD_NUMBERS]) -> World {
+        World { numbers }
+    }
+
+    /// The whole world as numbers, to be kept.
+    pub fn numbers(&self) -> &[i32; WORLD_NUMBERS] {
+        &self.numbers
+    }
+
+    /// The id joins at a place. Refused: a map at fault, an id without a seat, a place
+    /// out of reach or not clear, an id that is present.
+    pub fn join(&mut self, map: &Map<'_>, id: i32, x: i32, y: i32) -> Result<(), Refusal> {
+        buffers::join(&mut self.numbers, map, id, x, y)
+    }
+
+    /// The id is absent from now on. Hooks that are held on it stay as they are.
+    pub fn leave(&mut self, id: i32) -> Result<(), Refusal> {
+        buffers::leave(&mut self.numbers, id)
+    }
+
+    /// What the id wants in every step from now on.
+    pub fn input(&mut self, id: i32, input: PlayerInput) -> Result<(), Refusal> {
+        buffers::input(&mut self.numbers, id, input)
+    }
+
+    /// Sets a tuning, in hundredths; every number is taken.
+    pub fn tune(&mut self, index: i32, hundredths: i32) -> Result<(), Refusal> {
+        buffers::tune(&mut self.numbers, index, hundredths)
+    }
+
+    /// Everybody present ticks by rising id; then each moves and is quantized. Refused:
+    /// a map at fault, a walk that is too long.
+    pub fn step(&mut self, map: &Map<'_>) -> Result<Records, Refusal> {
+        let mut numbers = [0; RECORDS_NUMBERS];
+        buffers::step(&mut self.numbers, map, &mut numbers)?;
+        Ok(Records { numbers })
+    }
+
+    /// The record of an id that is present.
+    pub fn record(&self, id: i32) -> Result<CharacterCore, Refusal> {
+        let mut numbers = [0; CORE_NUMBERS];
+        buffers::record(&self.numbers, id, &mut numbers)?;
+        Ok(CharacterCore::from_numbers(numbers))
+    }
+
+    /// The last input of an id that is present.
+    pub fn player_input(&self, id: i32) -> Result<PlayerInput, Refusal> {
+        let mut numbers = [0; INPUT_NUMBERS];
+        buffers::player_input(&self.numbers, id, &mut numbers)?;
+        Ok(PlayerInput::from_numbers(numbers))
+    }
+
+    /// A tuning, in hundredths.
+    pub fn tuning(&self, index: i32) -> Result<i32, Refusal> {
+        let mut hundredths = 0;
+        buffers::tuning(&self.numbers, index, &mut hundredths)?;
+        Ok(hundredths)
+    }
+}
+
+impl Records {
+    /// Of those who were present, by rising id.
+    pub fn iter(&self) -> RecordsIter<'_> {
+        RecordsIter {
+            records: self,
+            ids: 0..SEATS,
+        }
+    }
+
+    /// Of that id, where it was present.
+    fn of_seat(&self, seat: usize) -> Option<CharacterCore> {
+        let numbers = &self.numbers[seat * PUBLISHED_NUMBERS..][..PUBLISHED_NUMBERS];
+        let (&present, core) = numbers.split_first()?;
+        let core = core.try_into().ok()?;
+        (present != 0).then(|| CharacterCore::from_numbers(core))
+    }
+}
+
+/// Goes through [`Records`].
+#[derive(Clone, Debug)]
+pub struct RecordsIter<'a> {
+    records: &'a Records,
+    ids: std::ops::Range<usize>,
+}
+
+impl Iterator for RecordsIter<'_> {
+    type Item = (i32, CharacterCore);
+
+    fn next(&mut self) -> Option<(i32, CharacterCore)> {
+        let record = |seat| Some((seat as i32, self.records.of_seat(seat)?));
+        self.ids.by_ref().find_map(record)
+    }
+}
+
+impl<'a> IntoIterator for &'a Records {
+    type Item = (i32, CharacterCore);
+    type IntoIter = RecordsIter<'a>;
+
+    fn into_iter(self) -> RecordsIter<'a> {
+        self.iter()
+    }
+}

@@ -1,0 +1,109 @@
+//! The calls on lent numbers: wrong lengths are refused, and any numbers are taken.
+
+use ponguriena::buffers::{self, RECORDS_NUMBERS, SEATS, WORLD_NUMBERS};
+use ponguriena::{CORE_NUMBERS, INPUT_NUMBERS, Map, PlayerInput, Refusal};
+use reference::Xorshift;
+
+const OPEN: Map = Map {
+    width: 2,
+    height: 2,
+    tiles: &[0, 0, 0, 1],
+};
+
+const BUFFERS: usize = 500;
+const STEPS: usize = 3;
+
+/// Nobody writes this.
+const UNWRITTEN: i32 = -77;
+
+const BAD_LENGTH: Result<(), Refusal> = Err(Refusal::BadLength);
+
+/// Around the right length and far from it.
+fn wrong_lengths(right: usize) -> [usize; 6] {
+    [0, 1, right - 1, right + 1, 2 * right, 1000]
+}
+
+/// Also where other refusals fit: there is no such map, id or tuning.
+#[test]
+fn worlds_of_a_wrong_length() {
+    let no_map = Map { width: 3, ..OPEN };
+    for length in wrong_lengths(WORLD_NUMBERS) {
+        let mut numbers = vec![UNWRITTEN; length];
+        let world = &mut numbers[..];
+        let mut records = [UNWRITTEN; RECORDS_NUMBERS];
+        let mut hundredths = UNWRITTEN;
+        assert_eq!(buffers::fresh(world), BAD_LENGTH);
+        assert_eq!(buffers::join(world, &no_map, -1, 1 << 30, 0), BAD_LENGTH);
+        assert_eq!(buffers::leave(world, -1), BAD_LENGTH);
+        let input = PlayerInput::default();
+        assert_eq!(buffers::input(world, -1, input), BAD_LENGTH);
+        assert_eq!(buffers::tune(world, -1, 0), BAD_LENGTH);
+        assert_eq!(buffers::step(world, &no_map, &mut records), BAD_LENGTH);
+        assert_eq!(
+            buffers::record(world, -1, &mut records[..CORE_NUMBERS]),
+            BAD_LENGTH
+        );
+        let input = &mut records[..INPUT_NUMBERS];
+        assert_eq!(buffers::player_input(world, -1, input), BAD_LENGTH);
+        assert_eq!(buffers::tuning(world, -1, &mut hundredths), BAD_LENGTH);
+        assert_eq!(hundredths, UNWRITTEN);
+        let all = numbers.iter().chain(&records);
+        assert!(all.into_iter().all(|&number| number == UNWRITTEN));
+    }
+}
+
+type Reader<'a> = &'a mut dyn FnMut(&mut [i32]) -> Result<(), Refusal>;
+
+#[test]
+fn answers_of_a_wrong_length() {
+    let mut fresh = [0; WORLD_NUMBERS];
+    assert_eq!(buffers::fresh(&mut fresh), Ok(()));
+    let mut world = fresh;
+    let readers: [(usize, Reader); 3] = [
+        (RECORDS_NUMBERS, &mut |out| {
+            buffers::step(&mut world, &OPEN, out)
+        }),
+        (CORE_NUMBERS, &mut |out| buffers::record(&fresh, -1, out)),
+        (INPUT_NUMBERS, &mut |out| {
+            buffers::player_input(&fresh, -1, out)
+        }),
+    ];
+    for (right, reader) in readers {
+        for length in wrong_lengths(right) {
+            let mut numbers = vec![UNWRITTEN; length];
+            assert_eq!(reader(&mut numbers), BAD_LENGTH);
+            assert!(numbers.iter().all(|&number| number == UNWRITTEN));
+        }
+    }
+    assert_eq!(world, fresh);
+}
+
+/// Of all sizes.
+fn any_number(random: &mut Xorshift) -> i32 {
+    let shift = random.pattern() % 32;
+    random.pattern() as i32 >> shift
+}
+
+/// A call ends on any numbers, and changes nothing where it refuses.
+#[test]
+fn any_numbers_are_taken() {
+    let mut random = Xorshift::default();
+    for _ in 0..BUFFERS {
+        let mut world = [0; WORLD_NUMBERS].map(|_| any_number(&mut random));
+        let mut records = [0; RECORDS_NUMBERS];
+        for _ in 0..STEPS {
+            let before = (world, records);
+            let answer = buffers::step(&mut world, &OPEN, &mut records);
+            if answer.is_err() {
+                assert_eq!(answer, Err(Refusal::TooFar));
+                assert_eq!((world, records), before);
+            }
+            let id = (random.pattern() % SEATS as u32) as i32;
+            let input = [0; INPUT_NUMBERS].map(|_| any_number(&mut random));
+            let told = buffers::input(&mut world, id, PlayerInput::from_numbers(input));
+            let mut read = [0; INPUT_NUMBERS];
+            assert_eq!(buffers::player_input(&world, id, &mut read), told);
+            assert_eq!(read, told.map_or([0; INPUT_NUMBERS], |()| input));
+        }
+    }
+}

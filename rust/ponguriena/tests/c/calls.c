@@ -1,0 +1,216 @@
+/* Plays a few calls of every kind through the C interface. Says what differs from
+ * what is known of each, and ends with 1 if anything does. */
+#include "ponguriena.h"
+
+#include <inttypes.h>
+#include <stdio.h>
+#include <string.h>
+
+#define LENGTH(array) (sizeof(array) / sizeof(array)[0])
+
+typedef struct {
+    uint32_t width, height;
+    const uint8_t *tiles;
+    size_t length;
+} Map;
+
+static const uint8_t OPEN_TILES[9] = {0};
+static const uint8_t FLOOR_TILES[9] = {0, 0, 0, 0, 0, 0, 1, 1, 3};
+
+static const Map OPEN = {3, 3, OPEN_TILES, 9};
+static const Map FLOOR = {3, 3, FLOOR_TILES, 9};
+static const Map NO_MAP = {4, 3, OPEN_TILES, 9};
+
+static int32_t world[PONGURIENA_WORLD];
+static int32_t records[PONGURIENA_RECORDS];
+static int differences = 0;
+
+static void same(const char *what, int64_t is, int64_t expected) {
+    if (is != expected) {
+        printf("%s: %" PRId64 ", not %" PRId64 "\n", what, is, expected);
+        differences++;
+    }
+}
+
+static void same_float(const char *what, float is, float expected) {
+    if (is != expected) {
+        printf("%s: %g, not %g\n", what, is, expected);
+        differences++;
+    }
+}
+
+static void same_numbers(const char *what, const int32_t *is, const int32_t *expected,
+                         size_t count) {
+    for (size_t k = 0; k < count; k++) {
+        if (is[k] != expected[k]) {
+            printf("%s, number %zu: %" PRId32 ", not %" PRId32 "\n", what, k, is[k], expected[k]);
+            differences++;
+        }
+    }
+}
+
+static uint32_t fresh(void) { return ponguriena_fresh(world, LENGTH(world)); }
+
+static uint32_t join(Map map, int32_t id, int32_t x, int32_t y) {
+    return ponguriena_join(world, LENGTH(world), map.width, map.height, map.tiles, map.length, id,
+                           x, y);
+}
+
+static uint32_t step(Map map) {
+    return ponguriena_step(world, LENGTH(world), map.width, map.height, map.tiles, map.length,
+                           records, LENGTH(records));
+}
+
+static uint32_t input(int32_t id, const int32_t *n) {
+    return ponguriena_input(world, LENGTH(world), id, n[0], n[1], n[2], n[3], n[4]);
+}
+
+static uint32_t tune(int32_t index, int32_t hundredths) {
+    return ponguriena_tune(world, LENGTH(world), index, hundredths);
+}
+
+/* One player falls by half a unit in a step. */
+static void a_fall(void) {
+    static const int32_t fallen[] = {0, 48, 49, 0, 128, 0, 0, 0, -1, 0, 0, 0, 0, 0, 0};
+    int32_t record[PONGURIENA_RECORD];
+    same("fresh", fresh(), PONGURIENA_ACCEPTED);
+    same("join", join(OPEN, 3, 48, 48), PONGURIENA_ACCEPTED);
+    same("step", step(OPEN), PONGURIENA_ACCEPTED);
+    for (int32_t id = 0; id < PONGURIENA_SEATS; id++) {
+        same("presence", records[id * PONGURIENA_PUBLISHED], id == 3);
+    }
+    same_numbers("published", records + 3 * PONGURIENA_PUBLISHED + 1, fallen, LENGTH(fallen));
+    same_numbers("in the world", world + PONGURIENA_TUNINGS + 3 * PONGURIENA_SEAT + 1, fallen,
+                 LENGTH(fallen));
+    same("record", ponguriena_record(world, LENGTH(world), 3, record, LENGTH(record)),
+         PONGURIENA_ACCEPTED);
+    same_numbers("record", record, fallen, LENGTH(fallen));
+}
+
+/* Every argument of an input comes back from its place. */
+static void an_input(void) {
+    static const int32_t told[] = {-1, 30, -40, 1, 2};
+    int32_t read[PONGURIENA_INPUT];
+    same("input", input(3, told), PONGURIENA_ACCEPTED);
+    same("player_input", ponguriena_player_input(world, LENGTH(world), 3, read, LENGTH(read)),
+         PONGURIENA_ACCEPTED);
+    same_numbers("player_input", read, told, LENGTH(told));
+}
+
+static void tunings(void) {
+    int32_t hundredths = 0;
+    same("tuning", ponguriena_tuning(world, LENGTH(world), 8, &hundredths), PONGURIENA_ACCEPTED);
+    same("hook length", hundredths, 38000);
+    same("tune", tune(8, -5), PONGURIENA_ACCEPTED);
+    same("tuning", ponguriena_tuning(world, LENGTH(world), 8, &hundredths), PONGURIENA_ACCEPTED);
+    same("hook length after", hundredths, -5);
+    same("tuning 18", ponguriena_tuning(world, LENGTH(world), 18, &hundredths),
+         PONGURIENA_BAD_TUNING);
+    same("tune -1", tune(-1, 0), PONGURIENA_BAD_TUNING);
+}
+
+/* With id 3 present. A refused call leaves the world as it was. */
+static void refusals(void) {
+    int32_t before[PONGURIENA_WORLD];
+    int32_t record[PONGURIENA_RECORD];
+    static const int32_t nothing[PONGURIENA_INPUT] = {0};
+    memcpy(before, world, sizeof world);
+    same("join without a map", join(NO_MAP, 16, 0, 0), PONGURIENA_BAD_MAP);
+    same("step without a map", step(NO_MAP), PONGURIENA_BAD_MAP);
+    same("join of 16", join(FLOOR, 16, 100001, 0), PONGURIENA_BAD_ID);
+    same("leave of -1", ponguriena_leave(world, LENGTH(world), -1), PONGURIENA_BAD_ID);
+    same("join far away", join(FLOOR, 3, 48, -100001), PONGURIENA_OUT_OF_REACH);
+    same("join in the floor", join(FLOOR, 3, 48, 64), PONGURIENA_NOT_CLEAR);
+    same("join again", join(FLOOR, 3, 48, 48), PONGURIENA_PRESENT);
+    same("leave of 4", ponguriena_leave(world, LENGTH(world), 4), PONGURIENA_ABSENT);
+    same("input of 4", input(4, nothing), PONGURIENA_ABSENT);
+    same("record of 4", ponguriena_record(world, LENGTH(world), 4, record, LENGTH(record)),
+         PONGURIENA_ABSENT);
+    same_numbers("world after refusals", world, before, LENGTH(before));
+}
+
+/* One number less is a wrong length, and is found before all else. */
+static void lengths(void) {
+    const size_t less = LENGTH(world) - 1;
+    int32_t number = 0;
+    same("fresh", ponguriena_fresh(world, less), PONGURIENA_BAD_LENGTH);
+    same("join", ponguriena_join(world, less, 0, 0, OPEN_TILES, 9, 16, 0, 0),
+         PONGURIENA_BAD_LENGTH);
+    same("leave", ponguriena_leave(world, less, 16), PONGURIENA_BAD_LENGTH);
+    same("input", ponguriena_input(world, less, 16, 0, 0, 0, 0, 0), PONGURIENA_BAD_LENGTH);
+    same("tune", ponguriena_tune(world, less, 18, 0), PONGURIENA_BAD_LENGTH);
+    same("step",
+         ponguriena_step(world, LENGTH(world), 0, 0, OPEN_TILES, 9, records, LENGTH(records) - 1),
+         PONGURIENA_BAD_LENGTH);
+    same("record", ponguriena_record(world, LENGTH(world), 16, &number, 1), PONGURIENA_BAD_LENGTH);
+    same("player_input", ponguriena_player_input(world, LENGTH(world), 16, &number, 1),
+         PONGURIENA_BAD_LENGTH);
+    same("tuning", ponguriena_tuning(world, less, 18, &number), PONGURIENA_BAD_LENGTH);
+}
+
+/* A hook that would fly too far refuses the step. */
+static void a_step_too_far(void) {
+    static const int32_t hook[] = {0, 1, 0, 0, 1};
+    int32_t before[PONGURIENA_WORLD];
+    same("hook length", tune(8, INT32_MAX), PONGURIENA_ACCEPTED);
+    same("hook fire speed", tune(9, INT32_MAX), PONGURIENA_ACCEPTED);
+    same("input", input(3, hook), PONGURIENA_ACCEPTED);
+    memcpy(before, world, sizeof world);
+    same("step too far", step(OPEN), PONGURIENA_TOO_FAR);
+    same_numbers("world after it", world, before, LENGTH(before));
+}
+
+/* Who leaves is as if never there. */
+static void a_leave(void) {
+    int32_t left[PONGURIENA_WORLD];
+    same("leave", ponguriena_leave(world, LENGTH(world), 3), PONGURIENA_ACCEPTED);
+    memcpy(left, world, sizeof world);
+    same("fresh", fresh(), PONGURIENA_ACCEPTED);
+    same_numbers("seats", left + PONGURIENA_TUNINGS, world + PONGURIENA_TUNINGS,
+                 PONGURIENA_WORLD - PONGURIENA_TUNINGS);
+}
+
+static void walks(void) {
+    float x = 0.0f, y = 0.0f, vel_x = 2.0f, vel_y = 7.0f;
+    uint32_t tile = 9;
+    same("check_line",
+         ponguriena_check_line(3, 3, FLOOR_TILES, 9, 70.0f, 40.0f, 70.0f, 90.0f, &x, &y, &tile), 0);
+    same("tile", tile, 3);
+    same_float("point x", x, 70.0f);
+    same_float("point y", y, 64.0f);
+    x = 40.0f;
+    y = 49.0f;
+    same("move_box",
+         ponguriena_move_box(3, 3, FLOOR_TILES, 9, &x, &y, &vel_x, &vel_y, 28.0f, 28.0f), 0);
+    same_float("x after the move", x, 42.0f);
+    same_float("y after the move", y, 49.0f);
+    same_float("vel x after the move", vel_x, 2.0f);
+    same_float("vel y after the move", vel_y, 0.0f);
+}
+
+static void numbers(void) {
+    same("net_angle", ponguriena_net_angle(0, -1), -402);
+    same_float("velocity_ramp", ponguriena_velocity_ramp(500.0f, 55000, 200000, 140), 1.0f);
+    same_float("root", ponguriena_root(6.25f), 2.5f);
+    same("round_to_i32", ponguriena_round_to_i32(-0.5f), -1);
+    same("trunc_to_i32", ponguriena_trunc_to_i32(-2.75f), -2);
+    same_float("i32_to_f32", ponguriena_i32_to_f32(16777217), 16777216.0f);
+    same_float("hundredths_to_f32", ponguriena_hundredths_to_f32(-150), -1.5f);
+    same_float("quantize", ponguriena_quantize(17.5f), 18.0f);
+    same("to_256ths", ponguriena_to_256ths(-0.5f), -128);
+    same_float("from_256ths", ponguriena_from_256ths(64), 0.25f);
+    same_float("quantize_256ths", ponguriena_quantize_256ths(0.001953125f), 0.00390625f);
+}
+
+int main(void) {
+    a_fall();
+    an_input();
+    tunings();
+    refusals();
+    lengths();
+    a_step_too_far();
+    a_leave();
+    walks();
+    numbers();
+    return differences != 0;
+}

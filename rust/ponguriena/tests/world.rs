@@ -1,0 +1,142 @@
+//! The calls of a world: what each does, and the lowest refusal first.
+
+use ponguriena::{Map, PlayerInput, Refusal, SEATS, World};
+
+const OPEN: Map = Map {
+    width: 3,
+    height: 3,
+    tiles: &[0; 9],
+};
+
+/// Its right column is solid.
+const WALLED: Map = Map {
+    width: 3,
+    height: 3,
+    tiles: &[0, 0, 1, 0, 0, 1, 0, 0, 1],
+};
+
+const NO_MAP: Map = Map { width: 2, ..OPEN };
+
+const HOOK: PlayerInput = PlayerInput {
+    direction: 0,
+    target_x: 1,
+    target_y: 0,
+    jump: 0,
+    hook: 1,
+};
+
+const HOOK_LENGTH: i32 = 8;
+const HOOK_FIRE_SPEED: i32 = 9;
+
+#[test]
+fn the_example_of_document_01() -> Result<(), Refusal> {
+    let mut world = World::fresh();
+    world.join(&OPEN, 0, 48, 48)?;
+    let records = world.step(&OPEN)?;
+    let [(id, core)] = records.iter().collect::<Vec<_>>()[..] else {
+        panic!("one record is published");
+    };
+    let fallen = [0, 48, 49, 0, 128, 0, 0, 0, -1, 0, 0, 0, 0, 0, 0];
+    assert_eq!((id, core.numbers()), (0, fallen));
+    assert_eq!(world.record(0), Ok(core));
+    Ok(())
+}
+
+#[test]
+fn records_come_by_rising_id() -> Result<(), Refusal> {
+    let mut world = World::fresh();
+    for id in [9, 15, 0, 4] {
+        world.join(&OPEN, id, 20 * id, 40)?;
+    }
+    let ids: Vec<i32> = world.step(&OPEN)?.iter().map(|(id, _)| id).collect();
+    assert_eq!(ids, [0, 4, 9, 15]);
+    Ok(())
+}
+
+#[test]
+fn a_join_is_refused_with_the_lowest_number() {
+    let mut world = World::fresh();
+    let (far, inside) = (100_001, 80);
+    assert_eq!(world.join(&WALLED, 3, 48, 48), Ok(()));
+    let mut join = |map: &Map, id, x| world.join(map, id, x, 48);
+    assert_eq!(join(&NO_MAP, SEATS as i32, far), Err(Refusal::BadMap));
+    assert_eq!(join(&WALLED, SEATS as i32, far), Err(Refusal::BadId));
+    assert_eq!(join(&WALLED, 3, far), Err(Refusal::OutOfReach));
+    assert_eq!(join(&WALLED, 3, inside), Err(Refusal::NotClear));
+    assert_eq!(join(&WALLED, 3, 48), Err(Refusal::Present));
+    assert_eq!(join(&WALLED, 4, 49), Ok(()));
+}
+
+#[test]
+fn the_absent_have_nothing() {
+    let mut world = World::fresh();
+    for (id, refusal) in [(-1, Refusal::BadId), (15, Refusal::Absent)] {
+        assert_eq!(world.leave(id), Err(refusal));
+        assert_eq!(world.input(id, HOOK), Err(refusal));
+        assert_eq!(world.record(id), Err(refusal));
+        assert_eq!(world.player_input(id), Err(refusal));
+    }
+    assert_eq!(world, World::fresh());
+}
+
+#[test]
+fn who_left_is_as_if_never_there() -> Result<(), Refusal> {
+    let mut world = World::fresh();
+    world.join(&OPEN, 7, 20, 30)?;
+    world.input(7, HOOK)?;
+    assert_eq!(world.player_input(7), Ok(HOOK));
+    world.step(&OPEN)?;
+    world.leave(7)?;
+    assert_eq!(world, World::fresh());
+    Ok(())
+}
+
+#[test]
+fn a_tuning_is_any_number() {
+    let mut world = World::fresh();
+    assert_eq!(world.tuning(HOOK_LENGTH), Ok(38000));
+    assert_eq!(world.tune(HOOK_LENGTH, i32::MIN), Ok(()));
+    assert_eq!(world.tuning(HOOK_LENGTH), Ok(i32::MIN));
+    for index in [-1, 18] {
+        assert_eq!(world.tune(index, 0), Err(Refusal::BadTuning));
+        assert_eq!(world.tuning(index), Err(Refusal::BadTuning));
+    }
+}
+
+/// The hook of the second cannot fly; the first has ticked by then.
+#[test]
+fn a_step_too_far_leaves_the_world() -> Result<(), Refusal> {
+    let mut world = World::fresh();
+    world.join(&OPEN, 0, 20, 20)?;
+    world.join(&OPEN, 1, 70, 70)?;
+    world.input(1, HOOK)?;
+    world.tune(HOOK_FIRE_SPEED, i32::MAX)?;
+    world.tune(HOOK_LENGTH, i32::MAX)?;
+    let before = world.clone();
+    assert_eq!(world.step(&OPEN), Err(Refusal::TooFar));
+    assert_eq!(world.step(&NO_MAP), Err(Refusal::BadMap));
+    assert_eq!(world, before);
+    Ok(())
+}
+
+#[test]
+fn a_world_goes_on_from_its_numbers() -> Result<(), Refusal> {
+    let mut world = World::fresh();
+    world.join(&OPEN, 2, 40, 40)?;
+    world.input(2, HOOK)?;
+    let mut kept = World::from_numbers(*world.numbers());
+    for _ in 0..20 {
+        assert_eq!(world.step(&OPEN)?, kept.step(&OPEN)?);
+    }
+    assert_eq!(world, kept);
+    Ok(())
+}
+
+#[test]
+fn a_refusal_tells_its_number() {
+    assert_eq!(
+        Refusal::BadMap.to_string(),
+        "the sides of the map do not fit its tiles (1)"
+    );
+    assert_eq!(Refusal::BadLength.number(), 17);
+}

@@ -1,0 +1,40 @@
+//! Time per call of the calls that are not steps.
+
+use crate::scene::Scene;
+use crate::sides::{Original, Port, Side};
+use harness::{Call, SEATS};
+use timing::{print_heading, print_row};
+
+const PASSES: usize = 50;
+
+pub fn print_calls(scenes: &[Scene]) {
+    print_heading();
+    for scene in scenes {
+        print_calls_in(scene);
+    }
+}
+
+/// On the worlds with which the scene begins.
+fn print_calls_in(scene: &Scene) {
+    let ids = 0..SEATS as i32;
+    let inputs: Vec<Call> = scene.blocks.iter().flatten().copied().collect();
+    print_call("input", scene, &inputs[..SEATS]);
+    let tunes = ids.clone().map(|index| Call::Tune {
+        index,
+        hundredths: 100,
+    });
+    print_call("tune", scene, &tunes.collect::<Vec<Call>>());
+    let is_join = |call: &&Call| matches!(call, Call::Join { .. });
+    let joins = scene.start.iter().filter(is_join);
+    let leaves = ids.map(|id| Call::Leave { id });
+    let both = leaves.zip(joins).flat_map(|(leave, &join)| [leave, join]);
+    print_call("leave, join", scene, &both.collect::<Vec<Call>>());
+}
+
+fn print_call(name: &str, scene: &Scene, calls: &[Call]) {
+    let (mut port, mut original) = (Port::begun(scene), Original::begun(scene));
+    let port = |call| port.call(call);
+    print_row(name, &scene.name, PASSES, calls, port, |call| {
+        original.call(call)
+    });
+}

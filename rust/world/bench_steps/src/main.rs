@@ -1,0 +1,65 @@
+//! Time per step of a whole world, by the port through its C interface and by
+//! document 01's world over libtw2. The latter is timed with the aim angle found
+//! in three ways: by a scan of all entries, as document 01 says it, by halving, and
+//! by the port's own function. Ratios below 1 say that the port is faster.
+
+mod calls;
+mod play;
+mod scene;
+mod scenes;
+mod sides;
+
+use original::find_angles_by;
+use play::{compare, per_step, times};
+use reference::{Xorshift, net_angle, scanned_angle};
+use scene::Scene;
+use sides::{Original, Port};
+use timing::least_times;
+
+const ROUNDS: usize = 60;
+
+fn main() {
+    let mut random = Xorshift::default();
+    for scenes in [scenes::games, scenes::by_players, scenes::by_speed] {
+        print_heading();
+        scenes(&mut random).iter().for_each(print_row);
+        println!();
+    }
+    calls::print_calls(&scenes::crowds(&mut random));
+}
+
+fn print_heading() {
+    println!(
+        "{:<18} {:>6} {:>6} {:>9} {:^26} {:^23}",
+        "", "mean", "above", "port", "libtw2, microseconds", "ratio"
+    );
+    println!(
+        "{:<18} {:>6} {:>6} {:>9} {:>8} {:>8} {:>8} {:>7} {:>7} {:>7}",
+        "scene", "speed", "ramp", "us", "scan", "halving", "port's", "scan", "halving", "port's"
+    );
+}
+
+fn print_row(scene: &Scene) {
+    compare(scene);
+    let by = |angles: fn(i32, i32) -> i32| {
+        move || {
+            find_angles_by(angles);
+            times::<Original>(scene)
+        }
+    };
+    let [port, rust @ ..] = least_times(
+        ROUNDS,
+        [
+            &mut || times::<Port>(scene),
+            &mut by(scanned_angle),
+            &mut by(net_angle),
+            &mut by(ponguriena::net_angle),
+        ],
+    )
+    .map(per_step);
+    let (speed, fast) = (scene.speeds.mean(), scene.speeds.fast());
+    print!("{:<18} {speed:>6.1} {fast:>5.0}% {port:>9.2}", scene.name);
+    rust.iter().for_each(|time| print!(" {time:>8.2}"));
+    rust.iter().for_each(|time| print!(" {:>7.2}", port / time));
+    println!();
+}

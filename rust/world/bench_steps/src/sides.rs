@@ -1,0 +1,81 @@
+//! The port and libtw2, each with a world of its own on the map of a scene.
+
+use crate::scene::Scene;
+use harness::Call;
+use harness::encoding::{RECORDS_NUMBERS, WORLD_NUMBERS, encoded, encoded_records};
+use ponguriena::buffers;
+use port_calls::{call_on, lent};
+
+pub trait Side<'a>: Sized {
+    fn on(scene: &'a Scene) -> Self;
+
+    /// After the joins.
+    fn begun(scene: &'a Scene) -> Self {
+        let mut side = Self::on(scene);
+        scene.start.iter().for_each(|&call| side.call(call));
+        side
+    }
+
+    fn call(&mut self, call: Call);
+    /// The whole world, and what the last step published.
+    fn numbers(&self) -> ([i32; WORLD_NUMBERS], [i32; RECORDS_NUMBERS]);
+}
+
+pub struct Port<'a> {
+    map: ponguriena::Map<'a>,
+    world: [i32; WORLD_NUMBERS],
+    records: [i32; RECORDS_NUMBERS],
+}
+
+pub struct Original<'a> {
+    map: &'a tile_map::Map,
+    world: harness::World,
+    published: harness::Published,
+}
+
+impl<'a> Side<'a> for Port<'a> {
+    fn on(scene: &'a Scene) -> Port<'a> {
+        let mut world = [0; WORLD_NUMBERS];
+        buffers::fresh(&mut world).expect("the right length");
+        Port {
+            map: lent(&scene.map),
+            world,
+            records: [0; RECORDS_NUMBERS],
+        }
+    }
+
+    fn call(&mut self, call: Call) {
+        let answer = call_on(&mut self.world, &self.map, call, &mut self.records);
+        answer.expect("the scene was accepted when it was drawn");
+    }
+
+    fn numbers(&self) -> ([i32; WORLD_NUMBERS], [i32; RECORDS_NUMBERS]) {
+        (self.world, self.records)
+    }
+}
+
+impl<'a> Side<'a> for Original<'a> {
+    fn on(scene: &'a Scene) -> Original<'a> {
+        Original {
+            map: &scene.map,
+            world: harness::World::fresh(),
+            published: harness::NOTHING,
+        }
+    }
+
+    fn call(&mut self, call: Call) {
+        let (world, map) = (&mut self.world, self.map);
+        let answer = match call {
+            Call::Join { id, x, y } => world.join(map, id, x, y),
+            Call::Leave { id } => world.leave(id),
+            Call::Input { id, input } => world.input(id, input),
+            Call::Tune { index, hundredths } => world.tune(index, hundredths),
+            Call::Step => world.step(map).map(|published| self.published = published),
+        };
+        answer.expect("the scene was accepted when it was drawn");
+    }
+
+    fn numbers(&self) -> ([i32; WORLD_NUMBERS], [i32; RECORDS_NUMBERS]) {
+        (encoded(&self.world), encoded_records(&self.published))
+    }
+}

@@ -1,0 +1,48 @@
+//! Numbers that are lent as a world, though no world may have left them.
+
+use harness::encoding::{WORLD_NUMBERS, encoded};
+use harness::tunings::{ORDINARY, TUNINGS};
+use reference::Xorshift;
+use tile_map::draw::{below, pick};
+
+pub type Numbers = [i32; WORLD_NUMBERS];
+
+const ENDS: [i32; 8] = [0, 1, -1, 5, 16, i32::MIN, i32::MAX, i32::MAX - 64];
+
+/// One number in so many of a world is another one.
+const DAMAGED: [usize; 3] = [3, 10, 60];
+
+/// With the game's tunings half of the times, since others refuse most steps.
+pub fn drawn(world: &harness::World, random: &mut Xorshift) -> Numbers {
+    let mut numbers = match below(random, 4) {
+        0 => [0; WORLD_NUMBERS].map(|_| any(random)),
+        1 => [0; WORLD_NUMBERS].map(|_| near(random)),
+        _ => damaged(world, random),
+    };
+    if below(random, 2) == 0 {
+        numbers[..TUNINGS].copy_from_slice(&ORDINARY);
+    }
+    numbers
+}
+
+/// Of all sizes, and ends.
+pub fn any(random: &mut Xorshift) -> i32 {
+    match below(random, 4) {
+        0 => pick(random, &ENDS),
+        _ => random.pattern() as i32 >> below(random, 32),
+    }
+}
+
+/// Of the size that numbers of play have.
+fn near(random: &mut Xorshift) -> i32 {
+    let limit = pick(random, &[1, 2, 6, 20, 400]);
+    below(random, 2 * limit + 1) as i32 - limit as i32
+}
+
+fn damaged(world: &harness::World, random: &mut Xorshift) -> Numbers {
+    let one_in = pick(random, &DAMAGED);
+    encoded(world).map(|number| match below(random, one_in) {
+        0 => any(random),
+        _ => number,
+    })
+}

@@ -1,0 +1,108 @@
+//! One call on any numbers, through the buffers.
+
+use crate::any_numbers::{self, Numbers};
+use crate::differs::{Differs, same, same_numbers};
+use crate::sequences;
+use harness::draw::any_call;
+use harness::encoding::{RECORDS_NUMBERS, decoded, encoded, encoded_records};
+use harness::{Call, Refusal};
+use port_calls::{call_on, lent, number};
+use reference::Xorshift;
+use std::fmt::{Display, Formatter, Result as Written};
+use std::panic::catch_unwind;
+use tile_map::Map;
+use tile_map::draw::below;
+
+/// So many calls are made on each buffer, one after another.
+const CALLS: usize = 6;
+
+/// What the records' buffer holds before.
+const UNWRITTEN: i32 = 77;
+
+#[derive(Default)]
+pub struct Tally {
+    accepted: usize,
+    refused: usize,
+    stopped: usize,
+}
+
+/// The numbers that a call leaves.
+struct Left {
+    answer: u32,
+    world: Numbers,
+    records: [i32; RECORDS_NUMBERS],
+}
+
+pub fn compare(seed: u64, number: u64, tally: &mut Tally) -> Result<(), Differs> {
+    let sequence = sequences::drawn(seed, number);
+    let mut random = Xorshift::seeded(seed.wrapping_mul(1 << 40).wrapping_add(number));
+    let mut numbers = any_numbers::drawn(&sequence.world, &mut random);
+    for turn in 0..CALLS {
+        let call = match below(&mut random, 2) {
+            0 => Call::Step,
+            _ => any_call(&decoded(&numbers), &sequence.map, &mut random),
+        };
+        let before = numbers;
+        numbers = compare_call(before, &sequence.map, call, tally)
+            .map_err(|what| what.at(format!("call {} ({:?})", turn + 1, call.numbers())))?;
+    }
+    Ok(())
+}
+
+/// What the port left. Where libtw2 stops nothing is compared.
+fn compare_call(
+    before: Numbers,
+    map: &Map,
+    call: Call,
+    tally: &mut Tally,
+) -> Result<Numbers, Differs> {
+    let port = left_by_port(before, map, call);
+    let Ok(expected) = catch_unwind(|| left_by_original(before, map, call)) else {
+        tally.stopped += 1;
+        return Ok(port.world);
+    };
+    same("answer", port.answer, expected.answer)?;
+    same_numbers("world", &port.world, &expected.world)?;
+    same_numbers("records", &port.records, &expected.records)?;
+    match port.answer {
+        0 => tally.accepted += 1,
+        _ => tally.refused += 1,
+    }
+    Ok(port.world)
+}
+
+fn left_by_port(mut world: Numbers, map: &Map, call: Call) -> Left {
+    let mut records = [UNWRITTEN; RECORDS_NUMBERS];
+    let answer = number(&call_on(&mut world, &lent(map), call, &mut records));
+    Left {
+        answer,
+        world,
+        records,
+    }
+}
+
+/// A refused call leaves the numbers as they were, also those that no world has.
+fn left_by_original(before: Numbers, map: &Map, call: Call) -> Left {
+    let mut world = decoded(&before);
+    let answer = world.call(map, call);
+    let records = match (call, &answer) {
+        (Call::Step, Ok(published)) => encoded_records(published),
+        _ => [UNWRITTEN; RECORDS_NUMBERS],
+    };
+    Left {
+        answer: answer.map_or_else(Refusal::number, |_| 0),
+        world: answer.map_or(before, |_| encoded(&world)),
+        records,
+    }
+}
+
+impl Display for Tally {
+    fn fmt(&self, formatter: &mut Formatter<'_>) -> Written {
+        let (accepted, refused) = (self.accepted, self.refused);
+        let stopped = self.stopped;
+        write!(
+            formatter,
+            "{accepted} accepted, {refused} refused, {stopped} on which libtw2 stops"
+        )
+    }
+}

@@ -1,0 +1,65 @@
+//! A world as the numbers of the port's C interface: the tunings, then for each
+//! seat its presence, its record and its input.
+
+use crate::slot::{SEATS, Slot};
+use crate::tunings::TUNINGS;
+use crate::world::{Published, World};
+use libtw2_gamenet::snap_obj::Tick;
+use original::{
+    CORE_NUMBERS, Character, INPUT_NUMBERS, core_numbers, core_of, input_numbers, input_of,
+};
+
+const SEAT_NUMBERS: usize = 1 + CORE_NUMBERS + INPUT_NUMBERS;
+const PUBLISHED_NUMBERS: usize = 1 + CORE_NUMBERS;
+
+pub const WORLD_NUMBERS: usize = TUNINGS + SEATS * SEAT_NUMBERS;
+pub const RECORDS_NUMBERS: usize = SEATS * PUBLISHED_NUMBERS;
+
+pub fn encoded(world: &World) -> [i32; WORLD_NUMBERS] {
+    let mut numbers = world.tunings.to_vec();
+    for slot in world.slots {
+        numbers.push(i32::from(slot.present));
+        numbers.extend(core_numbers(slot.character.to_net()));
+        numbers.extend(input_numbers(slot.input));
+    }
+    numbers.try_into().expect("as many numbers")
+}
+
+/// Any numbers are a world.
+pub fn decoded(numbers: &[i32; WORLD_NUMBERS]) -> World {
+    let mut world = World::fresh();
+    let (tunings, seats) = numbers.split_at(TUNINGS);
+    world.tunings.copy_from_slice(tunings);
+    for (slot, seat) in world.slots.iter_mut().zip(seats.chunks(SEAT_NUMBERS)) {
+        *slot = decoded_slot(seat);
+    }
+    world
+}
+
+/// Who is absent is as in a fresh world, whatever stands there.
+fn decoded_slot(seat: &[i32]) -> Slot {
+    let (core, input) = seat[1..].split_at(CORE_NUMBERS);
+    let mut core = core_of(core.try_into().expect("a record"));
+    // No hook holds for less, and a tick below 0 would have no record.
+    core.hook_tick = Tick(core.hook_tick.0.max(0));
+    if seat[0] == 0 {
+        return Slot::absent();
+    }
+    Slot {
+        present: true,
+        character: Character::from_net(&core),
+        input: input_of(input.try_into().expect("an input")),
+    }
+}
+
+/// For each seat its presence and its record.
+pub fn encoded_records(published: &Published) -> [i32; RECORDS_NUMBERS] {
+    let mut numbers = [0; RECORDS_NUMBERS];
+    for (seat, core) in numbers.chunks_mut(PUBLISHED_NUMBERS).zip(published) {
+        if let Some(core) = core {
+            seat[0] = 1;
+            seat[1..].copy_from_slice(&core_numbers(*core));
+        }
+    }
+    numbers
+}

@@ -1,0 +1,53 @@
+//! The calls of the harness, made on the port.
+
+use harness::Call;
+use original::input_numbers;
+use ponguriena::{Map, PlayerInput, Records, Refusal, World, buffers};
+
+/// A map of the harness, as the port takes it.
+pub fn lent(map: &tile_map::Map) -> Map<'_> {
+    Map {
+        width: map.width as u32,
+        height: map.height as u32,
+        tiles: &map.tiles,
+    }
+}
+
+/// Records after an accepted step.
+pub fn call(world: &mut World, map: &Map, call: Call) -> Result<Option<Records>, Refusal> {
+    match call {
+        Call::Join { id, x, y } => world.join(map, id, x, y)?,
+        Call::Leave { id } => world.leave(id)?,
+        Call::Input { id, input } => world.input(id, input_of(input))?,
+        Call::Step => return world.step(map).map(Some),
+        Call::Tune { index, hundredths } => world.tune(index, hundredths)?,
+    }
+    Ok(None)
+}
+
+/// An accepted step writes the records.
+pub fn call_on(
+    world: &mut [i32],
+    map: &Map,
+    call: Call,
+    records: &mut [i32],
+) -> Result<(), Refusal> {
+    match call {
+        Call::Join { id, x, y } => buffers::join(world, map, id, x, y),
+        Call::Leave { id } => buffers::leave(world, id),
+        Call::Input { id, input } => buffers::input(world, id, input_of(input)),
+        Call::Step => buffers::step(world, map, records),
+        Call::Tune { index, hundredths } => buffers::tune(world, index, hundredths),
+    }
+}
+
+/// 0 where it was accepted.
+pub fn number<T>(answer: &Result<T, Refusal>) -> u32 {
+    answer
+        .as_ref()
+        .map_or_else(|refusal| refusal.number(), |_| 0)
+}
+
+fn input_of(input: libtw2_gamenet::snap_obj::PlayerInput) -> PlayerInput {
+    PlayerInput::from_numbers(input_numbers(input))
+}
