@@ -4,7 +4,6 @@ use character::SEATS;
 use character::Slot;
 use from_net::from_net;
 use records::Net;
-use seats::put_back;
 use snap_obj::CharacterCore;
 use snap_obj::Tick;
 use tiles::Sides;
@@ -74,7 +73,9 @@ pub fn move_all(slots: [Slot; SEATS], sides: Sides, tiles: &[u8], tuning: Tuning
                     };
                 }
                 Recorded::Core(core) => {
-                    all = put_back(all, j, from_net(core));
+                    let mut changed = slot;
+                    changed.character = from_net(core);
+                    all[j] = changed;
                     let record = Published {
                         present: true,
                         core,

@@ -12,7 +12,6 @@ ghost use Prim.Native.Nat.{_<_};
 ghost use Rattle.character.specs.Tick.{seats, slotAt};
 ghost use Rattle.world.specs.World.{noInput, emptySlot, freshTunings, fresh, withSlot};
 ghost use Rattle.world.specs.Calls.{refused, accepted, placeOf};
-ghost use Rattle.world.specs.Step.{putBack};
 
 pub fn fresh() -> World
     ensures { λ r. ⌜ r ≡ fresh seats ⌝ }
@@ -96,17 +95,6 @@ pub fn with_slot(mut world: World, at: usize, slot: Slot) -> World
 {
     world.slots[at] = slot;
     world
-}
-
-// A slot with another character.
-pub fn put_back(mut slots: [Slot; SEATS], j: usize, character: Character) -> [Slot; SEATS]
-    requires { ⌜ j < seats ⌝ }
-    ensures { λ r. ⌜ r ≡ putBack slots j character ⌝ }
-{
-    let mut slot = slots[j];
-    slot.character = character;
-    slots[j] = slot;
-    slots
 }
 
 pub fn refused(world: World, number: u32) -> Answer

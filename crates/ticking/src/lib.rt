@@ -1,7 +1,6 @@
 // The first half of a step: every present id by rising id ticks.
 use character::SEATS;
 use character::Slot;
-use seats::put_back;
 use tiles::Sides;
 use tuning::Tuning;
 ghost use mathlib.Core.Path.{_≡_};
@@ -36,9 +35,11 @@ pub fn tick_all(slots: [Slot; SEATS], sides: Sides, tiles: &[u8], tuning: Tuning
                     slots,
                 };
             }
-            let others = ticked.slots;
-            let changed = ticked.me;
-            all = put_back(others, id, changed);
+            all = ticked.slots;
+            let mut changed = all[id];
+            let after = ticked.me;
+            changed.character = after;
+            all[id] = changed;
         }
     }
     Ticks {

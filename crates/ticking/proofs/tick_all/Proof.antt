@@ -55,8 +55,17 @@ returns c =
     let l = c .before .before .before .before .before .before .before .loop in
     sym (ap (ticksOf (a .slots)) (turn-off (l .inv) (c .before .before .before .before .before .before .loop-test .taken) (refuses (a .sides) (a .tiles .now) (a .tuning) (l .id) (l .all) (c .before .before .tick-at .result) (c .before .before .before .before .if1 .taken) (c .before .before .tick-at .ensures) (c .if2 .taken))))
 
-put-back-requires : tie.Need-put-back-requires Inv-loop μ-loop
-put-back-requires c κs = c .before .before .before .before .before .before .before .before .loop-test .taken
+mul-changed : tie.Need-mul-changed Inv-loop μ-loop
+mul-changed c = search needs
+
+array-copy-out-changed : tie.Need-array-copy-out-changed Inv-loop μ-loop
+array-copy-out-changed c = omega (arith, c .before .before .before .before .before .before .before .loop-test .taken)
+
+mul-all : tie.Need-mul-all Inv-loop μ-loop
+mul-all c = search needs
+
+array-set-from-all : tie.Need-array-set-from-all Inv-loop μ-loop
+array-set-from-all c = omega (arith, c .before .before .before .before .before .before .before .before .before .loop-test .taken)
 
 add-id : tie.Need-add-id Inv-loop μ-loop
 add-id c = omega arith
@@ -69,7 +78,7 @@ loop-again c =
     let a = c .before .before .before .before .before .args in
     let l = c .before .before .before .loop in
     turn-on (l .inv) (c .before .before .loop-test .taken)
-    (⊎-elim (λ w. ticks (a .sides) (a .tiles .now) (a .tuning) (l .id) (l .all) (w .2 .result) _ (w .0 .taken) (w .2 .ensures) (w .4 .left) (w .8 ∙ w .7 .ensures)) (λ w. nobody (a .sides) (a .tiles .now) (a .tuning) (l .id) (l .all) _ (w .0 .left) (w .1)) (c .if1 .came))
+    (⊎-elim (λ w. ticks (a .sides) (a .tiles .now) (a .tuning) (l .id) (l .all) (w .2 .result) _ (w .0 .taken) (w .2 .ensures) (w .4 .left) (w .8)) (λ w. nobody (a .sides) (a .tiles .now) (a .tuning) (l .id) (l .all) _ (w .0 .left) (w .1)) (c .if1 .came))
 
 returns-2 : tie.Need-returns-2 Inv-loop μ-loop
 returns-2 c = sym (ap (ticksOf (c .before .before .before .args .slots)) (turn-end (c .before .loop .inv) (c .loop-test .left)))
@@ -85,7 +94,10 @@ tick-all-spec =
     array-copy-out-slot
     tick-at-requires
     returns
-    put-back-requires
+    mul-changed
+    array-copy-out-changed
+    mul-all
+    array-set-from-all
     add-id
     loop-less
     loop-again
