@@ -39,7 +39,7 @@ ghost use mathlib.Core.Path.{_≡_};
 ghost use lib.Dec.{T};
 ghost use Prim.Native.Nat.{_<_};
 ghost use Rattle.tiles.specs.Map.{isMap};
-ghost use Rattle.character.specs.Tick.{seats, steer, withHook, nearest, flight, meetAll, tickAt, tick};
+ghost use Rattle.character.specs.Tick.{seats, withHook, withVel, withCharacter, steer, nearest, flight, meetAll, tickAt, tick};
 
 // What `tick` answers: a refusal's number, and then everything as it was; or 0.
 pub struct Ticked {
@@ -175,6 +175,18 @@ impl Character {
     }
 }
 
+impl Slot {
+    // The slot with its character at another velocity.
+    fn with_vel(mut self, vel: vec2) -> Slot
+        ensures { λ r. ⌜ r ≡ withCharacter self (withVel (self .character) vel) ⌝ }
+    {
+        let mut character = self.character;
+        character.vel = vel;
+        self.character = character;
+        self
+    }
+}
+
 // A hook that isn't flying leaves early. One that is goes its way, may strike a tile on it, and may grab somebody beside it.
 fn flight(
     hook: Hook,
@@ -239,14 +251,10 @@ fn meet_all(
         if j != id {
             let slot = all[j];
             if slot.present {
-                let mut other = slot.character;
+                let other = slot.character;
                 let met = meet(pos, mine, hook, other.pos, other.vel, j as u32, tuning);
-                let theirs = met.other;
                 mine = met.me;
-                other.vel = theirs;
-                let mut changed = slot;
-                changed.character = other;
-                all[j] = changed;
+                all[j] = slot.with_vel(met.other);
             }
         }
     }

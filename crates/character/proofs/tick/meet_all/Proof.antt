@@ -2,7 +2,7 @@
 use mathlib.Core.Bool.{true, false}
 use mathlib.Core.List.{List}
 use mathlib.Core.Logic.{⊎-elim}
-use mathlib.Core.Path.{_≡_, sym}
+use mathlib.Core.Path.{_≡_, sym, ap, _∙_}
 use Prim.Native.Nat.{ℕ, _-_}
 use native.Mathlib.Omega.{arith}
 use lib.ListN.{set}
@@ -56,6 +56,9 @@ cast-meet c = omega arith
 meet-requires : tie.Need-meet-requires Inv-loop μ-loop
 meet-requires c κs = search needs
 
+with-vel-requires : tie.Need-with-vel-requires Inv-loop μ-loop
+with-vel-requires c κs = search needs
+
 mul-all : tie.Need-mul-all Inv-loop μ-loop
 mul-all c = search needs
 
@@ -69,9 +72,14 @@ loop-less : tie.Need-loop-less Inv-loop μ-loop
 loop-less c = omega arith
 
 loop-again : tie.Need-loop-again Inv-loop μ-loop
-loop-again c = turn-on (c .before .before .loop .inv) (c .before .loop-test .taken)
-    (⊎-elim (λ w. both _ _ _ _ _ _ _ _ _ (w .4 .result) (w .0 .taken) (w .2 .taken) (w .4 .ensures) (w .7) (w .8))
-    (⊎-elim (λ w. absent _ _ _ _ _ _ _ _ _ (w .0 .taken) (w .2 .left) (w .3) (w .4)) (λ w. itself _ _ _ _ _ _ _ _ _ (w .0 .left) (w .1) (w .2)))
+loop-again c =
+    let l = c .before .before .loop in
+    let a = c .before .before .before .args in
+    let m = c .if1 .mine in
+    let s = c .if1 .all in
+    turn-on (l .inv) (c .before .loop-test .taken)
+    (⊎-elim (λ w. both (a .id) (a .pos) (a .hook) (a .tuning) (l .j) (l .mine) m (l .all) s (w .4 .result) (w .0 .taken) (w .2 .taken) (w .4 .ensures) (w .7) (w .8 ∙ ap (set (l .all) (l .j)) (w .6 .ensures)))
+    (⊎-elim (λ w. absent (a .id) (a .pos) (a .hook) (a .tuning) (l .j) (l .mine) m (l .all) s (w .0 .taken) (w .2 .left) (w .3) (w .4)) (λ w. itself (a .id) (a .pos) (a .hook) (a .tuning) (l .j) (l .mine) m (l .all) s (w .0 .left) (w .1) (w .2)))
     (c .if1 .came))
 
 returns : tie.Need-returns Inv-loop μ-loop
@@ -89,6 +97,7 @@ meet-all-spec =
     array-copy-out-slot
     cast-meet
     meet-requires
+    with-vel-requires
     mul-all
     array-set-from-all
     add-j
