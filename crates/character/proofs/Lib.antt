@@ -1,2 +1,1 @@
-pub mod TooFar
 pub mod NoBox

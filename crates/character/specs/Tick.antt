@@ -11,7 +11,6 @@ use Rattle.number.specs.Number.{c0}
 use Rattle.vector.specs.Vec2.{vnew}
 use Rattle.vector.specs.declared.vec2.{vec2}
 use Rattle.direction.specs.declared.MoveDirection.the-variants.{Left}
-use Rattle.hook.specs.Hook.{onFlying}
 use Rattle.hook.specs.declared.CharacterId.{CharacterId}
 use Rattle.hook.specs.declared.Hook.{Hook}
 use Rattle.hook.specs.declared.Hook.the-variants.{Retracted}
@@ -20,17 +19,16 @@ use Rattle.tuning.specs.Tuning.{tuningOf}
 use Rattle.tuning.specs.declared.Tuning.{Tuning}
 use Rattle.tiles.specs.Map.{isMap}
 use Rattle.tiles.specs.declared.Sides.{Sides}
-use Rattle.lines.specs.Line.{walkLine}
-use Rattle.lines.specs.declared.LineCheck.{LineCheck}
-use Rattle.lines.specs.declared.LineCheck.the-variants as line
 use Rattle.inputs.specs.Inputs.{moveDirection, targetDir, aim, jumps, hooks}
 use Rattle.controls.specs.Controls.{grounded, controlOf, jump, landed, walk, clampSpeed}
 use Rattle.controls.specs.declared.JumpState.{JumpState}
-use Rattle.hooking.specs.Hooking.{fire, fly, strike, nearer, grab, retract, hold}
-use Rattle.hooking.specs.declared.Flight.{Flight}
+use Rattle.hooking.specs.Hooking.{fire, nearer, grab, hold}
 use Rattle.hooking.specs.declared.Nearest.{Nearest}
 use Rattle.hooking.specs.declared.Nearest.the-variants.{Nobody}
 use Rattle.dragging.specs.Dragging.{dragged}
+use Rattle.flying.specs.Flying.{flown}
+use Rattle.flying.specs.declared.Way.{Way}
+use Rattle.flying.specs.declared.Way.the-variants as way
 use Rattle.meeting.specs.Meeting.{meet}
 use Rattle.meeting.specs.declared.Velocities.{Velocities}
 use Rattle.character.specs.declared.Character.{Character}
@@ -84,22 +82,15 @@ nearestTurn ss id from to j best = cond (eqb j id) best (cond (slotAt ss j .pres
 unfoldable pub nearest : ℕ → List Slot → ℕ → vec2 → vec2 → Nearest
 nearest n ss id from to = fold (nearestTurn ss id from to) n 0 Nobody
 
--- the line is too long to be walked
-abbrev pub tooFar : LineCheck → Bool
-tooFar line.BadMap = false
-tooFar line.TooFar = true
-tooFar line.Nothing = false
-tooFar (line.At p t) = false
+-- a hook that flew grabs whom it meets, where players can be hooked
+unfoldable pub caught : ℕ → Way → ℕ → List Slot → Tuning → HookFlight
+caught n way.TooFar id ss t = TooFar
+caught n (way.Still h) id ss t = To h
+caught n (way.Along from to h) id ss t = To (cond (ne (t .«player_hooking») c0) (grab h (nearest n ss id from to)) h)
 
--- after the line: refused, or what it strikes, and then whom it meets where players can be hooked
-abbrev pub flown : ℕ → List Slot → ℕ → vec2 → Flight → Tuning → LineCheck → HookFlight
-flown n ss id from f t check =
-    let struck = strike (f .hook) check in
-    cond (tooFar check) TooFar (To (cond (ne (t .«player_hooking») c0) (grab struck (nearest n ss id from (f .to))) struck))
-
--- a flying hook goes its way; any other leaves early, and one that comes back does so
-unfoldable pub flight : ℕ → Hook → vec2 → ℕ → List Slot → Sides → List ℕ → Tuning → HookFlight
-flight n h p id ss s ts t = onFlying (λ from d. flown n ss id from (fly from d p t) t (walkLine s ts from (fly from d p t .to))) (To (retract h)) h
+-- what becomes of a hook on its way
+abbrev pub flight : ℕ → Hook → vec2 → ℕ → List Slot → Sides → List ℕ → Tuning → HookFlight
+flight n h p id ss s ts t = caught n (flown h p s ts t) id ss t
 
 -- the slot j after the two have met
 abbrev pub metAt : List Slot → ℕ → Velocities → Met
@@ -115,11 +106,15 @@ unfoldable pub meetAll : ℕ → List Slot → ℕ → vec2 → vec2 → Hook �
 meetAll n ss id p v h t = fold (meetTurn id p h t) n 0 (record { vel = v; slots = ss })
 
 -- after the flight: the drag of an attached hook, the count of a held one, the others, and the clamp
+unfoldable pub hooked : ℕ → Character → Hook → ℕ → List Slot → Tuning → Ticked
+hooked n c h id ss t =
+    let met = meetAll n ss id (c .pos) (dragged h (c .pos) (c .vel) (c .«move_direction») t) (hold h) t in
+    record { number = 0; me = withVel (withHook c (hold h)) (clampSpeed (met .vel)); slots = met .slots }
+
+-- a hook that would fly too far refuses the tick, which leaves all as it was
 abbrev pub ticked : ℕ → Character → Character → ℕ → List Slot → Tuning → HookFlight → Ticked
 ticked n before c id ss t TooFar = record { number = 9; me = before; slots = ss }
-ticked n before c id ss t (To h) =
-    let met = meetAll n ss id (before .pos) (dragged h (before .pos) (c .vel) (c .«move_direction») t) (hold h) t in
-    record { number = 0; me = withVel (withHook c (hold h)) (clampSpeed (met .vel)); slots = met .slots }
+ticked n before c id ss t (To h) = hooked n c h id ss t
 
 unfoldable pub tickAt : ℕ → Character → ℕ → List Slot → Sides → List ℕ → PlayerInput → Tuning → Ticked
 tickAt n c id ss s ts i t =

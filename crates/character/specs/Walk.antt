@@ -54,22 +54,23 @@ orTo to (stop p) = p
 unfoldable pub walkAmong : ℕ → List Slot → ℕ → vec2 → vec2 → Float → ℕ → vec2
 walkAmong n ss id from to distance turns = orTo to (run (walkTurn n ss id from to distance) turns 0 from)
 
--- the player walk: 9 where it is too far
-unfoldable pub playerWalk : ℕ → List Slot → ℕ → vec2 → vec2 → PlayerWalk
-playerWalk n ss id from to =
+-- the player walk, where players collide: 9 where it is too far
+unfoldable pub playerWalk : ℕ → List Slot → ℕ → vec2 → vec2 → Tuning → PlayerWalk
+playerWalk n ss id from to t =
     let distance = vdistance from to in
-    cond (leb (playerTurns distance) mostTurns) (among.At (walkAmong n ss id from to distance (playerTurns distance))) among.TooFar
+    cond (ne (t .«player_collision») c0)
+    (cond (leb (playerTurns distance) mostTurns) (among.At (walkAmong n ss id from to distance (playerTurns distance))) among.TooFar)
+    (among.At to)
 
 abbrev pub rested : Character → vec2 → PlayerWalk → Moved
 rested c v among.TooFar = moved.TooFar
 rested c v (among.At p) = moved.To (movedTo c p v)
 
--- after the box has moved: the others, where players collide
+-- after the box has moved: the others
 abbrev pub afterBox : ℕ → Character → ℕ → List Slot → Tuning → BoxMove → Moved
 afterBox n c id ss t box.BadMap = moved.TooFar
 afterBox n c id ss t box.TooFar = moved.TooFar
-afterBox n c id ss t (box.To b) =
-    cond (ne (t .«player_collision») c0) (rested c (b .vel) (playerWalk n ss id (c .pos) (b .pos))) (moved.To (movedTo c (b .pos) (b .vel)))
+afterBox n c id ss t (box.To b) = rested c (b .vel) (playerWalk n ss id (c .pos) (b .pos) t)
 
 unfoldable pub moveAt : ℕ → Character → ℕ → List Slot → Sides → List ℕ → Tuning → Moved
 moveAt n c id ss s ts t = afterBox n c id ss t (rampedMove s ts (c .pos) (c .vel) t)

@@ -10,23 +10,20 @@ use controls::jump;
 use controls::landed;
 use controls::walk;
 use dragging::dragged;
+use flying::Way;
+use flying::flown;
 use hook::CharacterId;
 use hook::Hook;
 use hooking::Nearest;
 use hooking::fire;
-use hooking::fly;
 use hooking::grab;
 use hooking::hold;
 use hooking::nearer;
-use hooking::retract;
-use hooking::strike;
 use inputs::aim;
 use inputs::hooks;
 use inputs::jumps;
 use inputs::move_direction;
 use inputs::target_dir;
-use lines::LineCheck;
-use lines::walk_line;
 use meeting::meet;
 use snap_obj::PlayerInput;
 use tiles::Sides;
@@ -39,7 +36,7 @@ ghost use mathlib.Core.Path.{_≡_};
 ghost use lib.Dec.{T};
 ghost use Prim.Native.Nat.{_<_};
 ghost use Rattle.tiles.specs.Map.{isMap};
-ghost use Rattle.character.specs.Tick.{seats, steer, withHook, nearest, flight, meetAll, tickAt, tick};
+ghost use Rattle.character.specs.Tick.{seats, withHook, withVel, withCharacter, steer, nearest, caught, meetAll, hooked, tickAt, tick};
 
 // What `tick` answers: a refusal's number, and then everything as it was; or 0.
 pub struct Ticked {
@@ -106,21 +103,29 @@ impl Character {
         let pos = self.pos;
         let steered = self.steer(grounded(sides, tiles, pos), input, tuning);
         let fired = steered.hook;
-        let flown = flight(fired, pos, id, slots, sides, tiles, tuning);
-        let HookFlight::To(hook) = flown else {
+        let flight = caught(flown(fired, pos, sides, tiles, tuning), id, slots, tuning);
+        let HookFlight::To(hook) = flight else {
             return Ticked {
                 number: 9,
                 me: self,
                 slots: slots,
             };
         };
-        let direction = steered.move_direction;
-        let vel = dragged(hook, pos, steered.vel, direction, tuning);
+        steered.hooked(hook, id, slots, tuning)
+    }
+
+    // After the flight: the drag of an attached hook, the count of a held one, the others, and the clamp.
+    fn hooked(mut self, hook: Hook, id: usize, slots: [Slot; SEATS], tuning: Tuning) -> Ticked
+        ensures { λ r. ⌜ r ≡ hooked seats self hook id slots tuning ⌝ }
+    {
+        let pos = self.pos;
+        let direction = self.move_direction;
+        let vel = dragged(hook, pos, self.vel, direction, tuning);
         let held = hold(hook);
         let met = meet_all(slots, id, pos, vel, held, tuning);
         let others = met.slots;
-        self = steered.with_hook(held);
         let clamped = clamp_speed(met.vel);
+        self = self.with_hook(held);
         self.vel = clamped;
         Ticked {
             number: 0,
@@ -175,34 +180,32 @@ impl Character {
     }
 }
 
-// A hook that isn't flying leaves early. One that is goes its way, may strike a tile on it, and may grab somebody beside it.
-fn flight(
-    hook: Hook,
-    pos: vec2,
-    id: usize,
-    slots: [Slot; SEATS],
-    sides: Sides,
-    tiles: &[u8],
-    tuning: Tuning,
-) -> HookFlight
-    requires { ⌜ T (isMap sides (now tiles)) ⌝ }
-    ensures { λ r. ⌜ r ≡ flight seats hook pos id slots sides (now (tiles .entry)) tuning ⌝ }
+impl Slot {
+    // The slot with its character at another velocity.
+    fn with_vel(mut self, vel: vec2) -> Slot
+        ensures { λ r. ⌜ r ≡ withCharacter self (withVel (self .character) vel) ⌝ }
+    {
+        let mut character = self.character;
+        character.vel = vel;
+        self.character = character;
+        self
+    }
+}
+
+// Where players can be hooked, a hook that flew may grab somebody beside its way.
+fn caught(way: Way, id: usize, slots: [Slot; SEATS], tuning: Tuning) -> HookFlight
+    ensures { λ r. ⌜ r ≡ caught seats way id slots tuning ⌝ }
 {
-    let Hook::Flying(from, dir) = hook else {
-        return HookFlight::To(retract(hook));
-    };
-    let flown = fly(from, dir, pos, tuning);
-    let to = flown.to;
-    let flying = flown.hook;
-    let check = walk_line(sides, tiles, from, to);
-    if let LineCheck::TooFar = check {
-        return HookFlight::TooFar;
+    match way {
+        Way::TooFar => HookFlight::TooFar,
+        Way::Still(hook) => HookFlight::To(hook),
+        Way::Along(from, to, hook) => {
+            if tuning.player_hooking != 0.0 {
+                return HookFlight::To(grab(hook, nearest(slots, id, from, to)));
+            }
+            HookFlight::To(hook)
+        },
     }
-    let struck = strike(flying, check);
-    if tuning.player_hooking != 0.0 {
-        return HookFlight::To(grab(struck, nearest(slots, id, from, to)));
-    }
-    HookFlight::To(struck)
 }
 
 // Whom a hook meets first on its way.
@@ -224,34 +227,28 @@ fn nearest(slots: [Slot; SEATS], id: usize, from: vec2, to: vec2) -> Nearest
 
 // The others by rising id, each as it stands then.
 fn meet_all(
-    slots: [Slot; SEATS],
+    mut slots: [Slot; SEATS],
     id: usize,
     pos: vec2,
-    vel: vec2,
+    mut vel: vec2,
     hook: Hook,
     tuning: Tuning,
 ) -> Met
     ensures { λ r. ⌜ r ≡ meetAll seats slots id pos vel hook tuning ⌝ }
 {
-    let mut mine = vel;
-    let mut all = slots;
     for j in 0..SEATS {
         if j != id {
-            let slot = all[j];
+            let slot = slots[j];
             if slot.present {
-                let mut other = slot.character;
-                let met = meet(pos, mine, hook, other.pos, other.vel, j as u32, tuning);
-                let theirs = met.other;
-                mine = met.me;
-                other.vel = theirs;
-                let mut changed = slot;
-                changed.character = other;
-                all[j] = changed;
+                let other = slot.character;
+                let met = meet(pos, vel, hook, other.pos, other.vel, j as u32, tuning);
+                vel = met.me;
+                slots[j] = slot.with_vel(met.other);
             }
         }
     }
     Met {
-        vel: mine,
-        slots: all,
+        vel: vel,
+        slots: slots,
     }
 }

@@ -76,30 +76,29 @@ impl Character {
         };
         let new_pos = body.pos;
         let new_vel = body.vel;
+        let walked = player_walk(slots, id, from, new_pos, tuning);
+        let PlayerWalk::At(rest) = walked else {
+            return Moved::TooFar;
+        };
+        self.pos = rest;
         self.vel = new_vel;
-        if tuning.player_collision != 0.0 {
-            let walked = player_walk(slots, id, from, new_pos);
-            let PlayerWalk::At(rest) = walked else {
-                return Moved::TooFar;
-            };
-            self.pos = rest;
-            return Moved::To(self);
-        }
-        self.pos = new_pos;
         Moved::To(self)
     }
 }
 
-// The way from one point to another, up to the first turn in which somebody is close.
-fn player_walk(slots: [Slot; SEATS], id: usize, from: vec2, to: vec2) -> PlayerWalk
-    ensures { λ r. ⌜ r ≡ playerWalk seats slots id from to ⌝ }
+// The way from one point to another; where players collide, up to the first turn in which somebody is close.
+fn player_walk(slots: [Slot; SEATS], id: usize, from: vec2, to: vec2, tuning: Tuning) -> PlayerWalk
+    ensures { λ r. ⌜ r ≡ playerWalk seats slots id from to tuning ⌝ }
 {
-    let distance = vec2::distance(from, to);
-    let turns = player_turns(distance);
-    if turns > MOST_TURNS {
-        return PlayerWalk::TooFar;
+    if tuning.player_collision != 0.0 {
+        let distance = vec2::distance(from, to);
+        let turns = player_turns(distance);
+        if turns > MOST_TURNS {
+            return PlayerWalk::TooFar;
+        }
+        return PlayerWalk::At(walk_among(slots, id, from, to, distance, turns as u32));
     }
-    PlayerWalk::At(walk_among(slots, id, from, to, distance, turns as u32))
+    PlayerWalk::At(to)
 }
 
 fn walk_among(

@@ -17,6 +17,9 @@ use Rattle.tuning.specs.declared.Tuning.{Tuning}
 use Rattle.controls.specs.Controls.{grounded, clampSpeed}
 use Rattle.hooking.specs.Hooking.{hold}
 use Rattle.dragging.specs.Dragging.{dragged}
+use Rattle.flying.specs.Flying.{flown}
+use Rattle.flying.specs.declared.Way.{Way}
+use Rattle.flying.specs.declared.Way.the-variants as way
 use Rattle.meeting.specs.Meeting.{push, held, meet}
 use Rattle.meeting.specs.declared.Velocities.{Velocities}
 use Rattle.character.specs.declared.Character.{Character}
@@ -25,7 +28,7 @@ use Rattle.character.specs.declared.tick.HookFlight.{HookFlight}
 use Rattle.character.specs.declared.tick.HookFlight.the-variants.{TooFar, To}
 use Rattle.character.specs.declared.tick.Met.{Met}
 use Rattle.character.specs.declared.tick.Ticked.{Ticked}
-use Rattle.character.specs.Tick.{slotAt, nowhere, withHook, withVel, withCharacter, steer, flight, metAt, meetTurn, meetAll, ticked, tickAt}
+use Rattle.character.specs.Tick.{slotAt, nowhere, withHook, withVel, withCharacter, steer, caught, flight, metAt, meetTurn, meetAll, hooked, ticked, tickAt}
 use lib.Seq.{set-getD}
 
 same : (v : Velocities) (b : Bool) → cond b v v ≡ v
@@ -61,21 +64,20 @@ module _ (t : Tuning) (collision : ne (t .«player_collision») c0 ≡ false) (h
   meet-all-alone n ss id p v h = fold-kept (meetTurn id p h t) (λ m. m ≡ record { vel = v; slots = ss }) (λ j m e. turn-alone id p h j m ∙ e) n 0 (record { vel = v; slots = ss }) refl
 
   -- a hook passes everybody
+  caught-alone : (n : ℕ) (w : Way) (id : ℕ) (ss us : List Slot) → caught n w id ss t ≡ caught n w id us t
+  unfolding caught
+  caught-alone n way.TooFar id ss us = refl
+  caught-alone n (way.Still h) id ss us = refl
+  caught-alone n (way.Along from to h) id ss us = rw hooking
+
   pub flight-alone : (n : ℕ) (h : Hook) (p : vec2) (id : ℕ) (ss us : List Slot) (s : Sides) (ts : List ℕ) → flight n h p id ss s ts t ≡ flight n h p id us s ts t
-  unfolding flight
-  flight-alone n Retracted p id ss us s ts = refl
-  flight-alone n Idle p id ss us s ts = refl
-  flight-alone n (Flying a b) p id ss us s ts = rw hooking
-  flight-alone n (Grabbed c k) p id ss us s ts = refl
-  flight-alone n (Attached a) p id ss us s ts = refl
-  flight-alone n (Retracting0 a) p id ss us s ts = refl
-  flight-alone n (Retracting1 a) p id ss us s ts = refl
-  flight-alone n (Retracting2 a) p id ss us s ts = refl
+  flight-alone n h p id ss us s ts = caught-alone n (flown h p s ts t) id ss us
 
   ticked-alone : (n : ℕ) (before c : Character) (id : ℕ) (ss us : List Slot) (f : HookFlight) → ticked n before c id ss t f ≡ record { number = ticked n before c id us t f .number; me = ticked n before c id us t f .me; slots = ss }
+  unfolding hooked
   ticked-alone n before c id ss us TooFar = refl
   ticked-alone n before c id ss us (To h) =
-      let p = before .pos in
+      let p = c .pos in
       let v = dragged h p (c .vel) (c .«move_direction») t in
       rw (meet-all-alone n ss id p v (hold h), meet-all-alone n us id p v (hold h))
 

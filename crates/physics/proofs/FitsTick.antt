@@ -34,7 +34,7 @@ use Rattle.character.specs.declared.Slot.{Slot}
 use Rattle.character.specs.declared.tick.HookFlight.{HookFlight}
 use Rattle.character.specs.declared.tick.HookFlight.the-variants.{TooFar, To}
 use Rattle.character.specs.declared.tick.Met.{Met}
-use Rattle.character.specs.Tick.{slotAt, nowhere, withVel, withCharacter, steer, flight, metAt, meetTurn, meetAll, ticked, tickAt}
+use Rattle.character.specs.Tick.{slotAt, nowhere, withVel, withCharacter, steer, flight, metAt, meetTurn, meetAll, hooked, ticked, tickAt}
 use Rattle.physics.proofs.Slots.{set-kept}
 
 -- both coordinates are values of the format
@@ -184,10 +184,11 @@ module _ (tunings : List ℤ) where
   meet-all-fits n ss id p v h k l = fold-kept (meetTurn id p h t) FitsMet (turn-fits id p h) n 0 (record { vel = v; slots = ss }) (k, l)
 
   ticked-fits : (n : ℕ) (before c : Character) (id : ℕ) (ss : List Slot) (f : HookFlight) → FitsPair (before .vel) → FitsPair (c .vel) → FitsSlots ss → FitsPair (ticked n before c id ss t f .me .vel) × FitsSlots (ticked n before c id ss t f .slots)
+  unfolding hooked
   ticked-fits n before c id ss TooFar h k l = (h, l)
   ticked-fits n before c id ss (To f) h k l =
-      let v = dragged f (before .pos) (c .vel) (c .«move_direction») t in
-      let m = meet-all-fits n ss id (before .pos) v (hold f) (dragged-fits f (before .pos) (c .vel) (c .«move_direction») t k) l in
+      let v = dragged f (c .pos) (c .vel) (c .«move_direction») t in
+      let m = meet-all-fits n ss id (c .pos) v (hold f) (dragged-fits f (c .pos) (c .vel) (c .«move_direction») t k) l in
       (clamp-speed-fits _ (m .0), m .1)
 
 -- after a tick, every velocity is one where every velocity was: the ticking character's and every slot's

@@ -21,7 +21,7 @@ use Rattle.character.specs.declared.Character.{Character}
 use Rattle.character.specs.declared.Slot.{Slot}
 use Rattle.character.specs.declared.walk.Moved.{Moved}
 use Rattle.character.specs.declared.walk.Moved.the-variants as moved
-use Rattle.character.specs.Walk.{movedTo, afterBox, moveAt}
+use Rattle.character.specs.Walk.{movedTo, playerWalk, afterBox, moveAt}
 
 -- the character where the box has got to
 abbrev pub withBox : Character → BoxMove → Moved
@@ -30,6 +30,7 @@ withBox c box.TooFar = moved.TooFar
 withBox c (box.To b) = moved.To (movedTo c (b .pos) (b .vel))
 
 box-alone : (n : ℕ) (c : Character) (id : ℕ) (ss : List Slot) (t : Tuning) (m : BoxMove) → ne (t .«player_collision») c0 ≡ false → afterBox n c id ss t m ≡ withBox c m
+unfolding playerWalk
 box-alone n c id ss t box.BadMap e = refl
 box-alone n c id ss t box.TooFar e = refl
 box-alone n c id ss t (box.To b) e = rw e

@@ -21,7 +21,7 @@ use Rattle.character.specs.declared.Slot.{Slot}
 use Rattle.character.specs.declared.tick.HookFlight.{HookFlight}
 use Rattle.character.specs.declared.tick.HookFlight.the-variants.{TooFar, To}
 use Rattle.character.specs.declared.tick.Met.{Met}
-use Rattle.character.specs.Tick.{slotAt, nowhere, withVel, withCharacter, steer, flight, metAt, meetTurn, meetAll, ticked, tickAt}
+use Rattle.character.specs.Tick.{slotAt, nowhere, withVel, withCharacter, steer, flight, metAt, meetTurn, meetAll, hooked, ticked, tickAt}
 use Rattle.physics.proofs.Slots.{set-kept}
 
 -- s and u differ in the character's velocity at most
@@ -55,8 +55,9 @@ module _ (ss : List Slot) where
   meet-all-kept n id p v h t = fold-kept (meetTurn id p h t) (λ m. Kept (m .slots)) (turn-kept id p h t) n 0 (record { vel = v; slots = ss }) (λ k. (refl, λ q. refl))
 
   ticked-kept : (n : ℕ) (before c : Character) (id : ℕ) (t : Tuning) (f : HookFlight) → Kept (ticked n before c id ss t f .slots)
+  unfolding hooked
   ticked-kept n before c id t TooFar = λ k. (refl, λ q. refl)
-  ticked-kept n before c id t (To h) = meet-all-kept n id (before .pos) (dragged h (before .pos) (c .vel) (c .«move_direction») t) (hold h) t
+  ticked-kept n before c id t (To h) = meet-all-kept n id (c .pos) (dragged h (c .pos) (c .vel) (c .«move_direction») t) (hold h) t
 
   tick-kept : (n : ℕ) (c : Character) (id : ℕ) (s : Sides) (ts : List ℕ) (i : PlayerInput) (t : Tuning) → Kept (tickAt n c id ss s ts i t .slots)
   unfolding tickAt
@@ -81,11 +82,11 @@ module _ (ss : List Slot) where
       go false false v = e
 
   ticked-length : (n : ℕ) (before c : Character) (id : ℕ) (t : Tuning) (f : HookFlight) → length (ticked n before c id ss t f .slots) ≡ length ss
-  unfolding meetAll
+  unfolding hooked meetAll
   ticked-length n before c id t TooFar = refl
   ticked-length n before c id t (To h) =
-      let v = dragged h (before .pos) (c .vel) (c .«move_direction») t in
-      fold-kept (meetTurn id (before .pos) (hold h) t) (λ m. length (m .slots) ≡ length ss) (turn-length id (before .pos) (hold h) t) n 0 (record { vel = v; slots = ss }) refl
+      let v = dragged h (c .pos) (c .vel) (c .«move_direction») t in
+      fold-kept (meetTurn id (c .pos) (hold h) t) (λ m. length (m .slots) ≡ length ss) (turn-length id (c .pos) (hold h) t) n 0 (record { vel = v; slots = ss }) refl
 
   pub tick-length : (n : ℕ) (c : Character) (id : ℕ) (s : Sides) (ts : List ℕ) (i : PlayerInput) (t : Tuning) → length (tickAt n c id ss s ts i t .slots) ≡ length ss
   unfolding tickAt
@@ -93,6 +94,7 @@ module _ (ss : List Slot) where
 
 -- the ticking character stays where it is
 ticked-pos : (n : ℕ) (before c : Character) (id : ℕ) (ss : List Slot) (t : Tuning) (f : HookFlight) → c .pos ≡ before .pos → ticked n before c id ss t f .me .pos ≡ before .pos
+unfolding hooked
 ticked-pos n before c id ss t TooFar e = refl
 ticked-pos n before c id ss t (To h) e = e
 

@@ -6,7 +6,6 @@ use mathlib.Core.List.{List}
 use mathlib.Core.Logic.{_⊎_, inl, inr, ⊎-elim}
 use mathlib.Core.Path.{_≡_, refl, sym, ap, _∙_, subst}
 use lib.Dec.{ltb}
-use lib.Ieee.{ne}
 use lib.ListN.{length, length-set}
 use borrow.Author.Tests.{eq-eqb, ne-eqb, ltb-false}
 use Rattle.turns.specs.Turns.{Turn, more, stop, next, run}
@@ -28,10 +27,9 @@ use Rattle.character.specs.declared.Slot.{Slot}
 use Rattle.character.specs.declared.tick.HookFlight.{HookFlight}
 use Rattle.character.specs.declared.tick.HookFlight.the-variants.{TooFar, To}
 use Rattle.character.specs.declared.tick.Ticked.{Ticked}
-use Rattle.character.specs.Tick.{slotAt, nowhere, withCharacter, steer, flight, ticked, tickAt}
+use Rattle.character.specs.Tick.{slotAt, nowhere, withCharacter, steer, flight, hooked, ticked, tickAt}
 use Rattle.physics.proofs.Slots.{set-others}
 use Rattle.physics.proofs.Others.{tick-others, tick-length}
-use Rattle.number.specs.Number.{c0}
 use Rattle.moves.specs.declared.BoxMove.{BoxMove}
 use Rattle.moves.specs.declared.BoxMove.the-variants as box
 use Rattle.walking.specs.Walking.{rampedMove}
@@ -66,6 +64,7 @@ Short x = x .present ≡ true → tickOf (x .character .hook) ≤ 60
 
 -- a tick goes on with such a hook, or is refused with 9
 ticked-short : (n : ℕ) (before c : Character) (id : ℕ) (ss : List Slot) (t : Tuning) (f : HookFlight) → ((ticked n before c id ss t f .number ≡ 0) × (tickOf (ticked n before c id ss t f .me .hook) ≤ 60)) ⊎ (ticked n before c id ss t f .number ≡ 9)
+unfolding hooked
 ticked-short n before c id ss t TooFar = inr refl
 ticked-short n before c id ss t (To h) = inl (refl, hold-short h)
 
@@ -119,15 +118,11 @@ data Left (c : Character) : Moved → Type 0 where
 box-left : (n : ℕ) (c : Character) (id : ℕ) (ss : List Slot) (t : Tuning) (b : BoxMove) → Left c (afterBox n c id ss t b)
 box-left n c id ss t box.BadMap = far
 box-left n c id ss t box.TooFar = far
-box-left n c id ss t (box.To b) = go (ne (t .«player_collision») c0) (playerWalk n ss id (c .pos) (b .pos))
+box-left n c id ss t (box.To b) = walked (playerWalk n ss id (c .pos) (b .pos) t)
   where
     walked : (w : PlayerWalk) → Left c (rested c (b .vel) w)
     walked among.TooFar = far
     walked (among.At p) = to (movedTo c p (b .vel)) refl
-
-    go : (o : Bool) (w : PlayerWalk) → Left c (cond o (rested c (b .vel) w) (moved.To (movedTo c (b .pos) (b .vel))))
-    go true w = walked w
-    go false w = to (movedTo c (b .pos) (b .vel)) refl
 
 move-left : (n : ℕ) (c : Character) (id : ℕ) (ss : List Slot) (s : Sides) (ts : List ℕ) (t : Tuning) → Left c (moveAt n c id ss s ts t)
 unfolding moveAt

@@ -29,15 +29,11 @@ enum-told c = search needs
 
 returns-2 : tie.Need-returns-2
 unfolding moveAt
-returns-2 c = simp (← c .before .before .before .before .before .before .before .before .before .before .ramped-move .ensures, c .before .before .before .before .before .before .before .before .moved .given .1, c .before .before .before .if1 .taken, ← c .before .before .player-walk .ensures, c .enum-told .given .1)
+returns-2 c = simp (← c .before .before .before .before .before .before .before .before .ramped-move .ensures, c .before .before .before .before .before .before .moved .given .1, ← c .before .before .player-walk .ensures, c .enum-told .given .1)
 
 returns-3 : tie.Need-returns-3
 unfolding moveAt
-returns-3 c = simp (← c .before .before .before .before .before .before .before .before .before .before .before .ramped-move .ensures, c .before .before .before .before .before .before .before .before .before .moved .given .1, c .before .before .before .before .if1 .taken, ← c .before .before .before .player-walk .ensures, c .before .walked .given .1)
-
-returns-4 : tie.Need-returns-4
-unfolding moveAt
-returns-4 c = simp (← c .before .before .before .before .before .before .before .ramped-move .ensures, c .before .before .before .before .before .moved .given .1, c .if1 .left)
+returns-3 c = simp (← c .before .before .before .before .before .before .before .before .before .ramped-move .ensures, c .before .before .before .before .before .before .before .moved .given .1, ← c .before .before .before .player-walk .ensures, c .before .walked .given .1)
 
 pub move-at-spec : {M : Type 1} → statement M
 move-at-spec =
@@ -50,5 +46,4 @@ move-at-spec =
     enum-known-walked
     enum-told
     returns-2
-    returns-3
-    returns-4)
+    returns-3)

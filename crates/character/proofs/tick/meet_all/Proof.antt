@@ -2,7 +2,7 @@
 use mathlib.Core.Bool.{true, false}
 use mathlib.Core.List.{List}
 use mathlib.Core.Logic.{⊎-elim}
-use mathlib.Core.Path.{_≡_, sym}
+use mathlib.Core.Path.{_≡_, sym, ap, _∙_}
 use Prim.Native.Nat.{ℕ, _-_}
 use native.Mathlib.Omega.{arith}
 use lib.ListN.{set}
@@ -36,10 +36,10 @@ module _ (id : ℕ) (p : vec2) (h : Hook) (t : Tuning) (j : ℕ) (v w : vec2) (s
   itself n f g = simp (f, g, eq-eqb j id n)
 
 abbrev Inv-loop : tie.InvT-loop
-Inv-loop id pos hook tuning mine₀ all₀ j₀ mine all j = Left (always (meetTurn id pos hook tuning)) seats j (met mine all) (more (fold (meetTurn id pos hook tuning) seats 0 (met mine₀ all₀)))
+Inv-loop id pos vel₀ hook tuning slots₀ j₀ vel slots j = Left (always (meetTurn id pos hook tuning)) seats j (met vel slots) (more (fold (meetTurn id pos hook tuning) seats 0 (met vel₀ slots₀)))
 
 abbrev μ-loop : tie.MeasureT-loop
-μ-loop id pos hook tuning mine₀ all₀ j₀ mine all j = seats - j
+μ-loop id pos vel₀ hook tuning slots₀ j₀ vel slots j = seats - j
 
 loop-holds : tie.Need-loop-holds Inv-loop μ-loop
 loop-holds c = fold-first
@@ -56,11 +56,14 @@ cast-meet c = omega arith
 meet-requires : tie.Need-meet-requires Inv-loop μ-loop
 meet-requires c κs = search needs
 
-mul-all : tie.Need-mul-all Inv-loop μ-loop
-mul-all c = search needs
+with-vel-requires : tie.Need-with-vel-requires Inv-loop μ-loop
+with-vel-requires c κs = search needs
 
-array-set-from-all : tie.Need-array-set-from-all Inv-loop μ-loop
-array-set-from-all c = omega arith
+mul-slots : tie.Need-mul-slots Inv-loop μ-loop
+mul-slots c = search needs
+
+array-set-from-slots : tie.Need-array-set-from-slots Inv-loop μ-loop
+array-set-from-slots c = omega arith
 
 add-j : tie.Need-add-j Inv-loop μ-loop
 add-j c = omega arith
@@ -69,9 +72,14 @@ loop-less : tie.Need-loop-less Inv-loop μ-loop
 loop-less c = omega arith
 
 loop-again : tie.Need-loop-again Inv-loop μ-loop
-loop-again c = turn-on (c .before .before .loop .inv) (c .before .loop-test .taken)
-    (⊎-elim (λ w. both _ _ _ _ _ _ _ _ _ (w .4 .result) (w .0 .taken) (w .2 .taken) (w .4 .ensures) (w .7) (w .8))
-    (⊎-elim (λ w. absent _ _ _ _ _ _ _ _ _ (w .0 .taken) (w .2 .left) (w .3) (w .4)) (λ w. itself _ _ _ _ _ _ _ _ _ (w .0 .left) (w .1) (w .2)))
+loop-again c =
+    let l = c .before .before .loop in
+    let a = c .before .before .before .args in
+    let m = c .if1 .vel in
+    let s = c .if1 .slots in
+    turn-on (l .inv) (c .before .loop-test .taken)
+    (⊎-elim (λ w. both (a .id) (a .pos) (a .hook) (a .tuning) (l .j) (l .vel) m (l .slots) s (w .4 .result) (w .0 .taken) (w .2 .taken) (w .4 .ensures) (w .7) (w .8 ∙ ap (set (l .slots) (l .j)) (w .6 .ensures)))
+    (⊎-elim (λ w. absent (a .id) (a .pos) (a .hook) (a .tuning) (l .j) (l .vel) m (l .slots) s (w .0 .taken) (w .2 .left) (w .3) (w .4)) (λ w. itself (a .id) (a .pos) (a .hook) (a .tuning) (l .j) (l .vel) m (l .slots) s (w .0 .left) (w .1) (w .2)))
     (c .if1 .came))
 
 returns : tie.Need-returns Inv-loop μ-loop
@@ -89,8 +97,9 @@ meet-all-spec =
     array-copy-out-slot
     cast-meet
     meet-requires
-    mul-all
-    array-set-from-all
+    with-vel-requires
+    mul-slots
+    array-set-from-slots
     add-j
     loop-less
     loop-again

@@ -13,7 +13,7 @@ player-turns-requires c κs = search needs
 
 returns : tie.Need-returns
 unfolding playerWalk
-returns c = simp (← c .before .before .distance .ensures, ← c .before .player-turns .ensures, lt-leb _ _ (c .if1 .taken))
+returns c = simp (c .before .before .before .if1 .taken, ← c .before .before .distance .ensures, ← c .before .player-turns .ensures, lt-leb _ _ (c .if2 .taken))
 
 cast-walk-among : tie.Need-cast-walk-among
 cast-walk-among c = search needs
@@ -23,7 +23,11 @@ walk-among-requires c κs = search needs
 
 returns-2 : tie.Need-returns-2
 unfolding playerWalk
-returns-2 c = simp (← c .before .before .before .distance .ensures, ← c .before .before .player-turns .ensures, le-leb _ _ (c .before .if1 .left), ← c .walk-among .ensures)
+returns-2 c = simp (c .before .before .before .before .if1 .taken, ← c .before .before .before .distance .ensures, ← c .before .before .player-turns .ensures, le-leb _ _ (c .before .if2 .left), ← c .walk-among .ensures)
+
+returns-3 : tie.Need-returns-3
+unfolding playerWalk
+returns-3 c = simp (c .if1 .left)
 
 pub player-walk-spec : {M : Type 1} → statement M
 player-walk-spec =
@@ -34,4 +38,5 @@ player-walk-spec =
     returns
     cast-walk-among
     walk-among-requires
-    returns-2)
+    returns-2
+    returns-3)

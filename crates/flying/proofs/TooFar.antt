@@ -7,7 +7,7 @@ use denote.Enum.Declared.{tagOf}
 use Rattle.lines.specs.declared.LineCheck.{LineCheck}
 use Rattle.lines.specs.declared.LineCheck.the-variants.{BadMap, TooFar, Nothing, At}
 use Rattle.lines.proofs.LineCheck.{the-type}
-use Rattle.character.specs.Tick.{tooFar}
+use Rattle.flying.specs.Flying.{tooFar}
 
 pub not-too-far : (l : LineCheck) → OneOf (0 ∷ 2 ∷ 3 ∷ []) (tagOf the-type l) → tooFar l ≡ false
 not-too-far BadMap k = refl

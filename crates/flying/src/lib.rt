@@ -1,0 +1,39 @@
+// How far a hook flies in a tick, and what it strikes on its way.
+use hook::Hook;
+use hooking::fly;
+use hooking::retract;
+use hooking::strike;
+use lines::LineCheck;
+use lines::walk_line;
+use tiles::Sides;
+use tuning::Tuning;
+use vector::vec2;
+ghost use mathlib.Core.Path.{_≡_};
+ghost use lib.Dec.{T};
+ghost use Rattle.tiles.specs.Map.{isMap};
+ghost use Rattle.flying.specs.Flying.{flown};
+
+// What a tick's flight comes to: a hook that stood still, or the way that it flew and the hook at its end.
+pub enum Way {
+    TooFar,
+    Still(Hook),
+    Along(vec2, vec2, Hook),
+}
+
+// A hook that isn't flying leaves early. One that is goes its way, and may strike a tile on it.
+pub fn flown(hook: Hook, pos: vec2, sides: Sides, tiles: &[u8], tuning: Tuning) -> Way
+    requires { ⌜ T (isMap sides (now tiles)) ⌝ }
+    ensures { λ r. ⌜ r ≡ flown hook pos sides (now (tiles .entry)) tuning ⌝ }
+{
+    let Hook::Flying(from, dir) = hook else {
+        return Way::Still(retract(hook));
+    };
+    let flight = fly(from, dir, pos, tuning);
+    let to = flight.to;
+    let flying = flight.hook;
+    let check = walk_line(sides, tiles, from, to);
+    if let LineCheck::TooFar = check {
+        return Way::TooFar;
+    }
+    Way::Along(from, to, strike(flying, check))
+}
