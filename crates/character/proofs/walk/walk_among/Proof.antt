@@ -79,10 +79,10 @@ returns c = let w = c .before .walk in w .inv .0 ∙ sym (ap (orTo _) (turn-end 
 returns-2 : tie.Need-returns-2 Inv-loop μ-loop Inv-walk μ-walk
 unfolding walkAmong i32ToF32
 returns-2 c =
-    let w = c .before .before .before .before .before .before .before .before .before .before .walk in
-    let l = c .before .before .before .before .before .before .loop in
-    sym (ap (orTo _) (turn-off {r = c .rest-at .result} (w .inv .1) (c .before .before .before .before .before .before .before .before .before .walk-test .taken)
-    (simp (← c .before .before .before .before .before .before .before .mix .ensures, turn-off {r = c .rest-at .result} (l .inv .1) (c .before .before .before .before .before .loop-test .taken) (simp (← c .before .before .before .is-close .ensures, c .before .before .if1 .taken, ← c .rest-at .ensures))))))
+    let w = c .before .before .before .before .before .before .before .before .before .walk in
+    let l = c .before .before .before .before .before .loop in
+    sym (ap (orTo _) (turn-off {r = c .rest-at .result} (w .inv .1) (c .before .before .before .before .before .before .before .before .walk-test .taken)
+    (simp (← c .before .before .before .before .before .before .mix .ensures, turn-off {r = c .rest-at .result} (l .inv .1) (c .before .before .before .before .loop-test .taken) (simp (← c .before .before .is-close .ensures, c .before .if1 .taken, ← c .rest-at .ensures))))))
 
 pub walk-among-spec : {M : Type 1} → statement M
 walk-among-spec =
