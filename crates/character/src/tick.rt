@@ -139,17 +139,16 @@ impl Character {
         ensures { λ r. ⌜ r ≡ steer self grounded input tuning ⌝ }
     {
         let pos = self.pos;
-        let vel = self.vel;
         let idle = self.hook;
         let direction = move_direction(input);
         let before = JumpState {
-            vel_y: vel.y + tuning.gravity,
+            vel_y: self.vel.y + tuning.gravity,
             jumped_already: self.jumped_already,
             used_airjump: self.used_airjump,
         };
         let jumped = jump(before, jumps(input), grounded, tuning);
         let hook = fire(idle, hooks(input), pos, target_dir(input));
-        let vel_x = walk(vel.x, direction, control_of(grounded, tuning));
+        let vel_x = walk(self.vel.x, direction, control_of(grounded, tuning));
         Character {
             pos: pos,
             vel: vec2::new(vel_x, jumped.vel_y),
@@ -217,8 +216,7 @@ fn nearest(slots: [Slot; SEATS], id: usize, from: vec2, to: vec2) -> Nearest
         if j != id {
             let slot = slots[j];
             if slot.present {
-                let other = slot.character;
-                best = nearer(best, j as u32, other.pos, from, to);
+                best = nearer(best, j as u32, slot.character.pos, from, to);
             }
         }
     }
@@ -240,8 +238,15 @@ fn meet_all(
         if j != id {
             let slot = slots[j];
             if slot.present {
-                let other = slot.character;
-                let met = meet(pos, vel, hook, other.pos, other.vel, j as u32, tuning);
+                let met = meet(
+                    pos,
+                    vel,
+                    hook,
+                    slot.character.pos,
+                    slot.character.vel,
+                    j as u32,
+                    tuning,
+                );
                 vel = met.me;
                 slots[j] = slot.with_vel(met.other);
             }

@@ -120,8 +120,7 @@ fn walk_among(
         for j in 0..SEATS {
             let slot = slots[j];
             if is_close(slot, id, j, p) {
-                let other = slot.character;
-                rest = rest_at(fraction, last, from, to, p, other.pos);
+                rest = rest_at(fraction, last, from, to, p, slot.character.pos);
                 break 'walk;
             }
         }
@@ -138,8 +137,7 @@ fn is_close(slot: Slot, id: usize, j: usize, p: vec2) -> bool
         return false;
     }
     if slot.present {
-        let other = slot.character;
-        return touches(p, other.pos);
+        return touches(p, slot.character.pos);
     }
     false
 }

@@ -78,7 +78,7 @@ loop-again c =
     let m = c .if1 .vel in
     let s = c .if1 .slots in
     turn-on (l .inv) (c .before .loop-test .taken)
-    (⊎-elim (λ w. both (a .id) (a .pos) (a .hook) (a .tuning) (l .j) (l .vel) m (l .slots) s (w .4 .result) (w .0 .taken) (w .2 .taken) (w .4 .ensures) (w .7) (w .8 ∙ ap (set (l .slots) (l .j)) (w .6 .ensures)))
+    (⊎-elim (λ w. both (a .id) (a .pos) (a .hook) (a .tuning) (l .j) (l .vel) m (l .slots) s (w .3 .result) (w .0 .taken) (w .2 .taken) (w .3 .ensures) (w .6) (w .7 ∙ ap (set (l .slots) (l .j)) (w .5 .ensures)))
     (⊎-elim (λ w. absent (a .id) (a .pos) (a .hook) (a .tuning) (l .j) (l .vel) m (l .slots) s (w .0 .taken) (w .2 .left) (w .3) (w .4)) (λ w. itself (a .id) (a .pos) (a .hook) (a .tuning) (l .j) (l .vel) m (l .slots) s (w .0 .left) (w .1) (w .2)))
     (c .if1 .came))
 

@@ -60,7 +60,7 @@ loop-again c =
     let l = c .before .before .loop in
     let a = c .before .before .before .args in
     turn-on (l .inv) (c .before .loop-test .taken)
-    (⊎-elim (λ w. looked-at (a .t1) (a .id) (a .from) (a .to) (l .j) (l .best) (c .if1 .best) (w .4 .result) (w .0 .taken) (w .2 .taken) (w .4 .ensures) (w .5))
+    (⊎-elim (λ w. looked-at (a .t1) (a .id) (a .from) (a .to) (l .j) (l .best) (c .if1 .best) (w .3 .result) (w .0 .taken) (w .2 .taken) (w .3 .ensures) (w .4))
     (⊎-elim (λ w. absent (a .t1) (a .id) (a .from) (a .to) (l .j) (l .best) (c .if1 .best) (w .0 .taken) (w .2 .left) (w .3)) (λ w. itself (a .t1) (a .id) (a .from) (a .to) (l .j) (l .best) (c .if1 .best) (w .0 .left) (w .1)))
     (c .if1 .came))
 

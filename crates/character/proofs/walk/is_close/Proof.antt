@@ -14,7 +14,7 @@ touches-requires c κs = search needs
 
 returns-2 : tie.Need-returns-2
 unfolding isClose
-returns-2 c = simp (ne-eqb _ _ (c .before .before .before .if1 .left), c .before .before .if2 .taken, ← c .touches .ensures)
+returns-2 c = simp (ne-eqb _ _ (c .before .before .if1 .left), c .before .if2 .taken, ← c .touches .ensures)
 
 returns-3 : tie.Need-returns-3
 unfolding isClose

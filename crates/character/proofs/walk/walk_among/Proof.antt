@@ -1,17 +1,30 @@
 -- `character::walk_among` meets its contract. Assumes nothing.
+use mathlib.Core.List.{List}
 use mathlib.Core.Path.{_≡_, refl, sym, ap, _∙_}
-use Prim.Native.Nat.{_-_, _^_}
+use Prim.Native.Nat.{ℕ, _-_, _^_}
 use native.Mathlib.Omega.{arith}
 use lib.Dec.{le→leb}
-use lib.Ieee.{inFloat}
+use lib.Ieee.{Float, binary32, div, inFloat}
+use lib.IntN.{pos}
 use borrow.Author.Needs.{needs}
 use Rattle.character.specs.Tick.{seats}
+use Rattle.character.specs.declared.Slot.{Slot}
 use Rattle.character.specs.Walk.{slotTurn, walkTurn, orTo, walkAmong}
 use Rattle.float.specs.Convert.{i32ToF32}
 use Rattle.turns.proofs.Loop.{Left, turn-first, turn-on, turn-off, turn-end}
-use Rattle.turns.specs.Turns.{run}
+use Rattle.turns.specs.Turns.{more, stop, run}
+use Rattle.vector.specs.Vec2.{vmix}
+use Rattle.vector.specs.declared.vec2.{vec2}
 use Rattle.character.proofs.walk.walk_among.Statement.{statement}
 use Rattle.character.proofs.walk.walk_among.Tie as tie
+
+-- a turn, on plain values: nobody is close to its point; somebody is
+module _ (ss : List Slot) (id : ℕ) (from to : vec2) (distance : Float) (i : ℕ) (last p : vec2) (at : p ≡ vmix from to (div binary32 (i32ToF32 (pos i)) distance)) where
+  passed : run (slotTurn ss id from to last (div binary32 (i32ToF32 (pos i)) distance) p) seats 0 tt ≡ more tt → walkTurn seats ss id from to distance i last ≡ more p
+  passed e = simp (← at, e)
+
+  stopped : (r : vec2) → run (slotTurn ss id from to last (div binary32 (i32ToF32 (pos i)) distance) p) seats 0 tt ≡ stop r → walkTurn seats ss id from to distance i last ≡ stop r
+  stopped r e = simp (← at, e)
 
 abbrev Inv-loop : tie.InvT-loop
 Inv-loop id from to distance turns slots last rest₀ i fraction p j₀ rest j = (rest ≡ rest₀) × Left (slotTurn slots id from to last fraction p) seats j tt (run (slotTurn slots id from to last fraction p) seats 0 tt)
@@ -70,7 +83,8 @@ unfolding i32ToF32
 walk-again c =
     let w = c .before .before .before .before .before .walk in
     let l = c .before .loop in
-    (l .inv .0 ∙ w .inv .0, turn-on (w .inv .1) (c .before .before .before .before .walk-test .taken) (simp (← c .before .before .mix .ensures, turn-end (l .inv .1) (c .loop-test .left))))
+    let a = c .before .before .before .before .before .before .args in
+    (l .inv .0 ∙ w .inv .0, turn-on (w .inv .1) (c .before .before .before .before .walk-test .taken) (passed (a .t1) (a .id) (a .from) (a .to) (a .distance) (w .i) (w .last) (c .before .before .mix .result) (c .before .before .mix .ensures) (turn-end (l .inv .1) (c .loop-test .left))))
 
 returns : tie.Need-returns Inv-loop μ-loop Inv-walk μ-walk
 unfolding walkAmong
@@ -79,10 +93,12 @@ returns c = let w = c .before .walk in w .inv .0 ∙ sym (ap (orTo _) (turn-end 
 returns-2 : tie.Need-returns-2 Inv-loop μ-loop Inv-walk μ-walk
 unfolding walkAmong i32ToF32
 returns-2 c =
-    let w = c .before .before .before .before .before .before .before .before .before .before .walk in
-    let l = c .before .before .before .before .before .before .loop in
-    sym (ap (orTo _) (turn-off {r = c .rest-at .result} (w .inv .1) (c .before .before .before .before .before .before .before .before .before .walk-test .taken)
-    (simp (← c .before .before .before .before .before .before .before .mix .ensures, turn-off {r = c .rest-at .result} (l .inv .1) (c .before .before .before .before .before .loop-test .taken) (simp (← c .before .before .before .is-close .ensures, c .before .before .if1 .taken, ← c .rest-at .ensures))))))
+    let w = c .before .before .before .before .before .before .before .before .before .walk in
+    let l = c .before .before .before .before .before .loop in
+    let a = c .before .before .before .before .before .before .before .before .before .before .args in
+    let m = c .before .before .before .before .before .before .mix in
+    sym (ap (orTo (a .to)) (turn-off {r = c .rest-at .result} (w .inv .1) (c .before .before .before .before .before .before .before .before .walk-test .taken)
+    (stopped (a .t1) (a .id) (a .from) (a .to) (a .distance) (w .i) (w .last) (m .result) (m .ensures) (c .rest-at .result) (turn-off {r = c .rest-at .result} (l .inv .1) (c .before .before .before .before .loop-test .taken) (simp (← c .before .before .is-close .ensures, c .before .if1 .taken, ← c .rest-at .ensures))))))
 
 pub walk-among-spec : {M : Type 1} → statement M
 walk-among-spec =
