@@ -1,6 +1,5 @@
 -- `buffers::step_in` meets its contract. Assumes nothing.
 use Rattle.buffers.proofs.Answers.{wrong-world, wrong-records, right-lengths}
-use borrow.Author.Needs.{needs}
 use Rattle.buffers.proofs.step_in.Statement.{statement}
 use Rattle.buffers.proofs.step_in.Tie as tie
 
@@ -11,19 +10,19 @@ returns-2 : tie.Need-returns-2
 returns-2 c = let a = c .before .before .before .args in wrong-records (a .sides) (a .tiles .now) (a .world .now) (a .records .now) (c .before .if1 .left) (c .if2 .taken)
 
 decode-requires : tie.Need-decode-requires
-decode-requires c κs = search needs
+decode-requires c κs = c .before .before .if1 .left
 
 step-requires : tie.Need-step-requires
-step-requires c κs = search needs
+step-requires c κs = tt
 
 keep-step-requires : tie.Need-keep-step-requires
-keep-step-requires c κs = search needs
+keep-step-requires c κs = (c .before .before .before .before .before .before .if1 .left, c .before .before .before .before .before .if2 .left)
 
 same-length : tie.Need-same-length
-same-length c = search needs
+same-length c = c .before .before .keep-step .kept .1 .0
 
 same-length-2 : tie.Need-same-length-2
-same-length-2 c = search needs
+same-length-2 c = c .before .before .keep-step .kept .1 .1 .0
 
 returns-3 : tie.Need-returns-3
 returns-3 c =
