@@ -1,5 +1,5 @@
 -- Calls on a world that is kept as the numbers of a buffer: what each answers, and what it leaves in the buffers. Definitions only.
-use Prim.Native.Nat.{ℕ, _+_, _*_}
+use Prim.Native.Nat.{ℕ}
 use mathlib.Core.Bool.{Bool, cond, _&&_}
 use mathlib.Core.List.{List}
 use lib.Dec.{eqb}
@@ -7,24 +7,16 @@ use lib.IntN.{ℤ}
 use lib.ListN.{length}
 use Rattle.tiles.specs.declared.Sides.{Sides}
 use Rattle.character.specs.Tick.{seats}
-use Rattle.world.specs.World.{tuningCount}
 use Rattle.world.specs.Step.{step}
 use Rattle.world.specs.declared.Answer.{Answer}
 use Rattle.world.specs.declared.Stepped.{Stepped}
 use Rattle.world.specs.declared.World.{World}
-use Rattle.encoding.specs.Encoding.{encoding, recordsEncoding, seatCount}
+use Rattle.encoding.specs.Encoding.{worldCount, recordsCount, encoding, recordsEncoding}
 use Rattle.decoding.specs.Decoding.{decoding}
 
 -- the refusal of a buffer that has not as many numbers as it must
 abbrev pub badLength : ℕ
 badLength = 17
-
--- how many numbers a world has, and the records of a step
-abbrev pub worldCount : ℕ
-worldCount = tuningCount + seatCount * seats
-
-abbrev pub recordsCount : ℕ
-recordsCount = 16 * seats
 
 -- whether a buffer has n numbers
 abbrev pub has : ℕ → List ℤ → Bool
@@ -53,9 +45,10 @@ pub record LeftByStep : Type 0 where
   pub world : List ℤ
   pub records : List ℤ
 
--- the same for step
+-- an accepted step leaves the next world and the records, a refused one every number as it was
 unfoldable pub keepStep : List ℤ → List ℤ → Stepped → LeftByStep
 keepStep l rs a = record { number = a .number; world = cond (eqb (a .number) 0) (encoding (a .world)) l; records = cond (eqb (a .number) 0) (recordsEncoding (a .records)) rs }
 
+-- a step of the world that the numbers l stand for, whose records go to rs
 unfoldable pub stepIn : Sides → List ℕ → List ℤ → List ℤ → LeftByStep
 stepIn s ts l rs = cond (has worldCount l && has recordsCount rs) (keepStep l rs (step seats (decoding seats l) s ts)) (record { number = badLength; world = l; records = rs })

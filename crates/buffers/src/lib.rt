@@ -4,16 +4,14 @@ use calls::input;
 use calls::join;
 use calls::leave;
 use calls::tune;
-use character::SEATS;
 use decoding::decode;
-use encoding::RECORD;
-use encoding::SEAT;
+use encoding::RECORDS;
+use encoding::WORLD;
 use encoding::encode;
 use encoding::encode_records;
 use snap_obj::PlayerInput;
 use steps::step;
 use tiles::Sides;
-use tuning::TUNINGS;
 use world::Answer;
 use world::Stepped;
 ghost use mathlib.Core.Path.{_≡_};
@@ -21,19 +19,15 @@ ghost use lib.ListN.{length};
 ghost use Rattle.character.specs.Tick.{seats};
 ghost use Rattle.world.specs.World.{fresh};
 ghost use Rattle.world.specs.Calls.{accepted, join, leave, input, tune};
+ghost use Rattle.encoding.specs.Encoding.{worldCount, recordsCount};
 ghost use Rattle.buffers.specs.Buffers.{keep, callIn, keepStep, stepIn};
 
 // The refusal of a buffer that has not as many numbers as it must.
 pub const BAD_LENGTH: u32 = 17;
 
-// How many numbers a world has, and the records of a step.
-pub const WORLD: usize = TUNINGS + SEAT * SEATS;
-
-pub const RECORDS: usize = RECORD * SEATS;
-
 // Leaves the next world in the buffer where the call was accepted.
 fn keep(answer: Answer, world: &mut [i32]) -> u32
-    requires { ⌜ length (now world) ≡ 354 ⌝ }
+    requires { ⌜ length (now world) ≡ worldCount ⌝ }
     ensures { λ r. ⌜ keep (now (world .entry)) answer ≡ record { number = r; world = now (world .exit) } ⌝ }
 {
     if answer.number == 0 {
@@ -96,7 +90,7 @@ pub fn tune_in(world: &mut [i32], index: i32, value: i32) -> u32
 
 // Leaves the next world and the records in the buffers where the step was accepted.
 fn keep_step(stepped: Stepped, world: &mut [i32], records: &mut [i32]) -> u32
-    requires { ⌜ (length (now world) ≡ 354) × (length (now records) ≡ 256) ⌝ }
+    requires { ⌜ (length (now world) ≡ worldCount) × (length (now records) ≡ recordsCount) ⌝ }
     ensures { λ r. ⌜ keepStep (now (world .entry)) (now (records .entry)) stepped ≡ record { number = r; world = now (world .exit); records = now (records .exit) } ⌝ }
 {
     if stepped.number == 0 {

@@ -14,6 +14,8 @@ ghost use mathlib.Core.Path.{_≡_};
 ghost use Prim.Native.Nat.{_+_, _*_, _≤_, _<_};
 ghost use lib.ListN.{length, take, drop};
 ghost use Rattle.character.specs.Tick.{seats};
+ghost use Rattle.world.specs.World.{tuningCount};
+ghost use Rattle.encoding.specs.Encoding.{seatCount, worldCount};
 ghost use Rattle.decoding.specs.Decoding.{fromZero, isPresent, readable, seatCore, seatInput, seatOf, seatsOf, decoding};
 
 fn is_present(z: i32) -> bool
@@ -40,7 +42,7 @@ fn readable(mut core: CharacterCore) -> CharacterCore
 
 // The record of the seat whose numbers a slice starts with.
 fn core_of(seat: &[i32]) -> CharacterCore
-    requires { ⌜ 21 ≤ length (now seat) ⌝ }
+    requires { ⌜ seatCount ≤ length (now seat) ⌝ }
     ensures { λ r. ⌜ r ≡ seatCore (now (seat .entry)) ⌝ }
 {
     CharacterCore {
@@ -64,7 +66,7 @@ fn core_of(seat: &[i32]) -> CharacterCore
 
 // Its input.
 fn input_of(seat: &[i32]) -> PlayerInput
-    requires { ⌜ 21 ≤ length (now seat) ⌝ }
+    requires { ⌜ seatCount ≤ length (now seat) ⌝ }
     ensures { λ r. ⌜ r ≡ seatInput (now (seat .entry)) ⌝ }
 {
     PlayerInput {
@@ -78,7 +80,7 @@ fn input_of(seat: &[i32]) -> PlayerInput
 
 // The seat whose numbers a slice starts with.
 fn seat_of(seat: &[i32]) -> Slot
-    requires { ⌜ 21 ≤ length (now seat) ⌝ }
+    requires { ⌜ seatCount ≤ length (now seat) ⌝ }
     ensures { λ r. ⌜ r ≡ seatOf (now (seat .entry)) ⌝ }
 {
     if is_present(seat[0]) {
@@ -94,16 +96,16 @@ fn seat_of(seat: &[i32]) -> Slot
 
 // The seat with the id `id` of a world's numbers.
 pub fn seat_at(numbers: &[i32], id: usize) -> Slot
-    requires { ⌜ (length (now numbers) ≡ 354) × (id < seats) ⌝ }
-    ensures { λ r. ⌜ r ≡ seatOf (drop (18 + 21 * id) (now (numbers .entry))) ⌝ }
+    requires { ⌜ (length (now numbers) ≡ worldCount) × (id < seats) ⌝ }
+    ensures { λ r. ⌜ r ≡ seatOf (drop (tuningCount + seatCount * id) (now (numbers .entry))) ⌝ }
 {
     let at = TUNINGS + SEAT * id;
     seat_of(&numbers[at..])
 }
 
 fn seats_of(numbers: &[i32]) -> [Slot; SEATS]
-    requires { ⌜ length (now numbers) ≡ 354 ⌝ }
-    ensures { λ r. ⌜ r ≡ seatsOf seats (drop 18 (now (numbers .entry))) ⌝ }
+    requires { ⌜ length (now numbers) ≡ worldCount ⌝ }
+    ensures { λ r. ⌜ r ≡ seatsOf seats (drop tuningCount (now (numbers .entry))) ⌝ }
 {
     let mut slots = [empty_slot(); SEATS];
     for id in 0..SEATS {
@@ -113,8 +115,8 @@ fn seats_of(numbers: &[i32]) -> [Slot; SEATS]
 }
 
 fn tunings_of(numbers: &[i32]) -> [i32; TUNINGS]
-    requires { ⌜ length (now numbers) ≡ 354 ⌝ }
-    ensures { λ r. ⌜ r ≡ take 18 (now (numbers .entry)) ⌝ }
+    requires { ⌜ length (now numbers) ≡ worldCount ⌝ }
+    ensures { λ r. ⌜ r ≡ take tuningCount (now (numbers .entry)) ⌝ }
 {
     let mut tunings = [0i32; TUNINGS];
     copy(&mut tunings, 0, &numbers[0..TUNINGS]);
@@ -122,7 +124,7 @@ fn tunings_of(numbers: &[i32]) -> [i32; TUNINGS]
 }
 
 pub fn decode(numbers: &[i32]) -> World
-    requires { ⌜ length (now numbers) ≡ 354 ⌝ }
+    requires { ⌜ length (now numbers) ≡ worldCount ⌝ }
     ensures { λ r. ⌜ r ≡ decoding seats (now (numbers .entry)) ⌝ }
 {
     World {

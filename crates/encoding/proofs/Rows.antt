@@ -1,11 +1,12 @@
 -- Rows of numbers that are written one after the other; numbers that were kept as their bits. Assumes nothing.
-use Prim.Native.Nat.{ℕ, _+_, _≤_, _<_}
-use mathlib.Core.Path.{_≡_, refl, sym, ap, _∙_}
+use Prim.Native.Nat.{ℕ, _+_, _*_, _≤_, _<_}
+use mathlib.Core.Path.{_≡_, refl, sym, ap, ap₂, _∙_}
 use mathlib.Core.List.{List, [], _∷_, _++_, map, append-assoc, append-nil}
+use native.Mathlib.Nat.{mul-zero, mul-suc, add-comm}
 use native.Mathlib.Numerals.{add-one}
 use native.Mathlib.Omega.{arith}
 use lib.IntN.{ℤ}
-use lib.ListN.{length, take, getD}
+use lib.ListN.{length, take, getD, length-append}
 use lib.Seq.{paste, take-paste, take-suc, take-length}
 use mir.Facts.{toZ-ofZ}
 use mir.Syntax.{w32}
@@ -13,7 +14,8 @@ use mir.Val.{toZ, ofZ}
 use Rattle.character.specs.declared.Slot.{Slot}
 use Rattle.records.specs.Representable.{IsI32}
 use Rattle.world.specs.declared.Published.{Published}
-use Rattle.encoding.specs.Encoding.{each, recordNumbers, seatNumbers}
+use Rattle.world.specs.declared.World.{World}
+use Rattle.encoding.specs.Encoding.{each, recordNumbers, seatNumbers, encoding}
 
 each-last : {A : Type 0} (f : A → List ℤ) (xs : List A) (y : A) → each f (xs ++ (y ∷ [])) ≡ each f xs ++ f y
 unfolding each
@@ -57,3 +59,13 @@ AllI32 (z ∷ zs) = IsI32 z × AllI32 zs
 pub all-again : (zs : List ℤ) → AllI32 zs → map (λ (z : ℤ). toZ w32 (ofZ w32 z)) zs ≡ zs
 all-again [] a = refl
 all-again (z ∷ zs) a = let e = again {z = z} (a .0) in let f = all-again zs (a .1) in cc
+
+-- ---- how long the numbers of a world are
+each-long : {A : Type 0} (f : A → List ℤ) (k : ℕ) → ((x : A) → length (f x) ≡ k) → (xs : List A) → length (each f xs) ≡ k * length xs
+unfolding each
+each-long f k h [] = sym (mul-zero k)
+each-long f k h (x ∷ xs) = length-append (f x) (each f xs) ∙ ap₂ _+_ (h x) (each-long f k h xs) ∙ add-comm k (k * length xs) ∙ sym (mul-suc k (length xs))
+
+pub encoding-long : (w : World) → length (encoding w) ≡ length (w .tunings) + 21 * length (w .slots)
+unfolding encoding
+encoding-long w = length-append (w .tunings) (each seatNumbers (w .slots)) ∙ ap (λ (n : ℕ). length (w .tunings) + n) (each-long seatNumbers 21 seat-long (w .slots))

@@ -1,21 +1,47 @@
 -- A world as a list of numbers, and the records of a step as one. Definitions only; the way back is `decoding` (decoding/specs/Decoding.antt).
-use Prim.Native.Nat.{ℕ}
+use Prim.Native.Nat.{ℕ, _+_, _*_}
 use mathlib.Core.Bool.{Bool, cond}
 use mathlib.Core.List.{List, [], _∷_, _++_}
 use lib.IntN.{ℤ, pos}
 use Rattle.snap_obj.specs.declared.CharacterCore.{CharacterCore}
 use Rattle.snap_obj.specs.declared.PlayerInput.{PlayerInput}
+use Rattle.character.specs.Tick.{seats}
 use Rattle.character.specs.declared.Slot.{Slot}
 use Rattle.records.specs.Records.{toNet}
 use Rattle.records.specs.declared.Net.{Net}
 use Rattle.records.specs.declared.Net.the-variants as net
+use Rattle.world.specs.World.{tuningCount}
 use Rattle.world.specs.Step.{noCore}
 use Rattle.world.specs.declared.Published.{Published}
 use Rattle.world.specs.declared.World.{World}
 
--- how many numbers a seat has in a world
+-- ---- how many numbers there are
+
+-- in a record
+abbrev pub coreCount : ℕ
+coreCount = 15
+
+-- in an input
+abbrev pub inputCount : ℕ
+inputCount = 5
+
+-- of a seat among the records of a step: its presence and its record
+abbrev pub recordCount : ℕ
+recordCount = 1 + coreCount
+
+-- of a seat in a world: the same and its input
 abbrev pub seatCount : ℕ
-seatCount = 21
+seatCount = recordCount + inputCount
+
+-- in a world
+abbrev pub worldCount : ℕ
+worldCount = tuningCount + seatCount * seats
+
+-- in the records of a step
+abbrev pub recordsCount : ℕ
+recordsCount = recordCount * seats
+
+-- ---- which they are
 
 -- f of each, one after the other
 unfoldable pub each : {A : Type 0} → (A → List ℤ) → List A → List ℤ

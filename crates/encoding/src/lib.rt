@@ -12,12 +12,22 @@ ghost use mathlib.Core.Path.{_≡_};
 ghost use Prim.Native.Nat.{_+_, _≤_};
 ghost use lib.ListN.{length};
 ghost use lib.Seq.{paste};
-ghost use Rattle.encoding.specs.Encoding.{presence, coreIn, recordNumbers, seatNumbers, encoding, recordsEncoding};
+ghost use Rattle.encoding.specs.Encoding.{worldCount, recordsCount, presence, coreIn, recordNumbers, seatNumbers, encoding, recordsEncoding};
 
-// How many numbers a seat has in a world, and in the records of a step.
-pub const SEAT: usize = 21;
+// How many numbers a record has, and an input.
+pub const CORE: usize = 15;
 
-pub const RECORD: usize = 16;
+pub const INPUT: usize = 5;
+
+// How many a seat has among the records of a step, and in a world.
+pub const RECORD: usize = 1 + CORE;
+
+pub const SEAT: usize = RECORD + INPUT;
+
+// How many a world has, and the records of a step.
+pub const WORLD: usize = TUNINGS + SEAT * SEATS;
+
+pub const RECORDS: usize = RECORD * SEATS;
 
 // Puts a row of numbers into a buffer from `at` on.
 pub fn copy(numbers: &mut [i32], at: usize, row: &[i32])
@@ -102,7 +112,7 @@ pub fn seat_numbers(slot: Slot) -> [i32; SEAT]
 }
 
 pub fn encode(world: World, numbers: &mut [i32])
-    requires { ⌜ length (now numbers) ≡ 354 ⌝ }
+    requires { ⌜ length (now numbers) ≡ worldCount ⌝ }
     ensures { λ _. ⌜ now (numbers .exit) ≡ encoding world ⌝ }
 {
     let tunings = world.tunings;
@@ -115,7 +125,7 @@ pub fn encode(world: World, numbers: &mut [i32])
 }
 
 pub fn encode_records(records: [Published; SEATS], numbers: &mut [i32])
-    requires { ⌜ length (now numbers) ≡ 256 ⌝ }
+    requires { ⌜ length (now numbers) ≡ recordsCount ⌝ }
     ensures { λ _. ⌜ now (numbers .exit) ≡ recordsEncoding records ⌝ }
 {
     for i in 0..SEATS {

@@ -6,6 +6,7 @@ ghost use Rattle.character.specs.Tick.{seats};
 ghost use Rattle.world.specs.World.{fresh};
 ghost use Rattle.world.specs.Calls.{accepted, join, leave, input, tune};
 ghost use Rattle.world.specs.Demand3.{inputOf};
+ghost use Rattle.encoding.specs.Encoding.{coreCount, inputCount};
 ghost use Rattle.buffers.specs.Buffers.{callIn, stepIn};
 ghost use Rattle.readers.specs.Readers.{readIn, recordOf, tuningIn};
 ghost use Rattle.readers.specs.Readers as readers;
@@ -84,14 +85,14 @@ pub extern "C" fn ponguriena_step(
 
 #[no_mangle]
 pub extern "C" fn ponguriena_record(world: &[i32], id: i32, record: &mut [i32]) -> u32
-    ensures { λ r. ⌜ readIn 15 recordOf (now (world .entry)) id (now («record» .entry)) ≡ record { number = r; numbers = now («record» .exit) } ⌝ }
+    ensures { λ r. ⌜ readIn coreCount recordOf (now (world .entry)) id (now («record» .entry)) ≡ record { number = r; numbers = now («record» .exit) } ⌝ }
 {
     readers::record_in(world, id, record)
 }
 
 #[no_mangle]
 pub extern "C" fn ponguriena_player_input(world: &[i32], id: i32, input: &mut [i32]) -> u32
-    ensures { λ r. ⌜ readIn 5 readers.inputOf (now (world .entry)) id (now (input .entry)) ≡ record { number = r; numbers = now (input .exit) } ⌝ }
+    ensures { λ r. ⌜ readIn inputCount readers.inputOf (now (world .entry)) id (now (input .entry)) ≡ record { number = r; numbers = now (input .exit) } ⌝ }
 {
     readers::player_input_in(world, id, input)
 }

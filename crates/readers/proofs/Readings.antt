@@ -12,8 +12,9 @@ use Rattle.character.specs.declared.Slot.{Slot}
 use Rattle.world.specs.Calls.{placeOf}
 use Rattle.world.specs.World.{tuningCount}
 use Rattle.world.specs.declared.World.{World}
+use Rattle.encoding.specs.Encoding.{worldCount}
 use Rattle.decoding.specs.Decoding.{decoding}
-use Rattle.buffers.specs.Buffers.{worldCount, badLength}
+use Rattle.buffers.specs.Buffers.{badLength}
 use Rattle.readers.specs.Readers.{Told, seatTold, readIn, tuningIn}
 
 -- ---- the seat k, which an id names

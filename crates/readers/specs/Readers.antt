@@ -11,9 +11,9 @@ use Rattle.records.specs.Records.{toNet}
 use Rattle.world.specs.World.{tuningCount}
 use Rattle.world.specs.Calls.{placeOf}
 use Rattle.world.specs.declared.World.{World}
-use Rattle.encoding.specs.Encoding.{coreNumbers, inputNumbers, coreIn}
+use Rattle.encoding.specs.Encoding.{worldCount, coreNumbers, inputNumbers, coreIn}
 use Rattle.decoding.specs.Decoding.{decoding}
-use Rattle.buffers.specs.Buffers.{badLength, worldCount, has}
+use Rattle.buffers.specs.Buffers.{badLength, has}
 
 -- a reader's number, and what it leaves in the reader's buffer
 pub record Told : Type 0 where

@@ -1,23 +1,27 @@
 // What is read of a world that is kept as the numbers of a lent buffer. A refused call leaves every number of the reader's buffer as it was.
 use buffers::BAD_LENGTH;
-use buffers::WORLD;
 use calls::place_of;
 use character::SEATS;
 use decoding::seat_at;
+use encoding::CORE;
+use encoding::INPUT;
+use encoding::RECORD;
+use encoding::SEAT;
+use encoding::WORLD;
 use encoding::copy;
 use encoding::seat_numbers;
 use tuning::TUNINGS;
 ghost use mathlib.Core.Path.{_≡_};
 ghost use Prim.Native.Nat.{_-_, _≤_};
 ghost use lib.ListN.{length, take, drop};
-ghost use Rattle.encoding.specs.Encoding.{seatNumbers};
+ghost use Rattle.encoding.specs.Encoding.{coreCount, inputCount, seatCount, worldCount, seatNumbers};
 ghost use Rattle.decoding.specs.Decoding.{decoding};
 ghost use Rattle.character.specs.Tick.{seats};
 ghost use Rattle.readers.specs.Readers.{seatTold, readIn, recordOf, inputOf, tuningIn};
 
 // The numbers of a seat from one place up to another.
 fn seat_part(world: &[i32], id: i32, from: usize, to: usize, part: &mut [i32]) -> u32
-    requires { ⌜ (length (now world) ≡ 354) × (from ≤ to) × (to ≤ 21) × (length (now part) ≡ to - from) ⌝ }
+    requires { ⌜ (length (now world) ≡ worldCount) × (from ≤ to) × (to ≤ seatCount) × (length (now part) ≡ to - from) ⌝ }
     ensures { λ r. ⌜ seatTold (λ s. take (to - from) (drop from (seatNumbers s))) (decoding seats (now (world .entry))) id (now (part .entry)) ≡ record { number = r; numbers = now (part .exit) } ⌝ }
 {
     let at = place_of(SEATS, id);
@@ -34,27 +38,27 @@ fn seat_part(world: &[i32], id: i32, from: usize, to: usize, part: &mut [i32]) -
 }
 
 pub fn record_in(world: &[i32], id: i32, record: &mut [i32]) -> u32
-    ensures { λ r. ⌜ readIn 15 recordOf (now (world .entry)) id (now («record» .entry)) ≡ record { number = r; numbers = now («record» .exit) } ⌝ }
+    ensures { λ r. ⌜ readIn coreCount recordOf (now (world .entry)) id (now («record» .entry)) ≡ record { number = r; numbers = now («record» .exit) } ⌝ }
 {
     if world.len() != WORLD {
         return BAD_LENGTH;
     }
-    if record.len() != 15 {
+    if record.len() != CORE {
         return BAD_LENGTH;
     }
-    seat_part(world, id, 1, 16, record)
+    seat_part(world, id, 1, RECORD, record)
 }
 
 pub fn player_input_in(world: &[i32], id: i32, input: &mut [i32]) -> u32
-    ensures { λ r. ⌜ readIn 5 inputOf (now (world .entry)) id (now (input .entry)) ≡ record { number = r; numbers = now (input .exit) } ⌝ }
+    ensures { λ r. ⌜ readIn inputCount inputOf (now (world .entry)) id (now (input .entry)) ≡ record { number = r; numbers = now (input .exit) } ⌝ }
 {
     if world.len() != WORLD {
         return BAD_LENGTH;
     }
-    if input.len() != 5 {
+    if input.len() != INPUT {
         return BAD_LENGTH;
     }
-    seat_part(world, id, 16, 21, input)
+    seat_part(world, id, RECORD, SEAT, input)
 }
 
 pub fn tuning_in(world: &[i32], index: i32, value: &mut i32) -> u32

@@ -9,13 +9,13 @@ use lib.ListN.{length, take, length-map}
 use lib.Seq.{take-all, take-length}
 use borrow.Author.Needs.{needs}
 use Rattle.character.specs.Tick.{seats}
-use Rattle.encoding.specs.Encoding.{each, seatNumbers, encoding}
+use Rattle.encoding.specs.Encoding.{worldCount, each, seatNumbers, encoding}
 use Rattle.encoding.proofs.Rows.{first-row, next-row, seat-long}
 use Rattle.encoding.proofs.encode.Statement.{statement}
 use Rattle.encoding.proofs.encode.Tie as tie
 
 abbrev Inv-loop : tie.InvT-loop
-Inv-loop numbers₀ slots i₀ numbers i = (i ≤ seats) × (length numbers ≡ 354) × (take (18 + 21 * i) numbers ≡ take 18 numbers₀ ++ each seatNumbers (take i slots))
+Inv-loop numbers₀ slots i₀ numbers i = (i ≤ seats) × (length numbers ≡ worldCount) × (take (18 + 21 * i) numbers ≡ take 18 numbers₀ ++ each seatNumbers (take i slots))
 
 abbrev μ-loop : tie.MeasureT-loop
 μ-loop numbers₀ slots i₀ numbers i = seats - i

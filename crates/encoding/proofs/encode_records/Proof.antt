@@ -7,13 +7,13 @@ use lib.ListN.{length, take}
 use lib.Seq.{take-all, take-length}
 use borrow.Author.Needs.{needs}
 use Rattle.character.specs.Tick.{seats}
-use Rattle.encoding.specs.Encoding.{each, recordNumbers, recordsEncoding}
+use Rattle.encoding.specs.Encoding.{recordsCount, each, recordNumbers, recordsEncoding}
 use Rattle.encoding.proofs.Rows.{next-row, record-long}
 use Rattle.encoding.proofs.encode_records.Statement.{statement}
 use Rattle.encoding.proofs.encode_records.Tie as tie
 
 abbrev Inv-loop : tie.InvT-loop
-Inv-loop numbers₀ records i₀ numbers i = (i ≤ seats) × (length numbers ≡ 256) × (take (16 * i) numbers ≡ each recordNumbers (take i records))
+Inv-loop numbers₀ records i₀ numbers i = (i ≤ seats) × (length numbers ≡ recordsCount) × (take (16 * i) numbers ≡ each recordNumbers (take i records))
 
 abbrev μ-loop : tie.MeasureT-loop
 μ-loop numbers₀ records i₀ numbers i = seats - i
