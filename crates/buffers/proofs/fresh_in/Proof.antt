@@ -5,7 +5,6 @@ use Rattle.world.specs.World.{fresh}
 use Rattle.world.specs.Calls.{accepted}
 use Rattle.encoding.specs.Encoding.{encoding}
 use Rattle.buffers.proofs.Answers.{accepted-kept, wrong-length, right-length}
-use borrow.Author.Needs.{needs}
 use Rattle.buffers.proofs.fresh_in.Statement.{statement}
 use Rattle.buffers.proofs.fresh_in.Tie as tie
 
@@ -13,13 +12,13 @@ returns : tie.Need-returns
 returns c = wrong-length _ (c .before .args .world .now) (c .if1 .taken)
 
 fresh-requires : tie.Need-fresh-requires
-fresh-requires c κs = search needs
+fresh-requires c κs = tt
 
 encode-requires : tie.Need-encode-requires
-encode-requires c κs = search needs
+encode-requires c κs = c .before .before .if1 .left
 
 same-length : tie.Need-same-length
-same-length c = search needs
+same-length c = c .before .encode .kept .1 .0
 
 returns-2 : tie.Need-returns-2
 returns-2 c =

@@ -1,14 +1,13 @@
 -- `buffers::keep` meets its contract. Assumes nothing.
 use Rattle.buffers.proofs.Answers.{accepted-kept, refused-kept}
-use borrow.Author.Needs.{needs}
 use Rattle.buffers.proofs.keep.Statement.{statement}
 use Rattle.buffers.proofs.keep.Tie as tie
 
 encode-requires : tie.Need-encode-requires
-encode-requires c κs = search needs
+encode-requires c κs = c .before .before .before .before .pre
 
 same-length : tie.Need-same-length
-same-length c = search needs
+same-length c = c .before .encode .kept .1 .0
 
 returns : tie.Need-returns
 returns c = accepted-kept (c .before .before .before .before .before .before .args .world .now) (c .before .before .before .before .before .before .args .answer) (c .before .encode .last .1 .0) (c .before .before .before .before .if1 .taken) (c .before .encode .ensures)

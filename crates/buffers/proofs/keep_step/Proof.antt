@@ -1,20 +1,19 @@
 -- `buffers::keep_step` meets its contract. Assumes nothing.
 use Rattle.buffers.proofs.Answers.{accepted-step-kept, refused-step-kept}
-use borrow.Author.Needs.{needs}
 use Rattle.buffers.proofs.keep_step.Statement.{statement}
 use Rattle.buffers.proofs.keep_step.Tie as tie
 
 encode-requires : tie.Need-encode-requires
-encode-requires c κs = search needs
+encode-requires c κs = c .before .before .before .before .before .pre .0
 
 encode-records-requires : tie.Need-encode-records-requires
-encode-records-requires c κs = search needs
+encode-records-requires c κs = c .before .before .before .before .before .before .before .before .pre .1
 
 same-length : tie.Need-same-length
-same-length c = search needs
+same-length c = c .before .before .before .before .encode .kept .1 .0
 
 same-length-2 : tie.Need-same-length-2
-same-length-2 c = search needs
+same-length-2 c = c .before .encode-records .kept .1 .0
 
 returns : tie.Need-returns
 returns c = let a = c .before .before .before .before .before .before .before .before .before .before .args in accepted-step-kept (a .world .now) (a .records .now) (a .stepped) (c .before .before .before .before .encode .last .1 .0) (c .before .encode-records .last .1 .0) (c .before .before .before .before .before .before .before .before .if1 .taken) (c .before .before .before .before .encode .ensures) (c .before .encode-records .ensures)
