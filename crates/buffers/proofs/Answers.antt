@@ -11,8 +11,9 @@ use Rattle.world.specs.Step.{step}
 use Rattle.world.specs.declared.Answer.{Answer}
 use Rattle.world.specs.declared.Stepped.{Stepped}
 use Rattle.world.specs.declared.World.{World}
-use Rattle.encoding.specs.Encoding.{encoding, recordsEncoding, decoding}
-use Rattle.buffers.specs.Buffers.{Left, LeftByStep, worldCount, recordsCount, badLength, keep, callIn, keepStep, stepIn}
+use Rattle.encoding.specs.Encoding.{worldCount, recordsCount, encoding, recordsEncoding}
+use Rattle.decoding.specs.Decoding.{decoding}
+use Rattle.buffers.specs.Buffers.{Left, LeftByStep, badLength, keep, callIn, keepStep, stepIn}
 
 -- ---- a call's answer
 module _ (l : List ℤ) (a : Answer) where

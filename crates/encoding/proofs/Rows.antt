@@ -1,21 +1,21 @@
--- Rows of numbers, one after the other: the last of them, written and read. Assumes nothing.
-use Prim.Native.Nat.{ℕ, zero, suc, _+_, _*_, _≤_, _<_}
-use mathlib.Core.Path.{_≡_, refl, sym, ap, _∙_}
+-- Rows of numbers that are written one after the other; numbers that were kept as their bits. Assumes nothing.
+use Prim.Native.Nat.{ℕ, _+_, _*_, _≤_, _<_}
+use mathlib.Core.Path.{_≡_, refl, sym, ap, ap₂, _∙_}
 use mathlib.Core.List.{List, [], _∷_, _++_, map, append-assoc, append-nil}
-use native.Mathlib.Nat.{mul-suc, add-comm, le-of-suc-le-suc}
+use native.Mathlib.Nat.{mul-zero, mul-suc, add-comm}
 use native.Mathlib.Numerals.{add-one}
 use native.Mathlib.Omega.{arith}
 use lib.IntN.{ℤ}
-use lib.ListN.{length, take, drop, set, getD}
-use lib.Seq.{paste, take-paste, take-suc, take-suc-set, take-length, take-all, drop-drop}
+use lib.ListN.{length, take, getD, length-append}
+use lib.Seq.{paste, take-paste, take-suc, take-length}
 use mir.Facts.{toZ-ofZ}
 use mir.Syntax.{w32}
 use mir.Val.{toZ, ofZ}
-use Rattle.character.specs.Tick.{slotAt}
 use Rattle.character.specs.declared.Slot.{Slot}
 use Rattle.records.specs.Representable.{IsI32}
 use Rattle.world.specs.declared.Published.{Published}
-use Rattle.encoding.specs.Encoding.{each, recordNumbers, seatNumbers, seatOf, seatsOf, decoding}
+use Rattle.world.specs.declared.World.{World}
+use Rattle.encoding.specs.Encoding.{each, recordNumbers, seatNumbers, encoding}
 
 each-last : {A : Type 0} (f : A → List ℤ) (xs : List A) (y : A) → each f (xs ++ (y ∷ [])) ≡ each f xs ++ f y
 unfolding each
@@ -48,36 +48,6 @@ pub record-long : (p : Published) → length (recordNumbers p) ≡ 16
 unfolding recordNumbers
 record-long p = refl
 
--- past one seat more
-later-seat : (i : ℕ) (l : List ℤ) → drop (21 * i) (drop 21 l) ≡ drop (21 * suc i) l
-later-seat i l = drop-drop (21 * i) 21 l ∙ ap (λ (k : ℕ). drop k l) (add-comm 21 (21 * i) ∙ sym (mul-suc 21 i))
-
-seats-last : (i : ℕ) (l : List ℤ) → seatsOf (suc i) l ≡ seatsOf i l ++ (seatOf (drop (21 * i) l) ∷ [])
-unfolding seatsOf
-seats-last zero l = refl
-seats-last (suc i) l = ap (λ (ss : List Slot). seatOf l ∷ ss) (seats-last i (drop 21 l) ∙ ap (λ (m : List ℤ). seatsOf i (drop 21 l) ++ (seatOf m ∷ [])) (later-seat i l))
-
--- the first i seats are read, and the next one from where its numbers start
-pub next-seat : (i : ℕ) (l : List ℤ) (ss : List Slot) (s : Slot) → i < length ss → take i ss ≡ seatsOf i (drop 18 l) → s ≡ seatOf (drop (18 + 21 * i) l) → take (i + 1) (set ss i s) ≡ seatsOf (i + 1) (drop 18 l)
-next-seat i l ss s h q e =
-    ap (λ (k : ℕ). take k (set ss i s)) (add-one i)
-    ∙ take-suc-set ss i s h
-    ∙ ap (λ (ts : List Slot). ts ++ (s ∷ [])) q
-    ∙ ap (λ (t : Slot). seatsOf i (drop 18 l) ++ (t ∷ [])) (e ∙ ap seatOf (sym (drop-drop (21 * i) 18 l)))
-    ∙ sym (seats-last i (drop 18 l))
-    ∙ ap (λ (k : ℕ). seatsOf k (drop 18 l)) (sym (add-one i))
-
--- the seat of an id, out of all of them
-seat-in : (n k : ℕ) (l : List ℤ) → k < n → slotAt (seatsOf n l) k ≡ seatOf (drop (21 * k) l)
-unfolding seatsOf
-seat-in zero k l h = absurd (omega arith)
-seat-in (suc n) zero l h = refl
-seat-in (suc n) (suc k) l h = seat-in n k (drop 21 l) (le-of-suc-le-suc h) ∙ ap seatOf (later-seat k l)
-
-pub seat-is : (n k : ℕ) (l : List ℤ) → k < n → slotAt (decoding n l .slots) k ≡ seatOf (drop (18 + 21 * k) l)
-unfolding decoding
-seat-is n k l h = seat-in n k (drop 18 l) h ∙ ap seatOf (drop-drop (21 * k) 18 l)
-
 -- ---- numbers that were kept as their bits
 pub again : {z : ℤ} → IsI32 z → toZ w32 (ofZ w32 z) ≡ z
 again h = toZ-ofZ (record { sfits = h })
@@ -89,3 +59,13 @@ AllI32 (z ∷ zs) = IsI32 z × AllI32 zs
 pub all-again : (zs : List ℤ) → AllI32 zs → map (λ (z : ℤ). toZ w32 (ofZ w32 z)) zs ≡ zs
 all-again [] a = refl
 all-again (z ∷ zs) a = let e = again {z = z} (a .0) in let f = all-again zs (a .1) in cc
+
+-- ---- how long the numbers of a world are
+each-long : {A : Type 0} (f : A → List ℤ) (k : ℕ) → ((x : A) → length (f x) ≡ k) → (xs : List A) → length (each f xs) ≡ k * length xs
+unfolding each
+each-long f k h [] = sym (mul-zero k)
+each-long f k h (x ∷ xs) = length-append (f x) (each f xs) ∙ ap₂ _+_ (h x) (each-long f k h xs) ∙ add-comm k (k * length xs) ∙ sym (mul-suc k (length xs))
+
+pub encoding-long : (w : World) → length (encoding w) ≡ length (w .tunings) + 21 * length (w .slots)
+unfolding encoding
+encoding-long w = length-append (w .tunings) (each seatNumbers (w .slots)) ∙ ap (λ (n : ℕ). length (w .tunings) + n) (each-long seatNumbers 21 seat-long (w .slots))

@@ -1,21 +1,47 @@
--- A world of n seats as a list of numbers, and back; the records of a step as a list of numbers. Definitions only.
-use Prim.Native.Nat.{ℕ, zero, suc}
-use mathlib.Core.Bool.{Bool, true, false, cond}
+-- A world as a list of numbers, and the records of a step as one. Definitions only; the way back is `decoding` (decoding/specs/Decoding.antt).
+use Prim.Native.Nat.{ℕ, _+_, _*_}
+use mathlib.Core.Bool.{Bool, cond}
 use mathlib.Core.List.{List, [], _∷_, _++_}
-use lib.IntN.{ℤ, pos, negsuc}
-use lib.ListN.{take, drop, getD}
+use lib.IntN.{ℤ, pos}
 use Rattle.snap_obj.specs.declared.CharacterCore.{CharacterCore}
 use Rattle.snap_obj.specs.declared.PlayerInput.{PlayerInput}
+use Rattle.character.specs.Tick.{seats}
 use Rattle.character.specs.declared.Slot.{Slot}
-use Rattle.records.specs.Records.{toNet, fromNet}
+use Rattle.records.specs.Records.{toNet}
 use Rattle.records.specs.declared.Net.{Net}
 use Rattle.records.specs.declared.Net.the-variants as net
+use Rattle.world.specs.World.{tuningCount}
 use Rattle.world.specs.Step.{noCore}
-use Rattle.world.specs.World.{tuningCount, emptySlot}
 use Rattle.world.specs.declared.Published.{Published}
 use Rattle.world.specs.declared.World.{World}
 
--- ---- into numbers
+-- ---- how many numbers there are
+
+-- in a record
+abbrev pub coreCount : ℕ
+coreCount = 15
+
+-- in an input
+abbrev pub inputCount : ℕ
+inputCount = 5
+
+-- of a seat among the records of a step: its presence and its record
+abbrev pub recordCount : ℕ
+recordCount = 1 + coreCount
+
+-- of a seat in a world: the same and its input
+abbrev pub seatCount : ℕ
+seatCount = recordCount + inputCount
+
+-- in a world
+abbrev pub worldCount : ℕ
+worldCount = tuningCount + seatCount * seats
+
+-- in the records of a step
+abbrev pub recordsCount : ℕ
+recordsCount = recordCount * seats
+
+-- ---- which they are
 
 -- f of each, one after the other
 unfoldable pub each : {A : Type 0} → (A → List ℤ) → List A → List ℤ
@@ -54,69 +80,3 @@ encoding w = w .tunings ++ each seatNumbers (w .slots)
 -- the records of a step, seat by seat
 unfoldable pub recordsEncoding : List Published → List ℤ
 recordsEncoding rs = each recordNumbers rs
-
--- ---- and back
-
--- how many numbers a seat has
-abbrev pub seatCount : ℕ
-seatCount = 21
-
--- the k-th number, 0 past the end
-abbrev pub numberAt : List ℤ → ℕ → ℤ
-numberAt l k = getD l k (pos 0)
-
--- whether a seat's first number says that somebody is there
-unfoldable pub isPresent : ℤ → Bool
-isPresent (pos zero) = false
-isPresent (pos (suc k)) = true
-isPresent (negsuc k) = true
-
--- what is below zero reads as 0
-unfoldable pub fromZero : ℤ → ℤ
-fromZero (pos k) = pos k
-fromZero (negsuc k) = pos 0
-
--- n with another hook tick
-abbrev pub withTicks : CharacterCore → ℤ → CharacterCore
-withTicks n t = record { tick = n .tick; x = n .x; y = n .y; «vel_x» = n .«vel_x»; «vel_y» = n .«vel_y»; angle = n .angle; direction = n .direction; jumped = n .jumped; «hooked_player» = n .«hooked_player»; «hook_state» = n .«hook_state»; «hook_tick» = record { 0 = t }; «hook_x» = n .«hook_x»; «hook_y» = n .«hook_y»; «hook_dx» = n .«hook_dx»; «hook_dy» = n .«hook_dy» }
-
--- a hook tick below zero reads as 0: else somebody could be held for so many ticks that no record holds them
-unfoldable pub readable : CharacterCore → CharacterCore
-readable n = withTicks n (fromZero (n .«hook_tick» .0))
-
--- the record in the numbers of a seat, after its presence
-unfoldable pub seatCore : List ℤ → CharacterCore
-seatCore l = record {
-  tick = numberAt l 1;
-  x = numberAt l 2;
-  y = numberAt l 3;
-  «vel_x» = numberAt l 4;
-  «vel_y» = numberAt l 5;
-  angle = numberAt l 6;
-  direction = numberAt l 7;
-  jumped = numberAt l 8;
-  «hooked_player» = numberAt l 9;
-  «hook_state» = numberAt l 10;
-  «hook_tick» = record { 0 = numberAt l 11 };
-  «hook_x» = numberAt l 12;
-  «hook_y» = numberAt l 13;
-  «hook_dx» = numberAt l 14;
-  «hook_dy» = numberAt l 15;
-}
-
--- the input after the record
-unfoldable pub seatInput : List ℤ → PlayerInput
-seatInput l = record { direction = numberAt l 16; «target_x» = numberAt l 17; «target_y» = numberAt l 18; jump = numberAt l 19; hook = numberAt l 20 }
-
--- the seat whose numbers l starts with; where nobody is there the rest of them says nothing
-unfoldable pub seatOf : List ℤ → Slot
-seatOf l = cond (isPresent (numberAt l 0)) (record { present = true; character = fromNet (readable (seatCore l)); input = seatInput l }) emptySlot
-
--- n seats, one after the other
-unfoldable pub seatsOf : ℕ → List ℤ → List Slot
-seatsOf zero l = []
-seatsOf (suc n) l = seatOf l ∷ seatsOf n (drop seatCount l)
-
--- the tunings, then n seats
-unfoldable pub decoding : ℕ → List ℤ → World
-decoding n l = record { slots = seatsOf n (drop tuningCount l); tunings = take tuningCount l }

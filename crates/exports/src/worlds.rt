@@ -6,8 +6,10 @@ ghost use Rattle.character.specs.Tick.{seats};
 ghost use Rattle.world.specs.World.{fresh};
 ghost use Rattle.world.specs.Calls.{accepted, join, leave, input, tune};
 ghost use Rattle.world.specs.Demand3.{inputOf};
-ghost use Rattle.buffers.specs.Buffers.{callIn, stepIn, readIn, recordOf, tuningIn};
-ghost use Rattle.buffers.specs.Buffers as buffers;
+ghost use Rattle.encoding.specs.Encoding.{coreCount, inputCount};
+ghost use Rattle.buffers.specs.Buffers.{callIn, stepIn};
+ghost use Rattle.readers.specs.Readers.{readIn, recordOf, tuningIn};
+ghost use Rattle.readers.specs.Readers as readers;
 ghost use Rattle.exports.specs.Walks.{sidesOf};
 
 #[no_mangle]
@@ -29,8 +31,7 @@ pub extern "C" fn ponguriena_join(
 ) -> u32
     ensures { λ r. ⌜ callIn (λ w. join seats w (sidesOf width height) (now (tiles .entry)) id x y) (now (world .entry)) ≡ record { number = r; world = now (world .exit) } ⌝ }
 {
-    let sides = Sides { width, height };
-    buffers::join_in(world, sides, tiles, id, x, y)
+    buffers::join_in(world, Sides { width, height }, tiles, id, x, y)
 }
 
 #[no_mangle]
@@ -79,27 +80,26 @@ pub extern "C" fn ponguriena_step(
 ) -> u32
     ensures { λ r. ⌜ stepIn (sidesOf width height) (now (tiles .entry)) (now (world .entry)) (now (records .entry)) ≡ record { number = r; world = now (world .exit); records = now (records .exit) } ⌝ }
 {
-    let sides = Sides { width, height };
-    buffers::step_in(world, sides, tiles, records)
+    buffers::step_in(world, Sides { width, height }, tiles, records)
 }
 
 #[no_mangle]
 pub extern "C" fn ponguriena_record(world: &[i32], id: i32, record: &mut [i32]) -> u32
-    ensures { λ r. ⌜ readIn 15 recordOf (now (world .entry)) id (now («record» .entry)) ≡ record { number = r; numbers = now («record» .exit) } ⌝ }
+    ensures { λ r. ⌜ readIn coreCount recordOf (now (world .entry)) id (now («record» .entry)) ≡ record { number = r; numbers = now («record» .exit) } ⌝ }
 {
-    buffers::record_in(world, id, record)
+    readers::record_in(world, id, record)
 }
 
 #[no_mangle]
 pub extern "C" fn ponguriena_player_input(world: &[i32], id: i32, input: &mut [i32]) -> u32
-    ensures { λ r. ⌜ readIn 5 buffers.inputOf (now (world .entry)) id (now (input .entry)) ≡ record { number = r; numbers = now (input .exit) } ⌝ }
+    ensures { λ r. ⌜ readIn inputCount readers.inputOf (now (world .entry)) id (now (input .entry)) ≡ record { number = r; numbers = now (input .exit) } ⌝ }
 {
-    buffers::player_input_in(world, id, input)
+    readers::player_input_in(world, id, input)
 }
 
 #[no_mangle]
 pub extern "C" fn ponguriena_tuning(world: &[i32], index: i32, value: &mut i32) -> u32
     ensures { λ r. ⌜ tuningIn (now (world .entry)) index (now (value .entry)) ≡ record { number = r; value = now (value .exit) } ⌝ }
 {
-    buffers::tuning_in(world, index, value)
+    readers::tuning_in(world, index, value)
 }

@@ -1,0 +1,85 @@
+-- A world whose characters are representable and whose empty seats are as fresh ones comes back from its numbers. Assumes nothing.
+use Prim.Native.Nat.{ℕ, zero, suc, _≤_, _<_, zero-le, suc-le-suc}
+use mathlib.Core.Bool.{Bool, true, false}
+use mathlib.Core.List.{List, [], _∷_, _++_}
+use mathlib.Core.Path.{_≡_, refl, sym, ap, ap₂, _∙_}
+use native.Mathlib.Omega.{arith}
+use lib.Dec.{leb}
+use lib.IntN.{ℤ, pos}
+use lib.ListN.{length, take, drop}
+use lib.Seq.{take-at, drop-at}
+use borrow.Author.Tests.{leb-true}
+use Rattle.snap_obj.specs.declared.CharacterCore.{CharacterCore}
+use Rattle.character.specs.Tick.{slotAt}
+use Rattle.character.specs.declared.Character.{Character}
+use Rattle.character.specs.declared.Slot.{Slot}
+use Rattle.hook.specs.Hook.{tickOf}
+use Rattle.records.specs.Records.{coreOf, mostTick, toNet, fromNet, quantize}
+use Rattle.records.specs.Representable.{Representable}
+use Rattle.records.proofs.Back.{from-core, to-core, representable-back}
+use Rattle.records.specs.declared.Net.{Net}
+use Rattle.records.specs.declared.Quantized.the-variants as quantized
+use Rattle.world.specs.World.{tuningCount, emptySlot}
+use Rattle.world.specs.declared.World.{World}
+use Rattle.encoding.specs.Encoding.{each, coreNumbers, inputNumbers, coreIn, seatNumbers, encoding}
+use Rattle.decoding.specs.Decoding.{fromZero, isPresent, readable, seatCore, seatInput, seatOf, seatsOf, decoding}
+
+-- what is asked of a seat
+record Kept (s : Slot) : Type 0 where
+  somebody : s .present ≡ true → Representable (s .character)
+  nobody : s .present ≡ false → s ≡ emptySlot
+
+-- a representable character has a record, which is read as it is
+ticks-fit : (c : Character) → Representable c → tickOf (c .hook) ≤ mostTick
+unfolding quantize toNet
+ticks-fit c r = go (leb (tickOf (c .hook)) mostTick) refl
+  where
+    go : (b : Bool) → leb (tickOf (c .hook)) mostTick ≡ b → tickOf (c .hook) ≤ mostTick
+    go true e = leb-true (tickOf (c .hook)) mostTick e
+    go false e =
+        let q : quantize c ≡ quantized.TickTooLarge = rw e refl in
+        let p = representable-back c r in
+        let z : _≡_ {A = ℕ} 0 1 = cc in
+        omega arith
+
+record-back : (c : Character) → Representable c → fromNet (readable (coreIn (toNet c))) ≡ c
+unfolding readable fromZero coreOf
+record-back c r = ap (λ (n : Net). fromNet (readable (coreIn n))) (to-core c (ticks-fit c r)) ∙ from-core c r
+
+-- a seat, whatever stands after it
+seat-back : (s : Slot) (l : List ℤ) → Kept s → seatOf (seatNumbers s ++ l) ≡ s
+unfolding seatOf seatNumbers isPresent seatCore seatInput
+seat-back s l k = go (s .present) refl
+  where
+    go : (b : Bool) → s .present ≡ b → seatOf (seatNumbers s ++ l) ≡ s
+    go true e = rw e (ap (λ (c : Character). record { present = true; character = c; input = s .input }) (record-back (s .character) (k .somebody e)))
+    go false e = rw e (sym (k .nobody e) ∙ ap (λ (b : Bool). record { present = b; character = s .character; input = s .input }) e)
+
+-- the numbers of a seat are passed
+seat-passed : (s : Slot) (l : List ℤ) → drop 21 (seatNumbers s ++ l) ≡ l
+unfolding seatNumbers
+seat-passed s l = refl
+
+AllKept : List Slot → Type 0
+AllKept [] = Unit {0}
+AllKept (s ∷ ss) = Kept s × AllKept ss
+
+seats-back : (ss : List Slot) → AllKept ss → seatsOf (length ss) (each seatNumbers ss) ≡ ss
+unfolding each seatsOf AllKept
+seats-back [] a = refl
+seats-back (s ∷ ss) a = ap₂ _∷_ (seat-back s (each seatNumbers ss) (a .0)) (ap (seatsOf (length ss)) (seat-passed s (each seatNumbers ss)) ∙ seats-back ss (a .1))
+
+-- of every place, of every element
+all-kept : (ss : List Slot) → ((k : ℕ) → k < length ss → Kept (slotAt ss k)) → AllKept ss
+unfolding AllKept
+all-kept [] h = tt
+all-kept (s ∷ ss) h = (h 0 (suc-le-suc zero-le), all-kept ss (λ k l. h (suc k) (suc-le-suc l)))
+
+pub decoding-encoding : (n : ℕ) (w : World) → length (w .slots) ≡ n → length (w .tunings) ≡ tuningCount → ((k : ℕ) → k < n → slotAt (w .slots) k .present ≡ true → Representable (slotAt (w .slots) k .character)) → ((k : ℕ) → k < n → slotAt (w .slots) k .present ≡ false → slotAt (w .slots) k ≡ emptySlot) → decoding n (encoding w) ≡ w
+unfolding decoding encoding
+decoding-encoding n w s t p q =
+    let r : List ℤ = each seatNumbers (w .slots) in
+    let a = all-kept (w .slots) (λ k l. let h : k < n = omega (arith, s) in record { somebody = p k h; nobody = q k h }) in
+    ap₂ (λ (ss : List Slot) (ts : List ℤ). record { slots = ss; tunings = ts })
+    (ap (seatsOf n) (drop-at (w .tunings) r 18 t) ∙ ap (λ (m : ℕ). seatsOf m r) (sym s) ∙ seats-back (w .slots) a)
+    (take-at (w .tunings) r 18 t)

@@ -1,0 +1,23 @@
+-- `decoding::readable` meets its contract. Assumes nothing.
+use mir.Facts.{toZ-ofZ}
+use mir.Syntax.{w32}
+use mathlib.Core.Path.{_≡_, ap, _∙_}
+use Rattle.decoding.specs.Decoding.{fromZero, withTicks, readable}
+use Rattle.encoding.proofs.Rows.{again}
+use borrow.Author.Needs.{needs}
+use Rattle.decoding.proofs.readable.Statement.{statement}
+use Rattle.decoding.proofs.readable.Tie as tie
+
+from-zero-requires : tie.Need-from-zero-requires
+from-zero-requires c κs = search needs
+
+returns : tie.Need-returns
+unfolding readable
+returns c =
+    let z = c .from-zero in
+    let n = c .before .before .before .args .core in
+    let e : z .result ≡ fromZero (n .«hook_tick» .0) = z .ensures ∙ ap fromZero (toZ-ofZ {w = w32} (search needs)) in
+    ap (withTicks n) (again {z = z .result} (z .ok) ∙ e)
+
+pub readable-spec : {M : Type 1} → statement M
+readable-spec = tie.close (tie.spec from-zero-requires returns)
