@@ -1,15 +1,14 @@
 -- A world whose characters are representable and whose empty seats are as fresh ones comes back from its numbers. Assumes nothing.
-use Prim.Native.Nat.{ℕ, zero, suc, _≤_, _<_, zero-le, suc-le-suc}
+use Prim.Native.Nat.{ℕ, suc, _≤_, _<_, zero-le, suc-le-suc}
 use mathlib.Core.Bool.{Bool, true, false}
 use mathlib.Core.List.{List, [], _∷_, _++_}
 use mathlib.Core.Path.{_≡_, refl, sym, ap, ap₂, _∙_}
 use native.Mathlib.Omega.{arith}
 use lib.Dec.{leb}
-use lib.IntN.{ℤ, pos}
-use lib.ListN.{length, take, drop}
+use lib.IntN.{ℤ}
+use lib.ListN.{length, drop}
 use lib.Seq.{take-at, drop-at}
 use borrow.Author.Tests.{leb-true}
-use Rattle.snap_obj.specs.declared.CharacterCore.{CharacterCore}
 use Rattle.character.specs.Tick.{slotAt}
 use Rattle.character.specs.declared.Character.{Character}
 use Rattle.character.specs.declared.Slot.{Slot}
@@ -21,7 +20,7 @@ use Rattle.records.specs.declared.Net.{Net}
 use Rattle.records.specs.declared.Quantized.the-variants as quantized
 use Rattle.world.specs.World.{tuningCount, emptySlot}
 use Rattle.world.specs.declared.World.{World}
-use Rattle.encoding.specs.Encoding.{each, coreNumbers, inputNumbers, coreIn, seatNumbers, encoding}
+use Rattle.encoding.specs.Encoding.{each, coreIn, seatNumbers, encoding}
 use Rattle.decoding.specs.Decoding.{fromZero, isPresent, readable, seatCore, seatInput, seatOf, seatsOf, decoding}
 
 -- what is asked of a seat

@@ -6,7 +6,7 @@ use mathlib.Core.Path.{_≡_, sym, ap, ap₂, _∙_}
 use mathlib.Core.List.{List, _++_, append-nil}
 use native.Mathlib.Omega.{arith}
 use lib.ListN.{length, take, length-map}
-use lib.Seq.{take-all, take-length}
+use lib.Seq.{take-all}
 use borrow.Author.Needs.{needs}
 use Rattle.character.specs.Tick.{seats}
 use Rattle.encoding.specs.Encoding.{worldCount, each, seatNumbers, encoding}

@@ -4,7 +4,7 @@ use mathlib.Core.Path.{_≡_, refl, sym, ap, _∙_}
 use mathlib.Core.List.{[]}
 use native.Mathlib.Omega.{arith}
 use lib.ListN.{length, take}
-use lib.Seq.{take-all, take-length}
+use lib.Seq.{take-all}
 use borrow.Author.Needs.{needs}
 use Rattle.character.specs.Tick.{seats}
 use Rattle.encoding.specs.Encoding.{recordsCount, each, recordNumbers, recordsEncoding}

@@ -1,10 +1,8 @@
 -- `readers::tuning_in` meets its contract. Assumes nothing.
 use mathlib.Core.Path.{_≡_, ap, _∙_}
-use lib.IntN.{ℤ}
 use mir.Facts.{toZ-ofZ}
 use Rattle.world.specs.Calls.{placeOf}
 use Rattle.encoding.proofs.Rows.{again}
-use Rattle.readers.specs.Readers.{Tuned}
 use Rattle.readers.proofs.Readings.{tuning-wrong, no-tuning, tuning-told}
 use borrow.Author.Needs.{needs}
 use Rattle.readers.proofs.tuning_in.Statement.{statement}

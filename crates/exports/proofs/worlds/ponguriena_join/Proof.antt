@@ -1,14 +1,13 @@
 -- `exports::worlds::ponguriena_join` meets its contract. Assumes nothing.
 use mir.Facts.{toZ-ofZ}
-use borrow.Author.Needs.{needs}
 use Rattle.exports.proofs.worlds.ponguriena_join.Statement.{statement}
 use Rattle.exports.proofs.worlds.ponguriena_join.Tie as tie
 
 join-in-requires : tie.Need-join-in-requires
-join-in-requires c κs = search needs
+join-in-requires c κs = tt
 
 same-length : tie.Need-same-length
-same-length c = search needs
+same-length c = c .before .join-in .kept .0
 
 returns : tie.Need-returns
 returns c = let f = c .before .before .before .before .fits in rw (toZ-ofZ (f .id), toZ-ofZ (f .x), toZ-ofZ (f .y)) at (c .before .join-in .ensures)

@@ -1,14 +1,13 @@
 -- `exports::worlds::ponguriena_leave` meets its contract. Assumes nothing.
 use mir.Facts.{toZ-ofZ}
-use borrow.Author.Needs.{needs}
 use Rattle.exports.proofs.worlds.ponguriena_leave.Statement.{statement}
 use Rattle.exports.proofs.worlds.ponguriena_leave.Tie as tie
 
 leave-in-requires : tie.Need-leave-in-requires
-leave-in-requires c κs = search needs
+leave-in-requires c κs = tt
 
 same-length : tie.Need-same-length
-same-length c = search needs
+same-length c = c .before .leave-in .kept .0
 
 returns : tie.Need-returns
 returns c = let f = c .before .before .before .fits in rw (toZ-ofZ (f .id)) at (c .before .leave-in .ensures)

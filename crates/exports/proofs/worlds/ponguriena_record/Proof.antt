@@ -1,14 +1,13 @@
 -- `exports::worlds::ponguriena_record` meets its contract. Assumes nothing.
 use mir.Facts.{toZ-ofZ}
-use borrow.Author.Needs.{needs}
 use Rattle.exports.proofs.worlds.ponguriena_record.Statement.{statement}
 use Rattle.exports.proofs.worlds.ponguriena_record.Tie as tie
 
 record-in-requires : tie.Need-record-in-requires
-record-in-requires c κs = search needs
+record-in-requires c κs = tt
 
 same-length : tie.Need-same-length
-same-length c = search needs
+same-length c = c .before .record-in .kept .1 .1 .0
 
 returns : tie.Need-returns
 returns c = let f = c .before .before .before .fits in rw (toZ-ofZ (f .id)) at (c .before .record-in .ensures)

@@ -1,14 +1,13 @@
 -- `exports::worlds::ponguriena_tune` meets its contract. Assumes nothing.
 use mir.Facts.{toZ-ofZ}
-use borrow.Author.Needs.{needs}
 use Rattle.exports.proofs.worlds.ponguriena_tune.Statement.{statement}
 use Rattle.exports.proofs.worlds.ponguriena_tune.Tie as tie
 
 tune-in-requires : tie.Need-tune-in-requires
-tune-in-requires c κs = search needs
+tune-in-requires c κs = tt
 
 same-length : tie.Need-same-length
-same-length c = search needs
+same-length c = c .before .tune-in .kept .0
 
 returns : tie.Need-returns
 returns c = let f = c .before .before .before .fits in rw (toZ-ofZ (f .index), toZ-ofZ (f .value)) at (c .before .tune-in .ensures)

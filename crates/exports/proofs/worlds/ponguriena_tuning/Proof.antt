@@ -1,11 +1,10 @@
 -- `exports::worlds::ponguriena_tuning` meets its contract. Assumes nothing.
 use mir.Facts.{toZ-ofZ}
-use borrow.Author.Needs.{needs}
 use Rattle.exports.proofs.worlds.ponguriena_tuning.Statement.{statement}
 use Rattle.exports.proofs.worlds.ponguriena_tuning.Tie as tie
 
 tuning-in-requires : tie.Need-tuning-in-requires
-tuning-in-requires c κs = search needs
+tuning-in-requires c κs = tt
 
 returns : tie.Need-returns
 returns c = let f = c .before .before .fits in rw (toZ-ofZ (f .index)) at (c .tuning-in .ensures)
