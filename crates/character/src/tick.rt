@@ -11,19 +11,17 @@ use controls::landed;
 use controls::walk;
 use dragging::dragged;
 use flying::Way;
+use flying::fire_at_target;
 use flying::flown;
 use hook::CharacterId;
 use hook::Hook;
 use hooking::Nearest;
-use hooking::fire;
 use hooking::grab;
 use hooking::hold;
 use hooking::nearer;
 use inputs::aim;
-use inputs::hooks;
 use inputs::jumps;
 use inputs::move_direction;
-use inputs::target_dir;
 use meeting::meet;
 use snap_obj::PlayerInput;
 use tiles::Sides;
@@ -147,7 +145,7 @@ impl Character {
             used_airjump: self.used_airjump,
         };
         let jumped = jump(before, jumps(input), grounded, tuning);
-        let hook = fire(idle, hooks(input), pos, target_dir(input));
+        let hook = fire_at_target(idle, pos, input);
         let vel_x = walk(self.vel.x, direction, control_of(grounded, tuning));
         Character {
             pos: pos,

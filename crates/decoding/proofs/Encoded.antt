@@ -1,4 +1,4 @@
--- A world whose characters are representable and whose empty seats are as fresh ones comes back from its numbers. Assumes nothing.
+-- Every world that calls can reach comes back from its numbers. Assumes nothing.
 use Prim.Native.Nat.{ℕ, suc, _≤_, _<_, zero-le, suc-le-suc}
 use mathlib.Core.Bool.{Bool, true, false}
 use mathlib.Core.List.{List, [], _∷_, _++_}
@@ -18,10 +18,13 @@ use Rattle.records.specs.Representable.{Representable}
 use Rattle.records.proofs.Back.{from-core, to-core, representable-back}
 use Rattle.records.specs.declared.Net.{Net}
 use Rattle.records.specs.declared.Quantized.the-variants as quantized
-use Rattle.world.specs.World.{tuningCount, emptySlot}
+use Rattle.world.specs.World.{emptySlot, fresh}
+use Rattle.world.specs.Demand3.{after}
+use Rattle.world.specs.Settled.{Settled}
+use Rattle.world.proofs.Settled.{after-settled}
 use Rattle.world.specs.declared.World.{World}
 use Rattle.encoding.specs.Encoding.{each, coreIn, seatNumbers, encoding}
-use Rattle.decoding.specs.Decoding.{fromZero, isPresent, readable, seatCore, seatInput, seatOf, seatsOf, decoding}
+use Rattle.decoding.specs.Decoding.{fromZero, isPresent, readable, seatCore, seatInput, seatOf, seatsOf, decoding, ComesBack}
 
 -- what is asked of a seat
 record Kept (s : Slot) : Type 0 where
@@ -74,11 +77,14 @@ unfolding AllKept
 all-kept [] h = tt
 all-kept (s ∷ ss) h = (h 0 (suc-le-suc zero-le), all-kept ss (λ k l. h (suc k) (suc-le-suc l)))
 
-pub decoding-encoding : (n : ℕ) (w : World) → length (w .slots) ≡ n → length (w .tunings) ≡ tuningCount → ((k : ℕ) → k < n → slotAt (w .slots) k .present ≡ true → Representable (slotAt (w .slots) k .character)) → ((k : ℕ) → k < n → slotAt (w .slots) k .present ≡ false → slotAt (w .slots) k ≡ emptySlot) → decoding n (encoding w) ≡ w
+pub decoding-encoding : (n : ℕ) (w : World) → Settled n w → decoding n (encoding w) ≡ w
 unfolding decoding encoding
-decoding-encoding n w s t p q =
+decoding-encoding n w h =
     let r : List ℤ = each seatNumbers (w .slots) in
-    let a = all-kept (w .slots) (λ k l. let h : k < n = omega (arith, s) in record { somebody = p k h; nobody = q k h }) in
+    let a = all-kept (w .slots) (λ k l. let q : k < n = omega (arith, h .seats) in record { somebody = h .representable k q; nobody = h .empty k q }) in
     ap₂ (λ (ss : List Slot) (ts : List ℤ). record { slots = ss; tunings = ts })
-    (ap (seatsOf n) (drop-at (w .tunings) r 18 t) ∙ ap (λ (m : ℕ). seatsOf m r) (sym s) ∙ seats-back (w .slots) a)
-    (take-at (w .tunings) r 18 t)
+    (ap (seatsOf n) (drop-at (w .tunings) r 18 (h .tunings)) ∙ ap (λ (m : ℕ). seatsOf m r) (sym (h .seats)) ∙ seats-back (w .slots) a)
+    (take-at (w .tunings) r 18 (h .tunings))
+
+pub comes-back : (n : ℕ) → ComesBack n
+comes-back n s ts cs = decoding-encoding n (after n s ts (fresh n) cs) (after-settled n s ts cs)

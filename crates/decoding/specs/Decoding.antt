@@ -2,15 +2,19 @@
 use Prim.Native.Nat.{ℕ, zero, suc}
 use mathlib.Core.Bool.{Bool, true, false, cond}
 use mathlib.Core.List.{List, [], _∷_}
+use mathlib.Core.Path.{_≡_}
 use lib.IntN.{ℤ, pos, negsuc}
 use lib.ListN.{take, drop, getD}
+use Rattle.tiles.specs.declared.Sides.{Sides}
+use Rattle.call.specs.declared.Call.{Call}
 use Rattle.snap_obj.specs.declared.CharacterCore.{CharacterCore}
 use Rattle.snap_obj.specs.declared.PlayerInput.{PlayerInput}
 use Rattle.character.specs.declared.Slot.{Slot}
 use Rattle.records.specs.Records.{fromNet}
-use Rattle.world.specs.World.{tuningCount, emptySlot}
+use Rattle.world.specs.World.{tuningCount, emptySlot, fresh}
+use Rattle.world.specs.Demand3.{after}
 use Rattle.world.specs.declared.World.{World}
-use Rattle.encoding.specs.Encoding.{seatCount}
+use Rattle.encoding.specs.Encoding.{seatCount, encoding}
 
 -- the k-th number, 0 past the end
 abbrev pub numberAt : List ℤ → ℕ → ℤ
@@ -71,3 +75,9 @@ seatsOf (suc n) l = seatOf l ∷ seatsOf n (drop seatCount l)
 -- the tunings, then n seats
 unfoldable pub decoding : ℕ → List ℤ → World
 decoding n l = record { slots = seatsOf n (drop tuningCount l); tunings = take tuningCount l }
+
+-- ---- both in turn
+
+-- a world that calls can reach, whatever the map, comes back from its numbers
+abbrev pub ComesBack : ℕ → Type 0
+ComesBack n = (s : Sides) (ts : List ℕ) (cs : List Call) → decoding n (encoding (after n s ts (fresh n) cs)) ≡ after n s ts (fresh n) cs

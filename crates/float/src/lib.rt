@@ -8,6 +8,10 @@ ghost use Rattle.float.specs.Convert.{i32ToF32, hundredthsToF32, quantiz
 pub fn i32_to_f32(n: i32) -> f32
     ensures { λ r. ⌜ r ≡ i32ToF32 n ⌝ }
 {
+    // The machine's own cast, where it loses nothing.
+    if -16777216 <= n && n <= 16777216 {
+        return n as f32;
+    }
     std::num::nearest_i32_to_f32(n)
 }
 

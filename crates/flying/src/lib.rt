@@ -1,16 +1,22 @@
-// How far a hook flies in a tick, and what it strikes on its way.
+// What the button does to a hook in a tick, how far it flies, and what it strikes on its way.
 use hook::Hook;
+use hooking::fire;
 use hooking::fly;
 use hooking::retract;
 use hooking::strike;
+use inputs::hooks;
+use inputs::target_dir;
 use lines::LineCheck;
 use lines::walk_line;
+use snap_obj::PlayerInput;
 use tiles::Sides;
 use tuning::Tuning;
 use vector::vec2;
 ghost use mathlib.Core.Path.{_≡_};
 ghost use lib.Dec.{T};
 ghost use Rattle.tiles.specs.Map.{isMap};
+ghost use Rattle.inputs.specs.Inputs.{targetDir, hooks};
+ghost use Rattle.hooking.specs.Hooking.{fire};
 ghost use Rattle.flying.specs.Flying.{flown};
 
 // What a tick's flight comes to: a hook that stood still, or the way that it flew and the hook at its end.
@@ -18,6 +24,19 @@ pub enum Way {
     TooFar,
     Still(Hook),
     Along(vec2, vec2, Hook),
+}
+
+// The hook's button. Most ticks fire nothing: the target's direction, a root, is found only for a hook that is fired.
+pub fn fire_at_target(hook: Hook, pos: vec2, input: PlayerInput) -> Hook
+    ensures { λ r. ⌜ r ≡ fire hook (hooks input) pos (targetDir input) ⌝ }
+{
+    if hooks(input) {
+        let Hook::Idle = hook else {
+            return hook;
+        };
+        return fire(hook, true, pos, target_dir(input));
+    }
+    Hook::Idle
 }
 
 // A hook that isn't flying leaves early. One that is goes its way, and may strike a tile on it.

@@ -13,14 +13,8 @@ jumps-requires c κs = search needs
 jump-requires : tie.Need-jump-requires
 jump-requires c κs = search needs
 
-hooks-requires : tie.Need-hooks-requires
-hooks-requires c κs = search needs
-
-target-dir-requires : tie.Need-target-dir-requires
-target-dir-requires c κs = search needs
-
-fire-requires : tie.Need-fire-requires
-fire-requires c κs = search needs
+fire-at-target-requires : tie.Need-fire-at-target-requires
+fire-at-target-requires c κs = search needs
 
 control-of-requires : tie.Need-control-of-requires
 control-of-requires c κs = search needs
@@ -39,7 +33,7 @@ aim-requires c κs = search needs
 
 returns : tie.Need-returns
 unfolding steer
-returns c = simp (← c .before .before .before .before .before .before .before .before .before .before .before .before .move-direction .ensures, ← c .before .before .before .before .before .before .before .before .before .jumps .ensures, ← c .before .before .before .before .before .before .before .before .jump .ensures, ← c .before .before .before .before .before .before .before .hooks .ensures, ← c .before .before .before .before .before .before .target-dir .ensures, ← c .before .before .before .before .before .fire .ensures, ← c .before .before .before .before .control-of .ensures, ← c .before .before .before .walk .ensures, ← c .before .before .new .ensures, ← c .before .landed .ensures, ← c .aim .ensures)
+returns c = simp (← c .before .before .before .before .before .before .before .before .before .before .move-direction .ensures, ← c .before .before .before .before .before .before .before .jumps .ensures, ← c .before .before .before .before .before .before .jump .ensures, ← c .before .before .before .before .before .fire-at-target .ensures, ← c .before .before .before .before .control-of .ensures, ← c .before .before .before .walk .ensures, ← c .before .before .new .ensures, ← c .before .landed .ensures, ← c .aim .ensures)
 
 pub steer-spec : {M : Type 1} → statement M
 steer-spec =
@@ -48,9 +42,7 @@ steer-spec =
     move-direction-requires
     jumps-requires
     jump-requires
-    hooks-requires
-    target-dir-requires
-    fire-requires
+    fire-at-target-requires
     control-of-requires
     walk-requires
     new-requires
