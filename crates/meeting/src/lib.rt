@@ -127,7 +127,8 @@ pub fn meet(
         return velocities;
     };
     if hooked.0 == cid {
-        return held(pos, other_pos, velocities, vec2::distance(pos, other_pos), tuning);
+        let distance = vec2::distance(pos, other_pos);
+        return held(pos, other_pos, velocities, distance, tuning);
     }
     velocities
 }

@@ -2,12 +2,12 @@
 use crate::line::Session;
 use crate::line::Turned;
 use crate::line::ended;
-use seats::fresh;
 use map_text::MOST_BYTES;
 use map_text::MapPart;
 use map_text::read_map;
 use output_lines::put_answer;
 use output_lines::put_heading;
+use seats::fresh;
 use tiles::Sides;
 ghost use Prim.Native.Nat.{_≤_};
 ghost use lib.ListN.{length};

@@ -4,13 +4,13 @@ mod digest;
 mod requests;
 mod words;
 
-use seats::fresh;
 use casts::cast_signed;
 use digest::world_digest;
 use libc::STDIN_FILENO;
 use requests::Reply;
 use requests::Request;
 use requests::reply_to;
+use seats::fresh;
 use tiles::Sides;
 use vectors::Counts;
 use vectors::Outcome;
