@@ -79,9 +79,13 @@ retract (Retracting0 p) = Retracting1 p
 retract (Retracting1 p) = Retracting2 p
 retract (Retracting2 p) = Retracted
 
--- one more tick of holding: up to MAX_HOOK_GRAB_TIME
+-- MAX_HOOK_GRAB_TIME
+abbrev pub maxHookGrabTime : ℕ
+maxHookGrabTime = 60
+
+-- one more tick of holding, up to that
 abbrev pub held : CharacterId → ℕ → Hook
-held c t = cond (ltb 60 (t + 1)) Retracted (Grabbed c (t + 1))
+held c t = cond (ltb maxHookGrabTime (t + 1)) Retracted (Grabbed c (t + 1))
 
 unfoldable pub hold : Hook → Hook
 hold h = onGrabbed held h h

@@ -1,6 +1,6 @@
 -- How long lines are, and lines put one after another. Assumes nothing.
 use Prim.Native.Nat.{ℕ, _+_, _*_, _≤_}
-use mathlib.Core.Path.{ap, _∙_, subst}
+use mathlib.Core.Path.{_≡_, sym, ap, _∙_, subst}
 use mathlib.Core.List.{List, _∷_, _++_}
 use native.Mathlib.Omega.{arith}
 use lib.IntN.{ℤ, pos, negsuc}
@@ -23,6 +23,10 @@ record-short call answer id n = line-short (call ∷ answer ∷ id ∷ numbers n
 pub answer-short : (call answer : ℤ) → length (answerBytes call answer) ≤ 216
 unfolding answerBytes
 answer-short call answer = line-short (call ∷ answer ∷ negsuc 0 ∷ replicate 15 (pos 0))
+
+-- the same bytes and place, said otherwise
+pub put-as : {d e v w : List ℕ} {at end next : ℕ} → v ≡ w → end ≡ next → Put d at v e end → Put d at w e next
+put-as q r p = rw (sym q, sym r) p
 
 -- some bytes after others
 pub put-after : {d e f v w : List ℕ} {at next end : ℕ} → at ≤ length d → Put d at w e next → Put e next v f end → Put d at (w ++ v) f end

@@ -13,7 +13,7 @@ use Rattle.turns.proofs.Kept.{Ends, run-kept}
 use Rattle.hook.specs.Hook.{tickOf}
 use Rattle.hook.specs.declared.Hook.{Hook}
 use Rattle.hook.specs.declared.Hook.the-variants.{Retracted, Idle, Flying, Grabbed, Attached, Retracting0, Retracting1, Retracting2}
-use Rattle.hooking.specs.Hooking.{hold}
+use Rattle.hooking.specs.Hooking.{maxHookGrabTime, hold}
 use Rattle.controls.specs.Controls.{grounded}
 use Rattle.snap_obj.specs.declared.PlayerInput.{PlayerInput}
 use Rattle.tiles.specs.declared.Sides.{Sides}
@@ -42,17 +42,17 @@ use Rattle.world.specs.Step.{Moving, afterTick, tickTurn, tickAll, ofNet
 use Rattle.world.specs.declared.World.{World}
 use Rattle.world.proofs.Seats.{last-or-below, present-within, by-test}
 
--- a tick leaves no hook that has held for more than 60 ticks
-hold-short : (h : Hook) → tickOf (hold h) ≤ 60
+-- a tick leaves no hook that has held for more than MAX_HOOK_GRAB_TIME
+hold-short : (h : Hook) → tickOf (hold h) ≤ maxHookGrabTime
 unfolding hold tickOf
 hold-short Retracted = omega arith
 hold-short Idle = omega arith
 hold-short (Flying p d) = omega arith
-hold-short (Grabbed c t) = go (ltb 60 (t + 1)) refl
+hold-short (Grabbed c t) = go (ltb maxHookGrabTime (t + 1)) refl
   where
-    go : (b : Bool) → ltb 60 (t + 1) ≡ b → tickOf (cond b Retracted (Grabbed c (t + 1))) ≤ 60
+    go : (b : Bool) → ltb maxHookGrabTime (t + 1) ≡ b → tickOf (cond b Retracted (Grabbed c (t + 1))) ≤ maxHookGrabTime
     go true e = omega arith
-    go false e = ltb-false 60 (t + 1) e
+    go false e = ltb-false maxHookGrabTime (t + 1) e
 hold-short (Attached p) = omega arith
 hold-short (Retracting0 p) = omega arith
 hold-short (Retracting1 p) = omega arith
@@ -60,15 +60,15 @@ hold-short (Retracting2 p) = omega arith
 
 -- ---- ticks
 abbrev Short : Slot → Type 0
-Short x = x .present ≡ true → tickOf (x .character .hook) ≤ 60
+Short x = x .present ≡ true → tickOf (x .character .hook) ≤ maxHookGrabTime
 
 -- a tick goes on with such a hook, or is refused with 9
-ticked-short : (n : ℕ) (before c : Character) (id : ℕ) (ss : List Slot) (t : Tuning) (f : HookFlight) → ((ticked n before c id ss t f .number ≡ 0) × (tickOf (ticked n before c id ss t f .me .hook) ≤ 60)) ⊎ (ticked n before c id ss t f .number ≡ 9)
+ticked-short : (n : ℕ) (before c : Character) (id : ℕ) (ss : List Slot) (t : Tuning) (f : HookFlight) → ((ticked n before c id ss t f .number ≡ 0) × (tickOf (ticked n before c id ss t f .me .hook) ≤ maxHookGrabTime)) ⊎ (ticked n before c id ss t f .number ≡ 9)
 unfolding hooked
 ticked-short n before c id ss t TooFar = inr refl
 ticked-short n before c id ss t (To h) = inl (refl, hold-short h)
 
-tick-short : (n : ℕ) (c : Character) (id : ℕ) (ss : List Slot) (s : Sides) (ts : List ℕ) (i : PlayerInput) (t : Tuning) → ((tickAt n c id ss s ts i t .number ≡ 0) × (tickOf (tickAt n c id ss s ts i t .me .hook) ≤ 60)) ⊎ (tickAt n c id ss s ts i t .number ≡ 9)
+tick-short : (n : ℕ) (c : Character) (id : ℕ) (ss : List Slot) (s : Sides) (ts : List ℕ) (i : PlayerInput) (t : Tuning) → ((tickAt n c id ss s ts i t .number ≡ 0) × (tickOf (tickAt n c id ss s ts i t .me .hook) ≤ maxHookGrabTime)) ⊎ (tickAt n c id ss s ts i t .number ≡ 9)
 unfolding tickAt
 tick-short n c id ss s ts i t = let d = steer c (grounded s ts (c .pos)) i t in ticked-short n c d id ss t (flight n (d .hook) (c .pos) id ss s ts t)
 
@@ -89,7 +89,7 @@ module _ (n : ℕ) (s : Sides) (ts : List ℕ) (t : Tuning) where
       others : (j : ℕ) → j < i → Short (slotAt (k .slots) j)
       others j l = subst Short (sym (tick-others us n c i s ts (slotAt us i .input) t j)) (h .1 j l)
 
-      ticks : slotAt us i .present ≡ true → (k .number ≡ 0) × (tickOf (k .me .hook) ≤ 60) → Ends (Ticks (suc i)) (λ r. r ≡ 9) (afterTick i k)
+      ticks : slotAt us i .present ≡ true → (k .number ≡ 0) × (tickOf (k .me .hook) ≤ maxHookGrabTime) → Ends (Ticks (suc i)) (λ r. r ≡ 9) (afterTick i k)
       ticks p z =
           let a = present-within us i p in
           let b = tick-length us n c i s ts (slotAt us i .input) t in
@@ -143,7 +143,7 @@ module _ (n : ℕ) (s : Sides) (ts : List ℕ) (t : Tuning) where
       -- the record of a character whose hook is c's is published
       records : slotAt (m .slots) i .present ≡ true → (d : Character) → d .hook ≡ c .hook → Ends (Waits (suc i)) (λ r. r ≡ 9) (publish m i (ofNet (toNet d)))
       records p d e =
-          let f : tickOf (d .hook) ≤ 60 = subst (λ (x : Hook). tickOf x ≤ 60) (sym e) (h i (omega arith) p) in
+          let f : tickOf (d .hook) ≤ maxHookGrabTime = subst (λ (x : Hook). tickOf x ≤ maxHookGrabTime) (sym e) (h i (omega arith) p) in
           rw (to-core d (omega arith)) (set-others (λ k x. suc i ≤ k → Short x) (m .slots) i (withCharacter (slotAt (m .slots) i) (fromNet (coreOf d))) nowhere (present-within (m .slots) i p) (λ k q l. h k (omega arith)) (λ l. absurd (omega arith)))
 
       moves : slotAt (m .slots) i .present ≡ true → {o : Moved} → Left c o → Ends (Waits (suc i)) (λ r. r ≡ 9) (publish m i (recordOf o))

@@ -8,20 +8,20 @@ use Rattle.hook.proofs.Variants.{not-grabbed}
 use Rattle.hook.specs.declared.CharacterId.{CharacterId}
 use Rattle.hook.specs.declared.Hook.{Hook}
 use Rattle.hook.specs.declared.Hook.the-variants.{Retracted, Grabbed}
-use Rattle.hooking.specs.Hooking.{hold}
+use Rattle.hooking.specs.Hooking.{maxHookGrabTime, hold}
 use Rattle.hooking.proofs.hold.Statement.{statement}
 use Rattle.hooking.proofs.hold.Tie as tie
 
 enum-known-hook : tie.Need-enum-known-hook
 enum-known-hook c = search needs
 
-full : (h : Hook) (c : CharacterId) (t : ℕ) → h ≡ Grabbed c t → 60 ≤ t → Retracted ≡ hold h
+full : (h : Hook) (c : CharacterId) (t : ℕ) → h ≡ Grabbed c t → maxHookGrabTime ≤ t → Retracted ≡ hold h
 unfolding hold
-full h c t e l = rw (e, lt-ltb 60 (t + 1) (omega arith))
+full h c t e l = rw (e, lt-ltb maxHookGrabTime (t + 1) (omega arith))
 
-counted : (h : Hook) (c : CharacterId) (t : ℕ) → h ≡ Grabbed c t → t < 60 → Grabbed c (t + 1) ≡ hold h
+counted : (h : Hook) (c : CharacterId) (t : ℕ) → h ≡ Grabbed c t → t < maxHookGrabTime → Grabbed c (t + 1) ≡ hold h
 unfolding hold
-counted h c t e l = rw (e, le-ltb 60 (t + 1) (omega arith))
+counted h c t e l = rw (e, le-ltb maxHookGrabTime (t + 1) (omega arith))
 
 returns : tie.Need-returns
 unfolding hold

@@ -3,7 +3,7 @@ use mir.Facts.{toZ-ofZ}
 use Rattle.casts.proofs.Signed.{held}
 use mathlib.Core.Bool.{cond}
 use mathlib.Core.List.{List, [], _∷_}
-use mathlib.Core.Path.{_≡_, sym, ap, ap₂, _∙_}
+use mathlib.Core.Path.{_≡_, refl, ap, ap₂, _∙_}
 use Prim.Native.Nat.{ℕ, _≤_}
 use native.Mathlib.Omega.{arith}
 use lib.Dec.{eqb}
@@ -14,14 +14,11 @@ use Rattle.casts.specs.Casts.{castSigned}
 use Rattle.character.specs.Tick.{seats}
 use Rattle.output_lines.specs.Output.{answerBytes}
 use Rattle.output_lines.specs.Put.{Put}
-use Rattle.output_lines.proofs.Sizes.{put-after}
+use Rattle.output_lines.proofs.Sizes.{put-as, put-after}
 use Rattle.answers.specs.Answers.{recordLines, ranBytes}
 use borrow.Author.Needs.{needs}
 use Rattle.answers.proofs.writing.put_ran.Statement.{statement}
 use Rattle.answers.proofs.writing.put_ran.Tie as tie
-
-bytes-of : {d e v w : List ℕ} {at end : ℕ} → v ≡ w → Put d at v e end → Put d at w e end
-bytes-of q p = rw (sym q) p
 
 -- no record: the place is as before, and the answer stands there
 none-told : {d e f : List ℕ} {at end next : ℕ} (l a : List ℕ) → at ≤ length d → end ≡ at → Put d at l e end → Put e at a f next → Put d at (cond (eqb (length l) 0) a l) f next
@@ -49,8 +46,8 @@ returns c =
     let a = c .before .before .before .before .before .before .before .before .before .before .before .before in
     let l : List ℕ = recordLines seats (a .args .call) (a .args .ran .records) in
     let n : ℤ = castSigned (a .args .ran .number) in
-    none-told l (answerBytes (a .args .call) n) (omega (arith, a .pre)) (c .before .before .before .before .before .if1 .taken) (bytes-of (ap (λ (z : ℤ). recordLines seats z (a .args .ran .records)) (toZ-ofZ (a .fits .call))) (c .before .before .before .before .before .before .before .before .put-records .ensures))
-    (bytes-of (ap₂ answerBytes (toZ-ofZ (a .fits .call)) (held (c .before .before .before .cast-signed .result) (c .before .before .before .cast-signed .ok) (c .before .before .before .cast-signed .ensures))) (c .before .before .put-answer .ensures))
+    none-told l (answerBytes (a .args .call) n) (omega (arith, a .pre)) (c .before .before .before .before .before .if1 .taken) (put-as (ap (λ (z : ℤ). recordLines seats z (a .args .ran .records)) (toZ-ofZ (a .fits .call))) refl (c .before .before .before .before .before .before .before .before .put-records .ensures))
+    (put-as (ap₂ answerBytes (toZ-ofZ (a .fits .call)) (held (c .before .before .before .cast-signed .result) (c .before .before .before .cast-signed .ok) (c .before .before .before .cast-signed .ensures))) refl (c .before .before .put-answer .ensures))
 
 same-length-2 : tie.Need-same-length-2
 same-length-2 c = search needs
@@ -59,7 +56,7 @@ returns-2 : tie.Need-returns-2
 unfolding ranBytes
 returns-2 c =
     let a = c .before .before .before .before .before .before .before in
-    some-told (recordLines seats (a .args .call) (a .args .ran .records)) (answerBytes (a .args .call) (castSigned (a .args .ran .number))) (c .if1 .left) (bytes-of (ap (λ (z : ℤ). recordLines seats z (a .args .ran .records)) (toZ-ofZ (a .fits .call))) (c .before .before .before .put-records .ensures))
+    some-told (recordLines seats (a .args .call) (a .args .ran .records)) (answerBytes (a .args .call) (castSigned (a .args .ran .number))) (c .if1 .left) (put-as (ap (λ (z : ℤ). recordLines seats z (a .args .ran .records)) (toZ-ofZ (a .fits .call))) refl (c .before .before .before .put-records .ensures))
 
 pub put-ran-spec : {M : Type 1} → statement M
 put-ran-spec =

@@ -1,5 +1,4 @@
 -- `sessions::line::run_line` meets its contract. Assumes nothing.
-use mathlib.Core.List.{List}
 use mathlib.Core.Path.{_≡_, refl, sym, ap, ap₂, _∙_, subst}
 use Prim.Native.Nat.{ℕ, _+_, _≤_, _<_, _^_}
 use native.Mathlib.Omega.{arith}
@@ -7,7 +6,7 @@ use lib.IntN.{ℤ, pos}
 use mir.Syntax.{w32}
 use mir.Val.{toZ, ofZ}
 use Rattle.output_lines.specs.Output.{answerBytes}
-use Rattle.output_lines.specs.Put.{Put}
+use Rattle.output_lines.proofs.Sizes.{put-as}
 use Rattle.world.specs.declared.Stepped.{Stepped}
 use Rattle.sessions.specs.declared.line.Turned.{Turned}
 use Rattle.casts.proofs.Signed.{read}
@@ -18,9 +17,6 @@ use Rattle.sessions.specs.Session.{textFault, endedAt, goesOn, end, faul
 use borrow.Author.Needs.{needs}
 use Rattle.sessions.proofs.line.run_line.Statement.{statement}
 use Rattle.sessions.proofs.line.run_line.Tie as tie
-
-written : {d e v w : List ℕ} {at end next : ℕ} → v ≡ w → end ≡ next → Put d at v e end → Put d at w e next
-written q r p = rw (sym q, sym r) p
 
 small : (n : ℕ) → n ≤ 65537 → n < 2 ^ 31
 small n h = omega arith
@@ -72,7 +68,7 @@ returns-2 c =
     let number : toZ w32 (ofZ w32 (pos (s .call))) ≡ pos (s .call) = read (pos (s .call)) (small (s .call) (a .pre .1)) in
     fault (c .before .before .before .before .before .before .before .before .if1 .left) (subst (CallAt (a .args .text .now) (s .place)) (c .before .before .before .before .before .enum-told .given .1) (c .before .before .before .before .before .before .before .next-call .ensures))
     (c .ended2 .ensures ∙ ap (endedAt (s .call) (s .place) (s .world)) (sym next))
-    (written (ap (λ (z : ℤ). answerBytes z (pos textFault)) number) (sym next) (c .before .before .before .put-answer .ensures))
+    (put-as (ap (λ (z : ℤ). answerBytes z (pos textFault)) number) (sym next) (c .before .before .before .put-answer .ensures))
 
 same-length-2 : tie.Need-same-length-2
 same-length-2 c = search needs
@@ -86,7 +82,7 @@ returns-3 c =
     let number : toZ w32 (ofZ w32 (pos (s .call))) ≡ pos (s .call) = read (pos (s .call)) (small (s .call) (a .pre .1)) in
     call (g .0 .0) (g .0 .1 .0) (c .before .before .before .before .before .before .before .before .before .before .if1 .left) (subst (CallAt (a .args .text .now) (s .place)) (g .1) (c .before .before .before .before .before .before .before .before .before .next-call .ensures))
     (ap (λ (u : Stepped). goesOn (s .call + 1) (g .0 .1 .0) (u .world) (c .before .before .before .put-ran .result)) (r .ensures))
-    (written (ap₂ (ranBytes seats) number (r .ensures)) refl (c .before .before .before .put-ran .ensures))
+    (put-as (ap₂ (ranBytes seats) number (r .ensures)) refl (c .before .before .before .put-ran .ensures))
 
 pub run-line-spec : {M : Type 1} → statement M
 run-line-spec =
