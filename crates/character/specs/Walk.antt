@@ -18,7 +18,7 @@ use Rattle.tuning.specs.declared.Tuning.{Tuning}
 use Rattle.moves.specs.declared.Body.{Body}
 use Rattle.moves.specs.declared.BoxMove.{BoxMove}
 use Rattle.moves.specs.declared.BoxMove.the-variants as box
-use Rattle.meeting.specs.Meeting.{touches}
+use Rattle.touching.specs.Touching.{touches}
 use Rattle.walking.specs.Walking.{rampedMove, playerTurns, restAt}
 use Rattle.character.specs.declared.Character.{Character}
 use Rattle.character.specs.declared.Slot.{Slot}

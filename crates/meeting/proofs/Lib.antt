@@ -1,1 +1,1 @@
-mod Far
+pub mod FarPush

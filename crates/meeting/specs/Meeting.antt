@@ -1,6 +1,6 @@
 -- What two characters do to each other's velocity in `tick` of lib.rs. Definitions only.
 use Prim.Native.Nat.{ℕ}
-use mathlib.Core.Bool.{Bool, cond, _&&_}
+use mathlib.Core.Bool.{cond}
 use lib.Dec.{eqb}
 use lib.Ieee.{Float, binary32, neg, add, sub, mul, div, lt, ne, ofBits}
 use Rattle.number.specs.Number.{c0, c1, saturatedAdd, c28, c1·5, c0·75}
@@ -82,7 +82,3 @@ meet p v h q u cid t =
     let distance = vdistance p q in
     let w : Velocities = record { me = push p v q distance (t .«player_collision»); other = u } in
     onGrabbed (dragIf p q w distance t cid) w h
-
--- near, but not in the same place
-unfoldable pub touches : vec2 → vec2 → Bool
-touches p q = let d = vdistance p q in lt c0 d && lt d c28

@@ -5,7 +5,7 @@ use tuning::Tuning;
 use vector::vec2;
 ghost use mathlib.Core.Path.{_≡_};
 ghost use Rattle.vector.specs.Vec2.{vdistance};
-ghost use Rattle.meeting.specs.Meeting.{additionalVel, pushed, push, pull, dragged, held, meet, touches};
+ghost use Rattle.meeting.specs.Meeting.{additionalVel, pushed, push, pull, dragged, held, meet};
 
 // The velocities of a character and of another that it meets.
 pub struct Velocities {
@@ -131,18 +131,4 @@ pub fn meet(
         return held(pos, other_pos, velocities, distance, tuning);
     }
     velocities
-}
-
-// Whether a character at p meets one at q: near, but not in the same place.
-pub fn touches(p: vec2, q: vec2) -> bool
-    ensures { λ r. ⌜ r ≡ touches p q ⌝ }
-{
-    let way = q.sub(p);
-    let square = vec2::dot(way, way);
-    // Most are far: a comparison spares the root.
-    if 784.0 <= square {
-        return false;
-    }
-    let d = root::root(square);
-    0.0 < d && d < 28.0
 }

@@ -5,7 +5,8 @@ use lib.Ieee.{Float, binary32, le}
 use borrow.Author.Needs.{needs}
 use Rattle.root.specs.Root.{root}
 use Rattle.vector.specs.Vec2.{vdistance}
-use Rattle.meeting.proofs.Far.{c1225, square, square-is, distance-is, far-push}
+use Rattle.touching.proofs.Far.{square, square-is, distance-is}
+use Rattle.meeting.proofs.FarPush.{c1225, far-push}
 use Rattle.meeting.proofs.collide.Statement.{statement}
 use Rattle.meeting.proofs.collide.Tie as tie
 

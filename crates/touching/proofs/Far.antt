@@ -1,10 +1,10 @@
--- Characters whose distance has a square of 784 or more do not touch, and of 1,225 or more do not push: its root is 28 or more, and 35. Assumes nothing.
+-- A distance whose square is c or more is not below the root of c; so characters with a square of 784 or more do not touch. Assumes nothing.
 use mathlib.Core.Path.{_≡_, refl, sym, ap, _∙_, subst}
-use mathlib.Core.Bool.{Bool, true, false, cond, _&&_}
+use mathlib.Core.Bool.{Bool, true, false, _&&_}
 use Prim.Native.Nat.{_*_}
 use lib.Dec.{T}
 use lib.IntN.{pos}
-use lib.Ieee.{Float, nan, inf, fin, binary32, up, down, ofBits, fits, lt, eq, le, ne, round}
+use lib.Ieee.{Float, nan, inf, fin, binary32, up, down, ofBits, fits, lt, eq, le, round}
 use lib.Ieee.Positive.{positive, above-of-le, le→cross}
 use lib.Ieee.Fits.{add-fits}
 use borrow.Author.Tests.{le-ltb}
@@ -13,7 +13,7 @@ use Rattle.root.proofs.Monotone.{root-mono}
 use Rattle.number.specs.Number.{c0, c28}
 use Rattle.vector.specs.declared.vec2.{vec2}
 use Rattle.vector.specs.Vec2.{vsub, vdot, vlength, vdistance}
-use Rattle.meeting.specs.Meeting.{c35, touches, push}
+use Rattle.touching.specs.Touching.{touches}
 
 not-below : (a r : Float) → T (positive a) → T (le a r) → lt r a ≡ false
 unfolding le lt eq
@@ -47,14 +47,14 @@ unfolding vdot
 square-fits p q = add-fits binary32 _ _
 
 -- ---- a value and its root, by computing
-record Rooted (c r : Float) : Type 0 where
-  root-is : root binary32 c ≡ r
-  fitting : T (fits binary32 c)
-  above : T (le (fin false 0 (pos 0)) c)
-  positive-root : T (positive r)
+pub record Rooted (c r : Float) : Type 0 where
+  pub root-is : root binary32 c ≡ r
+  pub fitting : T (fits binary32 c)
+  pub above : T (le (fin false 0 (pos 0)) c)
+  pub positive-root : T (positive r)
 
 -- from the square c on the distance is not below the root of c
-far-from : (c r : Float) → Rooted c r → (p q : vec2) → T (le c (square p q)) → lt (vdistance p q) r ≡ false
+pub far-from : (c r : Float) → Rooted c r → (p q : vec2) → T (le c (square p q)) → lt (vdistance p q) r ≡ false
 far-from c r k p q h =
     let below : T (le r (root binary32 (square p q))) = subst (λ (x : Float). T (le x (root binary32 (square p q)))) (k .root-is) (root-mono c (square p q) (k .fitting) (square-fits p q) (k .above) h) in
     not-below r (vdistance p q) (k .positive-root) (subst (λ (x : Float). T (le r x)) (distance-is p q) below)
@@ -69,18 +69,3 @@ rooted-784 = record { root-is = refl; fitting = tt; above = tt; positive-root = 
 pub far : (p q : vec2) → T (le c784 (square p q)) → false ≡ touches p q
 unfolding touches
 far p q h = both (lt c0 (vdistance p q)) (lt (vdistance p q) c28) (far-from c784 c28 rooted-784 p q h)
-
-abbrev pub c1225 : Float
-c1225 = ofBits binary32 0x4499_2000
-
-rooted-1225 : Rooted c1225 c35
-unfolding root rootOf isqrt ofBits round fits le lt eq
-rooted-1225 = record { root-is = refl; fitting = tt; above = tt; positive-root = tt }
-
-pub far-push : (p v q : vec2) (collision : Float) → T (le c1225 (square p q)) → v ≡ push p v q (vdistance p q) collision
-unfolding push
-far-push p v q collision h = rw (far-from c1225 c35 rooted-1225 p q h) (same (ne collision c0))
-  where
-    same : (b : Bool) → v ≡ cond b v v
-    same true = refl
-    same false = refl

@@ -1,14 +1,14 @@
--- `meeting::touches` meets its contract. Assumes nothing.
+-- `touching::touches` meets its contract. Assumes nothing.
 use mathlib.Core.Path.{_≡_, sym, ap, _∙_, subst}
 use lib.Dec.{T}
 use lib.Ieee.{Float, binary32, le}
 use borrow.Author.Needs.{needs}
 use Rattle.root.specs.Root.{root}
 use Rattle.vector.specs.Vec2.{vdistance}
-use Rattle.meeting.specs.Meeting.{touches}
-use Rattle.meeting.proofs.Far.{c784, square, square-is, distance-is, far}
-use Rattle.meeting.proofs.touches.Statement.{statement}
-use Rattle.meeting.proofs.touches.Tie as tie
+use Rattle.touching.specs.Touching.{touches}
+use Rattle.touching.proofs.Far.{c784, square, square-is, distance-is, far}
+use Rattle.touching.proofs.touches.Statement.{statement}
+use Rattle.touching.proofs.touches.Tie as tie
 
 sub-requires : tie.Need-sub-requires
 sub-requires c κs = search needs
