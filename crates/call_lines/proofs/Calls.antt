@@ -7,7 +7,7 @@ use native.Mathlib.Omega.{arith}
 use lib.Dec.{eqb}
 use lib.IntN.{ℤ, pos, natAbs}
 use lib.ListN.{length, drop, getD}
-use Rattle.decimal.specs.Decimal.{IsI32}
+use Rattle.casts.specs.Casts.{IsI32}
 use Rattle.decimal.specs.Lines.{line, All}
 use Rattle.decimal.specs.Places.{Stands, Absent}
 use Rattle.decimal.proofs.Lines.{line-unique, line-long}

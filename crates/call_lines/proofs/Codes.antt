@@ -10,7 +10,7 @@ use lib.ListN.{length, drop, getD, replicate}
 use mir.Syntax.{w32}
 use mir.Val.{ofZ}
 use borrow.Author.Tests.{eqb-true, ne-eqb}
-use Rattle.decimal.specs.Decimal.{IsI32}
+use Rattle.casts.specs.Casts.{IsI32}
 use Rattle.call_lines.specs.Calls.{values}
 use Rattle.call_lines.specs.Parts.{DecodedAs, allZero, withSpare}
 use Rattle.call.specs.declared.Call.{Call}

@@ -3,7 +3,7 @@ use Prim.Native.Nat.{ℕ, _<_}
 use mathlib.Core.Path.{_≡_, refl, sym, ap, _∙_, subst}
 use mathlib.Core.Bool.{true, false}
 use mathlib.Core.List.{List, [], _++_}
-use Rattle.decimal.specs.Decimal.{IsI32}
+use Rattle.casts.specs.Casts.{IsI32}
 use Rattle.decimal.specs.Lines.{endByte}
 use Rattle.decimal.specs.Places.{Stands}
 use Rattle.decimal.specs.Reading.{ValueAt}

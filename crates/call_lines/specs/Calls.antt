@@ -2,7 +2,7 @@
 use Prim.Native.Nat.{ℕ}
 use mathlib.Core.List.{List, [], _∷_}
 use lib.IntN.{ℤ, pos}
-use Rattle.decimal.specs.Decimal.{IsI32}
+use Rattle.casts.specs.Casts.{IsI32}
 use Rattle.decimal.specs.Lines.{line, All}
 use Rattle.decimal.specs.Places.{Stands, Absent}
 use Rattle.call_lines.specs.declared.CallLine.{CallLine}

@@ -5,7 +5,8 @@ use mathlib.Core.List.{List, [], _∷_, _++_}
 use native.Mathlib.Omega.{arith}
 use lib.IntN.{ℤ}
 use lib.ListN.{length, length-append}
-use Rattle.decimal.specs.Decimal.{written, IsI32}
+use Rattle.casts.specs.Casts.{IsI32}
+use Rattle.decimal.specs.Decimal.{written}
 use Rattle.decimal.specs.Lines.{ended, All}
 use Rattle.decimal.specs.Places.{Stands, Absent}
 use Rattle.decimal.proofs.Lines.{front, all-append, Begun, begun-none, begun-more, begun-not, begun-whole}

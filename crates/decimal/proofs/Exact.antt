@@ -11,7 +11,8 @@ use lib.IntN.{ℤ, pos, negsuc}
 use borrow.Author.Tests.{lt-ltb, le-ltb, eq-eqb, ne-eqb, ltb-true, ltb-false, eqb-true, eqb-false}
 use Rattle.decimal.specs.declared.unsigned.Number.{Number}
 use Rattle.decimal.specs.declared.unsigned.Number.the-variants.{Read, Fault}
-use Rattle.decimal.specs.Decimal.{digits, written, IsI32}
+use Rattle.casts.specs.Casts.{IsI32}
+use Rattle.decimal.specs.Decimal.{digits, written}
 use Rattle.decimal.proofs.Digits.{lone, last, one-more}
 use Rattle.decimal.proofs.Scan.{more, scanNumber, plus, minus, scanValue}
 use Rattle.decimal.specs.declared.signed.Value.the-variants as value

@@ -9,7 +9,8 @@ use lib.Dec.{eqb}
 use lib.IntN.{ℤ, pos}
 use lib.ListN.{length, take, drop, getD, length-append}
 use lib.Seq.{length-take-le, split-at}
-use Rattle.decimal.specs.Decimal.{written, IsI32}
+use Rattle.casts.specs.Casts.{IsI32}
+use Rattle.decimal.specs.Decimal.{written}
 use Rattle.decimal.specs.Lines.{endByte, ended, line, All}
 use Rattle.decimal.specs.Places.{Stands, Absent}
 use Rattle.decimal.proofs.Digits.{short, long}

@@ -5,7 +5,8 @@ use mathlib.Core.List.{List, [], _∷_, _++_, append-assoc}
 use native.Mathlib.Omega.{arith}
 use lib.IntN.{ℤ}
 use lib.ListN.{length, drop, length-append}
-use Rattle.decimal.specs.Decimal.{digits, written, IsI32}
+use Rattle.casts.specs.Casts.{IsI32}
+use Rattle.decimal.specs.Decimal.{digits, written}
 use Rattle.decimal.specs.Lines.{ended}
 use Rattle.decimal.specs.Places.{Stands, Absent}
 use Rattle.decimal.specs.Reading.{NumberAt, ValueAt}

@@ -2,7 +2,8 @@
 use Prim.Native.Nat.{ℕ, _^_, _≤_}
 use mathlib.Core.List.{List}
 use lib.IntN.{ℤ}
-use Rattle.decimal.specs.Decimal.{digits, written, IsI32}
+use Rattle.casts.specs.Casts.{IsI32}
+use Rattle.decimal.specs.Decimal.{digits, written}
 use Rattle.decimal.specs.Lines.{ended}
 use Rattle.decimal.specs.Places.{Stands, Absent}
 use Rattle.decimal.specs.declared.unsigned.Number.{Number}

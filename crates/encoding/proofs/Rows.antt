@@ -12,7 +12,7 @@ use mir.Facts.{toZ-ofZ}
 use mir.Syntax.{w32}
 use mir.Val.{toZ, ofZ}
 use Rattle.character.specs.declared.Slot.{Slot}
-use Rattle.records.specs.Representable.{IsI32}
+use Rattle.casts.specs.Casts.{IsI32}
 use Rattle.world.specs.declared.Published.{Published}
 use Rattle.world.specs.declared.World.{World}
 use Rattle.encoding.specs.Encoding.{each, recordNumbers, seatNumbers, encoding}

@@ -7,7 +7,8 @@ use native.Mathlib.Omega.{arith}
 use lib.IntN.{ℤ, pos, negsuc, natAbs}
 use lib.ListN.{length, take, drop, length-map, length-drop, take-append-drop}
 use lib.Seq.{length-take-le}
-use Rattle.decimal.specs.Decimal.{digits, written, IsI32}
+use Rattle.casts.specs.Casts.{IsI32}
+use Rattle.decimal.specs.Decimal.{digits, written}
 use Rattle.decimal.specs.Lines.{endByte, ended, line, All}
 use Rattle.decimal.specs.Places.{Absent}
 use Rattle.decimal.proofs.Lines.{front, front-append, front-unique, front-long, end-low, all-map}

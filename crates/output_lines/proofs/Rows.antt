@@ -10,7 +10,8 @@ use lib.Seq.{take-suc, take-all}
 use mir.Syntax.{w32}
 use mir.Val.{toZ, ofZ}
 use mir.ValLaws.{toZ-ofZ}
-use Rattle.decimal.specs.Decimal.{written, IsI32}
+use Rattle.casts.specs.Casts.{IsI32}
+use Rattle.decimal.specs.Decimal.{written}
 use Rattle.decimal.specs.Lines.{endByte, ended, line, All}
 use Rattle.decimal.proofs.Lines.{front, front-more, front-line}
 

@@ -10,7 +10,7 @@ use lib.IntN.{ℤ, pos, negsuc}
 use lib.Signed.{nonNeg}
 use borrow.Author.Tests.{lt-leb}
 use Rattle.casts.proofs.Back.{signed-in}
-use Rattle.casts.specs.Casts.{castUnsigned}
+use Rattle.casts.specs.Casts.{castUnsigned, IsI32}
 use Rattle.character.specs.Character.{spawn}
 use Rattle.character.specs.declared.Character.{Character}
 use Rattle.direction.specs.Direction.{angleToNet, angleFromNet}
@@ -21,7 +21,7 @@ use Rattle.hook.specs.declared.Hook.the-variants.{Retracted, Idle, Flying, Grab
 use Rattle.number.specs.Number.{c0}
 use Rattle.records.proofs.Back.{representable-back}
 use Rattle.records.specs.Records.{coreOf, mostTick, toNet, fromNet, back, quantize}
-use Rattle.records.specs.Representable.{IsI32, OfI32, Pair, RepresentableHook, Representable, AllI32, HeldBelowZero}
+use Rattle.records.specs.Representable.{OfI32, Pair, RepresentableHook, Representable, AllI32, HeldBelowZero}
 use Rattle.records.specs.declared.Quantized.{Quantized}
 use Rattle.snap_obj.specs.declared.CharacterCore.{CharacterCore}
 use Rattle.snap_obj.specs.declared.Tick.{Tick}

@@ -4,8 +4,8 @@ use mathlib.Core.Path.{_≡_}
 use Prim.Native.Nat.{ℕ, _-_, _^_, _≤_, _<_}
 use lib.Ieee.{Float}
 use lib.IntN.{ℤ, pos, negsuc}
-use lib.Signed.{mag}
 use Rattle.records.specs.Records.{mostTick}
+use Rattle.casts.specs.Casts.{IsI32}
 use Rattle.character.specs.declared.Character.{Character}
 use Rattle.float.specs.Convert.{i32ToF32, from256ths}
 use Rattle.hook.specs.Hook.{nobody}
@@ -13,10 +13,6 @@ use Rattle.hook.specs.declared.Hook.{Hook}
 use Rattle.hook.specs.declared.Hook.the-variants.{Retracted, Idle, Flying, Grabbed, Attached, Retracting0, Retracting1, Retracting2}
 use Rattle.snap_obj.specs.declared.CharacterCore.{CharacterCore}
 use Rattle.vector.specs.declared.vec2.{vec2}
-
--- z is an i32
-abbrev pub IsI32 : ℤ → Type 0
-IsI32 z = mag z < 2 ^ 31
 
 -- x is f of an i32
 pub record OfI32 (f : ℤ → Float) (x : Float) : Type 0 where

@@ -15,7 +15,7 @@ use Rattle.snap_obj.specs.declared.PlayerInput.{PlayerInput}
 use Rattle.character.specs.Character.{spawn}
 use Rattle.character.specs.Tick.{slotAt}
 use Rattle.character.specs.declared.Slot.{Slot}
-use Rattle.records.specs.Representable.{IsI32}
+use Rattle.casts.specs.Casts.{IsI32}
 use Rattle.world.specs.World.{noInput, emptySlot, withSlot}
 use Rattle.world.specs.Calls.{refused, accepted, placeOf, inReach, pointOf, joinAt, join, ifPresent, leave, input}
 use Rattle.world.specs.declared.Answer.{Answer}

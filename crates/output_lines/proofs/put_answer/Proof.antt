@@ -4,7 +4,7 @@ use mathlib.Core.List.{List, _∷_}
 use native.Mathlib.Omega.{arith}
 use lib.IntN.{ℤ, pos, negsuc}
 use lib.ListN.{replicate}
-use Rattle.decimal.specs.Decimal.{IsI32}
+use Rattle.casts.specs.Casts.{IsI32}
 use Rattle.decimal.specs.Lines.{line, All}
 use Rattle.output_lines.specs.Put.{Put}
 use Rattle.output_lines.proofs.Rows.{all-again}

@@ -3,7 +3,7 @@ use Rattle.output_lines.specs.Output.{numbers, recordBytes}
 use mathlib.Core.Path.{subst}
 use mathlib.Core.List.{List, _∷_}
 use lib.IntN.{ℤ}
-use Rattle.decimal.specs.Decimal.{IsI32}
+use Rattle.casts.specs.Casts.{IsI32}
 use Rattle.decimal.specs.Lines.{line, All}
 use Rattle.output_lines.specs.Put.{Put}
 use Rattle.output_lines.proofs.Rows.{all-again}

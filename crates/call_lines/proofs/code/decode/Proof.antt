@@ -7,7 +7,7 @@ use lib.ListN.{drop}
 use mir.Syntax.{w32}
 use mir.Val.{toZ, ofZ}
 use mir.ValLaws.{toZ-ofZ}
-use Rattle.decimal.specs.Decimal.{IsI32}
+use Rattle.casts.specs.Casts.{IsI32}
 use Rattle.call_lines.specs.Parts.{DecodedAs, withSpare}
 use Rattle.call.specs.declared.Call.the-variants.{Join, Leave, Step, Tune}
 use Rattle.call_lines.proofs.Codes.{at, from-bits, is-join, is-leave, is-input, is-step, is-tune, no-code}

@@ -10,7 +10,8 @@ use mir.Syntax.{w32}
 use mir.ValLaws.{toZ-ofZ}
 use lib.Seq.{length-take-le, take-all, take-suc-set}
 use borrow.Author.Needs.{needs}
-use Rattle.decimal.specs.Decimal.{written, IsI32}
+use Rattle.casts.specs.Casts.{IsI32}
+use Rattle.decimal.specs.Decimal.{written}
 use Rattle.decimal.specs.Lines.{endByte, ended}
 use Rattle.decimal.specs.Places.{Stands, Absent}
 use Rattle.decimal.proofs.Lines.{front-line, end-low, Begun, begun-none, begun-more, begun-not, begun-whole}
