@@ -9,6 +9,7 @@ use lib.IntN.{ℤ}
 use lib.ListN.{length, drop}
 use lib.Seq.{take-at, drop-at}
 use borrow.Author.Tests.{leb-true}
+use Rattle.snap_obj.specs.Numbers.{coreNumbers, inputNumbers}
 use Rattle.character.specs.Tick.{slotAt}
 use Rattle.character.specs.declared.Character.{Character}
 use Rattle.character.specs.declared.Slot.{Slot}
@@ -50,7 +51,7 @@ record-back c r = ap (λ (n : Net). fromNet (readable (coreIn n))) (to-core c (t
 
 -- a seat, whatever stands after it
 seat-back : (s : Slot) (l : List ℤ) → Kept s → seatOf (seatNumbers s ++ l) ≡ s
-unfolding seatOf seatNumbers isPresent seatCore seatInput
+unfolding seatOf seatNumbers coreNumbers inputNumbers isPresent seatCore seatInput
 seat-back s l k = go (s .present) refl
   where
     go : (b : Bool) → s .present ≡ b → seatOf (seatNumbers s ++ l) ≡ s
@@ -59,7 +60,7 @@ seat-back s l k = go (s .present) refl
 
 -- the numbers of a seat are passed
 seat-passed : (s : Slot) (l : List ℤ) → drop 21 (seatNumbers s ++ l) ≡ l
-unfolding seatNumbers
+unfolding seatNumbers coreNumbers inputNumbers
 seat-passed s l = refl
 
 AllKept : List Slot → Type 0

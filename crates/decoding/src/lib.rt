@@ -1,8 +1,8 @@
 // A world out of the numbers of a buffer.
 use character::SEATS;
 use character::Slot;
+use copying::copy;
 use encoding::SEAT;
-use encoding::copy;
 use from_net::from_net;
 use seats::empty_slot;
 use snap_obj::CharacterCore;

@@ -11,6 +11,7 @@ use lib.Seq.{paste, take-paste, take-suc, take-length}
 use mir.Facts.{toZ-ofZ}
 use mir.Syntax.{w32}
 use mir.Val.{toZ, ofZ}
+use Rattle.snap_obj.specs.Numbers.{coreNumbers, inputNumbers}
 use Rattle.character.specs.declared.Slot.{Slot}
 use Rattle.casts.specs.Casts.{IsI32}
 use Rattle.world.specs.declared.Published.{Published}
@@ -23,29 +24,24 @@ each-last f [] y = append-nil (f y)
 each-last f (x ∷ xs) y = ap (λ (r : List ℤ). f x ++ r) (each-last f xs y) ∙ sym (append-assoc (f x) (each f xs) (f y))
 
 -- d starts with p and the rows of the first i; the next row is written at the end of these
-pub next-row : {A : Type 0} (f : A → List ℤ) (p : List ℤ) (xs : List A) (x : A) (i at next : ℕ) (d e r : List ℤ) → i < length xs → at ≤ length d → take at d ≡ p ++ each f (take i xs) → r ≡ f (getD xs i x) → e ≡ paste d at r (length r) → next ≡ at + length r → take next e ≡ p ++ each f (take (i + 1) xs)
-next-row f p xs x i at next d e r h g q s t n =
-    ap (λ (k : ℕ). take k e) n
+pub next-row : {A : Type 0} (f : A → List ℤ) (k : ℕ) → ((x : A) → length (f x) ≡ k) → (p : List ℤ) (xs : List A) (x : A) (i at next : ℕ) (d e : List ℤ) → i < length xs → at ≤ length d → take at d ≡ p ++ each f (take i xs) → e ≡ paste d at (f (getD xs i x)) (length (f (getD xs i x))) → next ≡ at + k → take next e ≡ p ++ each f (take (i + 1) xs)
+next-row f k long p xs x i at next d e h g q t n =
+    let r : List ℤ = f (getD xs i x) in
+    let m : next ≡ at + length r = n ∙ ap (λ (j : ℕ). at + j) (sym (long (getD xs i x))) in
+    ap (λ (j : ℕ). take j e) m
     ∙ ap (take (at + length r)) t
     ∙ take-paste d at r (length r) g (omega arith)
-    ∙ ap (λ (l : List ℤ). take at d ++ l) (take-length r ∙ s)
-    ∙ ap (λ (l : List ℤ). l ++ f (getD xs i x)) q
-    ∙ append-assoc p (each f (take i xs)) (f (getD xs i x))
-    ∙ ap (λ (l : List ℤ). p ++ l) (sym (each-last f (take i xs) (getD xs i x)) ∙ ap (each f) (sym (take-suc xs i x h) ∙ ap (λ (k : ℕ). take k xs) (sym (add-one i))))
-
--- the first row of a buffer
-pub first-row : (n : ℕ) (d e r : List ℤ) → length r ≡ n → e ≡ paste d 0 r (length r) → take n e ≡ r
-first-row n d e r h t =
-    let k : n ≡ 0 + length r = omega arith in
-    ap (λ (m : ℕ). take m e) k ∙ ap (take (0 + length r)) t ∙ take-paste d 0 r (length r) (omega arith) (omega arith) ∙ take-length r
+    ∙ ap₂ (λ (a b : List ℤ). a ++ b) q (take-length r)
+    ∙ append-assoc p (each f (take i xs)) r
+    ∙ ap (λ (l : List ℤ). p ++ l) (sym (each-last f (take i xs) (getD xs i x)) ∙ ap (each f) (sym (take-suc xs i x h) ∙ ap (λ (j : ℕ). take j xs) (sym (add-one i))))
 
 -- how many numbers a seat and a record have
 pub seat-long : (s : Slot) → length (seatNumbers s) ≡ 21
-unfolding seatNumbers
+unfolding seatNumbers coreNumbers inputNumbers
 seat-long s = refl
 
 pub record-long : (p : Published) → length (recordNumbers p) ≡ 16
-unfolding recordNumbers
+unfolding recordNumbers coreNumbers
 record-long p = refl
 
 -- ---- numbers that were kept as their bits

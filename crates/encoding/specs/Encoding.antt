@@ -4,7 +4,7 @@ use mathlib.Core.Bool.{Bool, cond}
 use mathlib.Core.List.{List, [], _∷_, _++_}
 use lib.IntN.{ℤ, pos}
 use Rattle.snap_obj.specs.declared.CharacterCore.{CharacterCore}
-use Rattle.snap_obj.specs.declared.PlayerInput.{PlayerInput}
+use Rattle.snap_obj.specs.Numbers.{coreCount, inputCount, coreNumbers, inputNumbers}
 use Rattle.character.specs.Tick.{seats}
 use Rattle.character.specs.declared.Slot.{Slot}
 use Rattle.records.specs.Records.{toNet}
@@ -16,14 +16,6 @@ use Rattle.world.specs.declared.Published.{Published}
 use Rattle.world.specs.declared.World.{World}
 
 -- ---- how many numbers there are
-
--- in a record
-abbrev pub coreCount : ℕ
-coreCount = 15
-
--- in an input
-abbrev pub inputCount : ℕ
-inputCount = 5
 
 -- of a seat among the records of a step: its presence and its record
 abbrev pub recordCount : ℕ
@@ -51,14 +43,6 @@ each f (x ∷ xs) = f x ++ each f xs
 -- 1 for somebody, 0 for nobody
 abbrev pub presence : Bool → ℤ
 presence b = cond b (pos 1) (pos 0)
-
--- the fifteen numbers of a record, in the order of its fields
-abbrev pub coreNumbers : CharacterCore → List ℤ
-coreNumbers n = n .tick ∷ n .x ∷ n .y ∷ n .«vel_x» ∷ n .«vel_y» ∷ n .angle ∷ n .direction ∷ n .jumped ∷ n .«hooked_player» ∷ n .«hook_state» ∷ n .«hook_tick» .0 ∷ n .«hook_x» ∷ n .«hook_y» ∷ n .«hook_dx» ∷ n .«hook_dy» ∷ []
-
--- the five numbers of an input, in the order of its fields
-abbrev pub inputNumbers : PlayerInput → List ℤ
-inputNumbers i = i .direction ∷ i .«target_x» ∷ i .«target_y» ∷ i .jump ∷ i .hook ∷ []
 
 -- the record that `to_net` answers; an empty one where it refuses, which no world does that was reached or decoded
 abbrev pub coreIn : Net → CharacterCore

@@ -1,9 +1,14 @@
 // A world, and the records of a step, into the numbers of a buffer: the tunings, then for each seat its presence, its record and its input.
 use character::SEATS;
 use character::Slot;
+use copying::copy;
 use moving::unpublished;
 use records::Net;
+use snap_obj::CORE;
 use snap_obj::CharacterCore;
+use snap_obj::INPUT;
+use snap_obj::core_numbers;
+use snap_obj::input_numbers;
 use to_net::to_net;
 use tuning::TUNINGS;
 use world::Published;
@@ -12,14 +17,9 @@ ghost use mathlib.Core.Path.{_≡_};
 ghost use Prim.Native.Nat.{_+_, _≤_};
 ghost use lib.ListN.{length};
 ghost use lib.Seq.{paste};
-ghost use Rattle.encoding.specs.Encoding.{worldCount, recordsCount, presence, coreIn, recordNumbers, seatNumbers, encoding, recordsEncoding};
+ghost use Rattle.encoding.specs.Encoding.{recordCount, seatCount, worldCount, recordsCount, presence, coreIn, recordNumbers, seatNumbers, encoding, recordsEncoding};
 
-// How many numbers a record has, and an input.
-pub const CORE: usize = 15;
-
-pub const INPUT: usize = 5;
-
-// How many a seat has among the records of a step, and in a world.
+// How many numbers a seat has among the records of a step, and in a world.
 pub const RECORD: usize = 1 + CORE;
 
 pub const SEAT: usize = RECORD + INPUT;
@@ -28,16 +28,6 @@ pub const SEAT: usize = RECORD + INPUT;
 pub const WORLD: usize = TUNINGS + SEAT * SEATS;
 
 pub const RECORDS: usize = RECORD * SEATS;
-
-// Puts a row of numbers into a buffer from `at` on.
-pub fn copy(numbers: &mut [i32], at: usize, row: &[i32])
-    requires { ⌜ at + length (now row) ≤ length (now numbers) ⌝ }
-    ensures { λ _. ⌜ now (numbers .exit) ≡ paste (now (numbers .entry)) at (now (row .entry)) (length (now (row .entry))) ⌝ }
-{
-    for i in 0..row.len() {
-        numbers[at + i] = row[i];
-    }
-}
 
 fn presence(present: bool) -> i32
     ensures { λ r. ⌜ r ≡ presence present ⌝ }
@@ -57,58 +47,36 @@ fn core_in(net: Net) -> CharacterCore
     }
 }
 
-fn record_numbers(published: Published) -> [i32; RECORD]
-    ensures { λ r. ⌜ r ≡ recordNumbers published ⌝ }
+// Puts a seat's presence and record into a buffer from `at` on.
+fn put_record(numbers: &mut [i32], at: usize, published: Published)
+    requires { ⌜ at + recordCount ≤ length (now numbers) ⌝ }
+    ensures { λ _. ⌜ now (numbers .exit) ≡ paste (now (numbers .entry)) at (recordNumbers published) (length (recordNumbers published)) ⌝ }
 {
-    let core = published.core;
-    [
-        presence(published.present),
-        core.tick,
-        core.x,
-        core.y,
-        core.vel_x,
-        core.vel_y,
-        core.angle,
-        core.direction,
-        core.jumped,
-        core.hooked_player,
-        core.hook_state,
-        core.hook_tick.0,
-        core.hook_x,
-        core.hook_y,
-        core.hook_dx,
-        core.hook_dy,
-    ]
+    let row = core_numbers(published.core);
+    numbers[at] = presence(published.present);
+    copy(numbers, at + 1, &row);
+}
+
+// Puts a seat's presence, record and input there.
+fn put_seat(numbers: &mut [i32], at: usize, slot: Slot)
+    requires { ⌜ at + seatCount ≤ length (now numbers) ⌝ }
+    ensures { λ _. ⌜ now (numbers .exit) ≡ paste (now (numbers .entry)) at (seatNumbers slot) (length (seatNumbers slot)) ⌝ }
+{
+    let published = Published {
+        present: slot.present,
+        core: core_in(to_net(slot.character)),
+    };
+    let row = input_numbers(slot.input);
+    put_record(numbers, at, published);
+    copy(numbers, at + RECORD, &row);
 }
 
 pub fn seat_numbers(slot: Slot) -> [i32; SEAT]
     ensures { λ r. ⌜ r ≡ seatNumbers slot ⌝ }
 {
-    let input = slot.input;
-    let core = core_in(to_net(slot.character));
-    [
-        presence(slot.present),
-        core.tick,
-        core.x,
-        core.y,
-        core.vel_x,
-        core.vel_y,
-        core.angle,
-        core.direction,
-        core.jumped,
-        core.hooked_player,
-        core.hook_state,
-        core.hook_tick.0,
-        core.hook_x,
-        core.hook_y,
-        core.hook_dx,
-        core.hook_dy,
-        input.direction,
-        input.target_x,
-        input.target_y,
-        input.jump,
-        input.hook,
-    ]
+    let mut row = [0i32; SEAT];
+    put_seat(&mut row, 0, slot);
+    row
 }
 
 pub fn encode(world: World, numbers: &mut [i32])
@@ -119,8 +87,7 @@ pub fn encode(world: World, numbers: &mut [i32])
     let slots = world.slots;
     copy(numbers, 0, &tunings);
     for i in 0..SEATS {
-        let row = seat_numbers(slots[i]);
-        copy(numbers, TUNINGS + SEAT * i, &row);
+        put_seat(numbers, TUNINGS + SEAT * i, slots[i]);
     }
 }
 
@@ -129,7 +96,6 @@ pub fn encode_records(records: [Published; SEATS], numbers: &mut [i32])
     ensures { λ _. ⌜ now (numbers .exit) ≡ recordsEncoding records ⌝ }
 {
     for i in 0..SEATS {
-        let row = record_numbers(records[i]);
-        copy(numbers, RECORD * i, &row);
+        put_record(numbers, RECORD * i, records[i]);
     }
 }

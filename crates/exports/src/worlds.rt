@@ -6,7 +6,7 @@ ghost use Rattle.character.specs.Tick.{seats};
 ghost use Rattle.world.specs.World.{fresh};
 ghost use Rattle.world.specs.Calls.{accepted, join, leave, input, tune};
 ghost use Rattle.world.specs.Demand3.{inputOf};
-ghost use Rattle.encoding.specs.Encoding.{coreCount, inputCount};
+ghost use Rattle.snap_obj.specs.Numbers.{coreCount, inputCount};
 ghost use Rattle.buffers.specs.Buffers.{callIn, stepIn};
 ghost use Rattle.readers.specs.Readers.{readIn, recordOf, tuningIn};
 ghost use Rattle.readers.specs.Readers as readers;

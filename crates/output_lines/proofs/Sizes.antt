@@ -7,9 +7,10 @@ use lib.IntN.{ℤ, pos, negsuc}
 use lib.ListN.{length, replicate, length-append}
 use Rattle.decimal.specs.Lines.{endByte, line}
 use Rattle.decimal.proofs.Lines.{front-line, front-short}
-use Rattle.output_lines.specs.Output.{numbers, recordBytes, answerBytes}
+use Rattle.output_lines.specs.Output.{recordBytes, answerBytes}
 use Rattle.output_lines.specs.Put.{put, Put}
 use Rattle.output_lines.proofs.Puts.{put-put}
+use Rattle.snap_obj.specs.Numbers.{coreNumbers}
 use Rattle.snap_obj.specs.declared.CharacterCore.{CharacterCore}
 
 line-short : (zs : List ℤ) → length (line zs) ≤ 12 * length zs
@@ -17,8 +18,8 @@ line-short zs = subst (λ (w : List ℕ). length w ≤ 12 * length zs) (front-li
 
 -- at most 216 bytes
 pub record-short : (call answer id : ℤ) (n : CharacterCore) → length (recordBytes call answer id n) ≤ 216
-unfolding recordBytes
-record-short call answer id n = line-short (call ∷ answer ∷ id ∷ numbers n)
+unfolding recordBytes coreNumbers
+record-short call answer id n = line-short (call ∷ answer ∷ id ∷ coreNumbers n)
 
 pub answer-short : (call answer : ℤ) → length (answerBytes call answer) ≤ 216
 unfolding answerBytes

@@ -2,9 +2,11 @@
 mod line;
 mod value;
 
+use copying::copy;
 use line::put_bytes;
 use line::put_line;
 use snap_obj::CharacterCore;
+use snap_obj::core_numbers;
 ghost use Prim.Native.Nat.{_+_, _≤_};
 ghost use lib.ListN.{length};
 ghost use Rattle.output_lines.specs.Output.{heading, recordBytes, answerBytes};
@@ -37,26 +39,11 @@ pub fn put_record(
     requires { ⌜ at + 216 ≤ length (now buf) ⌝ }
     ensures { λ r. ⌜ Put (now (buf .entry)) at (recordBytes call answer id core) (now (buf .exit)) r ⌝ }
 {
-    let row = [
-        call,
-        answer,
-        id,
-        core.tick,
-        core.x,
-        core.y,
-        core.vel_x,
-        core.vel_y,
-        core.angle,
-        core.direction,
-        core.jumped,
-        core.hooked_player,
-        core.hook_state,
-        core.hook_tick.0,
-        core.hook_x,
-        core.hook_y,
-        core.hook_dx,
-        core.hook_dy,
-    ];
+    let numbers = core_numbers(core);
+    let mut row = [id; 18];
+    row[0] = call;
+    row[1] = answer;
+    copy(&mut row, 3, &numbers);
     put_line(buf, at, &row)
 }
 

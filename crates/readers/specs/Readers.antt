@@ -11,7 +11,8 @@ use Rattle.records.specs.Records.{toNet}
 use Rattle.world.specs.World.{tuningCount}
 use Rattle.world.specs.Calls.{placeOf}
 use Rattle.world.specs.declared.World.{World}
-use Rattle.encoding.specs.Encoding.{worldCount, coreNumbers, inputNumbers, coreIn}
+use Rattle.snap_obj.specs.Numbers.{coreNumbers, inputNumbers}
+use Rattle.encoding.specs.Encoding.{worldCount, coreIn}
 use Rattle.decoding.specs.Decoding.{decoding}
 use Rattle.buffers.specs.Buffers.{badLength, has}
 

@@ -1,20 +1,21 @@
 // What is read of a world that is kept as the numbers of a lent buffer. A refused call leaves every number of the reader's buffer as it was.
 use buffers::BAD_LENGTH;
 use character::SEATS;
+use copying::copy;
 use decoding::seat_at;
-use encoding::CORE;
-use encoding::INPUT;
 use encoding::RECORD;
 use encoding::SEAT;
 use encoding::WORLD;
-use encoding::copy;
 use encoding::seat_numbers;
 use seats::place_of;
+use snap_obj::CORE;
+use snap_obj::INPUT;
 use tuning::TUNINGS;
 ghost use mathlib.Core.Path.{_≡_};
 ghost use Prim.Native.Nat.{_-_, _≤_};
 ghost use lib.ListN.{length, take, drop};
-ghost use Rattle.encoding.specs.Encoding.{coreCount, inputCount, seatCount, worldCount, seatNumbers};
+ghost use Rattle.snap_obj.specs.Numbers.{coreCount, inputCount};
+ghost use Rattle.encoding.specs.Encoding.{seatCount, worldCount, seatNumbers};
 ghost use Rattle.decoding.specs.Decoding.{decoding};
 ghost use Rattle.character.specs.Tick.{seats};
 ghost use Rattle.readers.specs.Readers.{seatTold, readIn, recordOf, inputOf, tuningIn};

@@ -3,7 +3,7 @@ use mathlib.Core.Path.{sym, _∙_}
 use native.Mathlib.Omega.{arith}
 use lib.ListN.{take}
 use lib.Seq.{take-all, length-take-le}
-use Rattle.encoding.proofs.Rows.{first-row}
+use Rattle.copying.proofs.Pastes.{first-row}
 use borrow.Author.Needs.{needs}
 use Rattle.decoding.proofs.tunings_of.Statement.{statement}
 use Rattle.decoding.proofs.tunings_of.Tie as tie

@@ -9,8 +9,9 @@ use lib.ListN.{length, take, length-map}
 use lib.Seq.{take-all}
 use borrow.Author.Needs.{needs}
 use Rattle.character.specs.Tick.{seats}
+use Rattle.copying.proofs.Pastes.{first-row}
 use Rattle.encoding.specs.Encoding.{worldCount, each, seatNumbers, encoding}
-use Rattle.encoding.proofs.Rows.{first-row, next-row, seat-long}
+use Rattle.encoding.proofs.Rows.{next-row, seat-long}
 use Rattle.encoding.proofs.encode.Statement.{statement}
 use Rattle.encoding.proofs.encode.Tie as tie
 
@@ -33,26 +34,20 @@ loop-holds : tie.Need-loop-holds Inv-loop μ-loop
 unfolding each
 loop-holds c = (omega arith, c .before .copy .kept .0 ∙ c .before .before .before .before .before .before .pre, sym (append-nil _))
 
-mul-seat-numbers : tie.Need-mul-seat-numbers Inv-loop μ-loop
-mul-seat-numbers c = search needs
+mul-put-seat : tie.Need-mul-put-seat Inv-loop μ-loop
+mul-put-seat c = search needs
 
-array-copy-out-seat-numbers : tie.Need-array-copy-out-seat-numbers Inv-loop μ-loop
-array-copy-out-seat-numbers c = search needs
+add-put-seat : tie.Need-add-put-seat Inv-loop μ-loop
+add-put-seat c = search needs
 
-seat-numbers-requires : tie.Need-seat-numbers-requires Inv-loop μ-loop
-seat-numbers-requires c κs = search needs
+mul-put-seat-2 : tie.Need-mul-put-seat-2 Inv-loop μ-loop
+mul-put-seat-2 c = search needs
 
-mul-copy : tie.Need-mul-copy Inv-loop μ-loop
-mul-copy c = search needs
+array-copy-out-put-seat : tie.Need-array-copy-out-put-seat Inv-loop μ-loop
+array-copy-out-put-seat c = search needs
 
-add-copy : tie.Need-add-copy Inv-loop μ-loop
-add-copy c = search needs
-
-slice-aggregate-copy-2 : tie.Need-slice-aggregate-copy-2 Inv-loop μ-loop
-slice-aggregate-copy-2 c = search needs
-
-copy-requires-2 : tie.Need-copy-requires-2 Inv-loop μ-loop
-copy-requires-2 c κs = search needs
+put-seat-requires : tie.Need-put-seat-requires Inv-loop μ-loop
+put-seat-requires c κs = search needs
 
 add-i : tie.Need-add-i Inv-loop μ-loop
 add-i c = search needs
@@ -62,14 +57,12 @@ loop-less c = search needs
 
 loop-again : tie.Need-loop-again Inv-loop μ-loop
 loop-again c =
-    let k = c .before .copy2 in
-    let r = c .before .before .before .before .seat-numbers in
-    let l = c .before .before .before .before .before .before .before in
+    let k = c .before .put-seat in
+    let l = c .before .before .before .before .before in
     let i = l .loop .i in
-    let ss = c .before .before .before .before .before .before .before .before .before .before .before .before .before .before .args .world .slots in
-    let m : length ss ≡ seats = slots-long (c .before .before .before .before .before .before .before .before .before .before .before .before .before .before) in
-    let n : length (r .result) ≡ 21 = ap length (r .ensures) ∙ seat-long _ in
-    (omega arith, k .kept .0 ∙ l .loop .inv .1, next-row seatNumbers (take 18 (c .before .before .before .before .before .before .before .before .before .copy .last .0)) ss _ i (18 + 21 * i) (18 + 21 * (i + 1)) (l .loop .numbers) (k .last .0) (r .result) (omega arith) (omega arith) (l .loop .inv .2) (r .ensures) (k .ensures) (omega arith))
+    let s = c .before .before .before .before .before .before .before .before .before .before .before .before in
+    let m : length (s .args .world .slots) ≡ seats = slots-long s in
+    (omega arith, k .kept .0 ∙ l .loop .inv .1, next-row seatNumbers 21 seat-long (take 18 (c .before .before .before .before .before .before .before .copy .last .0)) (s .args .world .slots) _ i (18 + 21 * i) (18 + 21 * (i + 1)) (l .loop .numbers) (k .last .0) (omega arith) (omega arith) (l .loop .inv .2) (k .ensures) (omega arith))
 
 same-length : tie.Need-same-length Inv-loop μ-loop
 same-length c = search needs
@@ -94,13 +87,11 @@ encode-spec =
     slice-aggregate-copy
     copy-requires
     loop-holds
-    mul-seat-numbers
-    array-copy-out-seat-numbers
-    seat-numbers-requires
-    mul-copy
-    add-copy
-    slice-aggregate-copy-2
-    copy-requires-2
+    mul-put-seat
+    add-put-seat
+    mul-put-seat-2
+    array-copy-out-put-seat
+    put-seat-requires
     add-i
     loop-less
     loop-again

@@ -22,23 +22,17 @@ loop-holds : tie.Need-loop-holds Inv-loop μ-loop
 unfolding each
 loop-holds c = (omega arith, c .pre, refl)
 
-mul-record-numbers : tie.Need-mul-record-numbers Inv-loop μ-loop
-mul-record-numbers c = search needs
+mul-put-record : tie.Need-mul-put-record Inv-loop μ-loop
+mul-put-record c = search needs
 
-array-copy-out-record-numbers : tie.Need-array-copy-out-record-numbers Inv-loop μ-loop
-array-copy-out-record-numbers c = search needs
+mul-put-record-2 : tie.Need-mul-put-record-2 Inv-loop μ-loop
+mul-put-record-2 c = search needs
 
-record-numbers-requires : tie.Need-record-numbers-requires Inv-loop μ-loop
-record-numbers-requires c κs = search needs
+array-copy-out-put-record : tie.Need-array-copy-out-put-record Inv-loop μ-loop
+array-copy-out-put-record c = search needs
 
-mul-copy : tie.Need-mul-copy Inv-loop μ-loop
-mul-copy c = search needs
-
-slice-aggregate-copy : tie.Need-slice-aggregate-copy Inv-loop μ-loop
-slice-aggregate-copy c = search needs
-
-copy-requires : tie.Need-copy-requires Inv-loop μ-loop
-copy-requires c κs = search needs
+put-record-requires : tie.Need-put-record-requires Inv-loop μ-loop
+put-record-requires c κs = search needs
 
 add-i : tie.Need-add-i Inv-loop μ-loop
 add-i c = search needs
@@ -48,13 +42,11 @@ loop-less c = search needs
 
 loop-again : tie.Need-loop-again Inv-loop μ-loop
 loop-again c =
-    let k = c .before .copy in
-    let r = c .before .before .before .before .record-numbers in
-    let l = c .before .before .before .before .before .before .before in
+    let k = c .before .put-record in
+    let l = c .before .before .before .before .before in
     let i = l .loop .i in
     let m : length (l .before .args .t1) ≡ seats = search needs in
-    let n : length (r .result) ≡ 16 = ap length (r .ensures) ∙ record-long _ in
-    (omega arith, k .kept .0 ∙ l .loop .inv .1, next-row recordNumbers [] (l .before .args .t1) _ i (16 * i) (16 * (i + 1)) (l .loop .numbers) (k .last .0) (r .result) (omega arith) (omega arith) (l .loop .inv .2) (r .ensures) (k .ensures) (omega arith))
+    (omega arith, k .kept .0 ∙ l .loop .inv .1, next-row recordNumbers 16 record-long [] (l .before .args .t1) _ i (16 * i) (16 * (i + 1)) (l .loop .numbers) (k .last .0) (omega arith) (omega arith) (l .loop .inv .2) (k .ensures) (omega arith))
 
 same-length : tie.Need-same-length Inv-loop μ-loop
 same-length c = search needs
@@ -74,12 +66,10 @@ encode-records-spec =
     Inv-loop
     μ-loop
     loop-holds
-    mul-record-numbers
-    array-copy-out-record-numbers
-    record-numbers-requires
-    mul-copy
-    slice-aggregate-copy
-    copy-requires
+    mul-put-record
+    mul-put-record-2
+    array-copy-out-put-record
+    put-record-requires
     add-i
     loop-less
     loop-again

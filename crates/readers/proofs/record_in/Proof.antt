@@ -1,5 +1,6 @@
 -- `readers::record_in` meets its contract. Assumes nothing.
 use mir.Facts.{toZ-ofZ}
+use Rattle.snap_obj.specs.Numbers.{coreNumbers, inputNumbers}
 use Rattle.encoding.specs.Encoding.{seatNumbers}
 use Rattle.readers.specs.Readers.{recordOf}
 use Rattle.readers.proofs.Readings.{wrong-world, wrong-out, right-lengths}
@@ -20,7 +21,7 @@ same-length : tie.Need-same-length
 same-length c = search needs
 
 returns-3 : tie.Need-returns-3
-unfolding seatNumbers
+unfolding seatNumbers coreNumbers inputNumbers
 returns-3 c =
     let s = c .before .before .before .before .before in
     let a = s .args in

@@ -12,7 +12,8 @@ use Rattle.character.specs.declared.Slot.{Slot}
 use Rattle.world.specs.Calls.{placeOf}
 use Rattle.encoding.specs.Encoding.{seatNumbers}
 use Rattle.decoding.specs.Decoding.{decoding}
-use Rattle.encoding.proofs.Rows.{first-row, seat-long}
+use Rattle.copying.proofs.Pastes.{first-row}
+use Rattle.encoding.proofs.Rows.{seat-long}
 use Rattle.decoding.proofs.Seats.{seat-is}
 use Rattle.readers.proofs.Readings.{no-seat, nobody, somebody}
 use borrow.Author.Needs.{needs}

@@ -1,4 +1,4 @@
--- `encoding::copy` meets its contract. Assumes nothing.
+-- `copying::copy` meets its contract. Assumes nothing.
 use Prim.Native.Nat.{_+_, _-_, _≤_}
 use mathlib.Core.Path.{_≡_, refl, ap, _∙_}
 use native.Mathlib.Numerals.{add-one}
@@ -10,8 +10,8 @@ use mir.Facts.{toZ-ofZ}
 use mir.Syntax.{w32}
 use mir.Val.{toZ, ofZ}
 use borrow.Author.Needs.{needs}
-use Rattle.encoding.proofs.copy.Statement.{statement}
-use Rattle.encoding.proofs.copy.Tie as tie
+use Rattle.copying.proofs.copy.Statement.{statement}
+use Rattle.copying.proofs.copy.Tie as tie
 
 abbrev Inv-loop : tie.InvT-loop
 Inv-loop numbers₀ at row i₀ i-end numbers i = (i ≤ length row) × (i-end ≡ length row) × (length numbers ≡ length numbers₀) × (numbers ≡ paste numbers₀ at row i)
