@@ -4,7 +4,7 @@ use mathlib.Core.Path.{_≡_}
 use mathlib.Core.Bool.{Bool, false, _||_}
 use mathlib.Core.List.{List}
 use lib.Ieee.{Float, binary32, neg, ofBits}
-use Rattle.number.specs.Number.{c28}
+use Rattle.number.specs.Number.{characterSize}
 use Rattle.float.specs.Convert.{quantize}
 use Rattle.vector.specs.Vec2.{vnew, vadd, vsub, vmul}
 use Rattle.vector.specs.declared.vec2.{vec2}
@@ -31,7 +31,7 @@ Clear s ts at box = checkBox s ts at box ≡ false
 
 -- a character's box is 28 by 28
 abbrev pub characterBox : vec2
-characterBox = vnew c28 c28
+characterBox = vnew characterSize characterSize
 
 -- each coordinate to the nearest whole number and back
 unfoldable pub vquantize : vec2 → vec2

@@ -11,6 +11,7 @@ use Rattle.number.specs.Number.{c0}
 use Rattle.vector.specs.Vec2.{vnew}
 use Rattle.vector.specs.declared.vec2.{vec2}
 use Rattle.direction.specs.declared.MoveDirection.the-variants.{Left}
+use Rattle.hook.specs.Hook.{idOf}
 use Rattle.hook.specs.declared.CharacterId.{CharacterId}
 use Rattle.hook.specs.declared.Hook.{Hook}
 use Rattle.hook.specs.declared.Hook.the-variants.{Retracted}
@@ -76,21 +77,21 @@ steer c onGround i t =
 
 -- the slot j, if it is another's and somebody is there, is looked at
 abbrev pub nearestTurn : List Slot → ℕ → vec2 → vec2 → ℕ → Nearest → Nearest
-nearestTurn ss id from to j best = cond (eqb j id) best (cond (slotAt ss j .present) (nearer best j (slotAt ss j .character .pos) from to) best)
+nearestTurn ss id from to j best = cond (eqb j id) best (cond (slotAt ss j .present) (nearer best (idOf j) (slotAt ss j .character .pos) from to) best)
 
 -- whom a hook meets first on its way
 unfoldable pub nearest : ℕ → List Slot → ℕ → vec2 → vec2 → Nearest
 nearest n ss id from to = fold (nearestTurn ss id from to) n 0 Nobody
 
 -- a hook that flew grabs whom it meets, where players can be hooked
-unfoldable pub caught : ℕ → Way → ℕ → List Slot → Tuning → HookFlight
-caught n way.TooFar id ss t = TooFar
-caught n (way.Still h) id ss t = To h
-caught n (way.Along from to h) id ss t = To (cond (ne (t .«player_hooking») c0) (grab h (nearest n ss id from to)) h)
+unfoldable pub caught : ℕ → Way → ℕ → List Slot → Float → HookFlight
+caught n way.TooFar id ss hooking = TooFar
+caught n (way.Still h) id ss hooking = To h
+caught n (way.Along from to h) id ss hooking = To (cond (ne hooking c0) (grab h (nearest n ss id from to)) h)
 
 -- what becomes of a hook on its way
 abbrev pub flight : ℕ → Hook → vec2 → ℕ → List Slot → Sides → List ℕ → Tuning → HookFlight
-flight n h p id ss s ts t = caught n (flown h p s ts t) id ss t
+flight n h p id ss s ts t = caught n (flown h p s ts t) id ss (t .«player_hooking»)
 
 -- the slot j after the two have met
 abbrev pub metAt : List Slot → ℕ → Velocities → Met
@@ -99,7 +100,7 @@ metAt ss j v = record { vel = v .me; slots = set ss j (withCharacter (slotAt ss 
 abbrev pub meetTurn : ℕ → vec2 → Hook → Tuning → ℕ → Met → Met
 meetTurn id p h t j m =
     cond (eqb j id) m
-    (cond (slotAt (m .slots) j .present) (metAt (m .slots) j (meet p (m .vel) h (slotAt (m .slots) j .character .pos) (slotAt (m .slots) j .character .vel) j t)) m)
+    (cond (slotAt (m .slots) j .present) (metAt (m .slots) j (meet p (m .vel) h (slotAt (m .slots) j .character .pos) (slotAt (m .slots) j .character .vel) (idOf j) t)) m)
 
 -- the others by rising id, each as it stands then
 unfoldable pub meetAll : ℕ → List Slot → ℕ → vec2 → vec2 → Hook → Tuning → Met

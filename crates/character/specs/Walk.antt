@@ -55,10 +55,10 @@ unfoldable pub walkAmong : ℕ → List Slot → ℕ → vec2 → vec2 → Float
 walkAmong n ss id from to distance turns = orTo to (run (walkTurn n ss id from to distance) turns 0 from)
 
 -- the player walk, where players collide: 9 where it is too far
-unfoldable pub playerWalk : ℕ → List Slot → ℕ → vec2 → vec2 → Tuning → PlayerWalk
-playerWalk n ss id from to t =
+unfoldable pub playerWalk : ℕ → List Slot → ℕ → vec2 → vec2 → Float → PlayerWalk
+playerWalk n ss id from to collision =
     let distance = vdistance from to in
-    cond (ne (t .«player_collision») c0)
+    cond (ne collision c0)
     (cond (leb (playerTurns distance) mostTurns) (among.At (walkAmong n ss id from to distance (playerTurns distance))) among.TooFar)
     (among.At to)
 
@@ -70,7 +70,7 @@ rested c v (among.At p) = moved.To (movedTo c p v)
 abbrev pub afterBox : ℕ → Character → ℕ → List Slot → Tuning → BoxMove → Moved
 afterBox n c id ss t box.BadMap = moved.TooFar
 afterBox n c id ss t box.TooFar = moved.TooFar
-afterBox n c id ss t (box.To b) = rested c (b .vel) (playerWalk n ss id (c .pos) (b .pos) t)
+afterBox n c id ss t (box.To b) = rested c (b .vel) (playerWalk n ss id (c .pos) (b .pos) (t .«player_collision»))
 
 unfoldable pub moveAt : ℕ → Character → ℕ → List Slot → Sides → List ℕ → Tuning → Moved
 moveAt n c id ss s ts t = afterBox n c id ss t (rampedMove s ts (c .pos) (c .vel) t)

@@ -101,7 +101,7 @@ impl Character {
         let pos = self.pos;
         let steered = self.steer(grounded(sides, tiles, pos), input, tuning);
         let fired = steered.hook;
-        let flight = caught(flown(fired, pos, sides, tiles, tuning), id, slots, tuning);
+        let flight = caught(flown(fired, pos, sides, tiles, tuning), id, slots, tuning.player_hooking);
         let HookFlight::To(hook) = flight else {
             return Ticked {
                 number: 9,
@@ -190,14 +190,14 @@ impl Slot {
 }
 
 // Where players can be hooked, a hook that flew may grab somebody beside its way.
-fn caught(way: Way, id: usize, slots: [Slot; SEATS], tuning: Tuning) -> HookFlight
-    ensures { λ r. ⌜ r ≡ caught seats way id slots tuning ⌝ }
+fn caught(way: Way, id: usize, slots: [Slot; SEATS], player_hooking: f32) -> HookFlight
+    ensures { λ r. ⌜ r ≡ caught seats way id slots «player_hooking» ⌝ }
 {
     match way {
         Way::TooFar => HookFlight::TooFar,
         Way::Still(hook) => HookFlight::To(hook),
         Way::Along(from, to, hook) => {
-            if tuning.player_hooking != 0.0 {
+            if player_hooking != 0.0 {
                 return HookFlight::To(grab(hook, nearest(slots, id, from, to)));
             }
             HookFlight::To(hook)
@@ -214,7 +214,8 @@ fn nearest(slots: [Slot; SEATS], id: usize, from: vec2, to: vec2) -> Nearest
         if j != id {
             let slot = slots[j];
             if slot.present {
-                best = nearer(best, j as u32, slot.character.pos, from, to);
+                let cid = j as u32;
+                best = nearer(best, CharacterId(cid), slot.character.pos, from, to);
             }
         }
     }
@@ -236,13 +237,14 @@ fn meet_all(
         if j != id {
             let slot = slots[j];
             if slot.present {
+                let cid = j as u32;
                 let met = meet(
                     pos,
                     vel,
                     hook,
                     slot.character.pos,
                     slot.character.vel,
-                    j as u32,
+                    CharacterId(cid),
                     tuning,
                 );
                 vel = met.me;

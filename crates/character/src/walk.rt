@@ -76,7 +76,7 @@ impl Character {
         };
         let new_pos = body.pos;
         let new_vel = body.vel;
-        let walked = player_walk(slots, id, from, new_pos, tuning);
+        let walked = player_walk(slots, id, from, new_pos, tuning.player_collision);
         let PlayerWalk::At(rest) = walked else {
             return Moved::TooFar;
         };
@@ -87,10 +87,10 @@ impl Character {
 }
 
 // The way from one point to another; where players collide, up to the first turn in which somebody is close.
-fn player_walk(slots: [Slot; SEATS], id: usize, from: vec2, to: vec2, tuning: Tuning) -> PlayerWalk
-    ensures { λ r. ⌜ r ≡ playerWalk seats slots id from to tuning ⌝ }
+fn player_walk(slots: [Slot; SEATS], id: usize, from: vec2, to: vec2, player_collision: f32) -> PlayerWalk
+    ensures { λ r. ⌜ r ≡ playerWalk seats slots id from to «player_collision» ⌝ }
 {
-    if tuning.player_collision != 0.0 {
+    if player_collision != 0.0 {
         let distance = vec2::distance(from, to);
         let turns = player_turns(distance);
         if turns > MOST_TURNS {

@@ -16,13 +16,13 @@ use Rattle.tuning.specs.declared.Tuning.{Tuning}
 use Rattle.controls.specs.declared.Control.{Control}
 use Rattle.controls.specs.declared.JumpState.{JumpState}
 
--- 5 below half of CHARACTER_SIZE
+-- 19.0: 5 below half of CHARACTER_SIZE
 abbrev pub c19 : Float
 c19 = ofBits binary32 0x4198_0000
 
--- MAX_VELOCITY
-abbrev pub c6000 : Float
-c6000 = ofBits binary32 0x45bb_8000
+-- MAX_VELOCITY, 6000.0
+abbrev pub maxVelocity : Float
+maxVelocity = ofBits binary32 0x45bb_8000
 
 -- whether there is a solid tile 5 below one of the lower corners
 unfoldable pub grounded : Sides → List ℕ → vec2 → Bool
@@ -59,4 +59,4 @@ walk v d c = slowed d (saturatedAdd (neg (c .«max_speed»)) (c .«max_speed») 
 
 -- a velocity of at most 6,000
 unfoldable pub clampSpeed : vec2 → vec2
-clampSpeed v = cond (lt c6000 (vlength v)) (vmul (vnormalize v) c6000) v
+clampSpeed v = cond (lt maxVelocity (vlength v)) (vmul (vnormalize v) maxVelocity) v

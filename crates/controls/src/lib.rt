@@ -10,6 +10,9 @@ ghost use lib.Dec.{T};
 ghost use Rattle.tiles.specs.Map.{isMap};
 ghost use Rattle.controls.specs.Controls.{grounded, controlOf, jump, landed, walk, clampSpeed};
 
+// Where a tick's velocity ends.
+pub const MAX_VELOCITY: f32 = 6000.0;
+
 // How a character can be steered where it is.
 pub struct Control {
     pub max_speed: f32,
@@ -108,8 +111,8 @@ pub fn walk(vel_x: f32, direction: MoveDirection, control: Control) -> f32
 pub fn clamp_speed(vel: vec2) -> vec2
     ensures { λ r. ⌜ r ≡ clampSpeed vel ⌝ }
 {
-    if vel.length() > 6000.0 {
-        return vel.normalize().mul(6000.0);
+    if vel.length() > MAX_VELOCITY {
+        return vel.normalize().mul(MAX_VELOCITY);
     }
     vel
 }

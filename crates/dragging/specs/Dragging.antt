@@ -10,9 +10,9 @@ use Rattle.hook.specs.Hook.{onAttached}
 use Rattle.hook.specs.declared.Hook.{Hook}
 use Rattle.tuning.specs.declared.Tuning.{Tuning}
 
--- DISABLE_HOOK_DISTANCE
-abbrev pub c46 : Float
-c46 = ofBits binary32 0x4238_0000
+-- DISABLE_HOOK_DISTANCE, 46.0
+abbrev pub disableHookDistance : Float
+disableHookDistance = ofBits binary32 0x4238_0000
 
 -- 0.3 and 0.95
 abbrev pub c0·3 : Float
@@ -37,7 +37,7 @@ hookVel p q d t = helped (lifted (vmul (vnormalize (vsub q p)) (t .«hook_drag_a
 unfoldable pub drag : vec2 → vec2 → vec2 → MoveDirection → Tuning → vec2
 drag p v q d t =
     let new = vadd v (hookVel p q d t) in
-    cond (lt c46 (vdistance q p))
+    cond (lt disableHookDistance (vdistance q p))
     (cond (lt (vlength new) (t .«hook_drag_speed»)) new (cond (lt (vlength new) (vlength v)) new v))
     v
 

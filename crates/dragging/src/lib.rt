@@ -6,6 +6,9 @@ use vector::vec2;
 ghost use mathlib.Core.Path.{_≡_};
 ghost use Rattle.dragging.specs.Dragging.{lifted, helped, hookVel, drag, dragged};
 
+// Where a hook is nearer, it does not drag.
+pub const DISABLE_HOOK_DISTANCE: f32 = 46.0;
+
 // The velocity of a character whose hook is attached, where it is.
 pub fn dragged(hook: Hook, pos: vec2, vel: vec2, direction: MoveDirection, tuning: Tuning) -> vec2
     ensures { λ r. ⌜ r ≡ dragged hook pos vel direction tuning ⌝ }
@@ -20,7 +23,7 @@ pub fn dragged(hook: Hook, pos: vec2, vel: vec2, direction: MoveDirection, tunin
 fn drag(pos: vec2, vel: vec2, hook_pos: vec2, direction: MoveDirection, tuning: Tuning) -> vec2
     ensures { λ r. ⌜ r ≡ drag pos vel «hook_pos» direction tuning ⌝ }
 {
-    if vec2::distance(hook_pos, pos) > 46.0 {
+    if vec2::distance(hook_pos, pos) > DISABLE_HOOK_DISTANCE {
         let new_vel = vel.add(hook_vel(pos, hook_pos, direction, tuning));
         let speed = new_vel.length();
         if speed < tuning.hook_drag_speed {

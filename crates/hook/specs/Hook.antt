@@ -12,6 +12,10 @@ use Rattle.snap_obj.specs.declared.Tick.{Tick}
 use Rattle.vector.specs.Vec2.{vnew}
 use Rattle.vector.specs.declared.vec2.{vec2}
 
+-- the character in a slot
+abbrev pub idOf : ℕ → CharacterId
+idOf j = record { 0 = j }
+
 -- the number of each state; Attached and Grabbed share one
 unfoldable pub netState : Hook → ℤ
 netState Retracted = negsuc 0
@@ -86,7 +90,7 @@ nobody (negsuc k) = eqb k 0
 
 -- state 5 of a record: Attached where nobody is held, else the player's bits and the tick's as u32
 unfoldable pub attachedOrGrabbed : vec2 → ℤ → Tick → Hook
-attachedOrGrabbed p player t = cond (nobody player) (Attached p) (Grabbed (record { 0 = castUnsigned player }) (castUnsigned (t .0)))
+attachedOrGrabbed p player t = cond (nobody player) (Attached p) (Grabbed (idOf (castUnsigned player)) (castUnsigned (t .0)))
 
 -- a record's hook; a state outside -1 to 5 reads as Retracted
 unfoldable pub hookFromNet : ℤ → vec2 → vec2 → ℤ → Tick → Hook

@@ -3,7 +3,7 @@ use Prim.Native.Nat.{ℕ, _+_}
 use mathlib.Core.Bool.{Bool, cond}
 use lib.Dec.{ltb}
 use lib.Ieee.{Float, lt}
-use Rattle.number.specs.Number.{c28, c1·5}
+use Rattle.number.specs.Number.{characterSize, c1·5}
 use Rattle.vector.specs.Vec2.{vadd, vsub, vmul, vnormalize, vdistance, closestPointOnLine}
 use Rattle.vector.specs.declared.vec2.{vec2}
 use Rattle.hook.specs.Hook.{onGrabbed}
@@ -22,7 +22,7 @@ use Rattle.hooking.specs.declared.Nearest.the-variants as near
 
 -- an idle hook is fired, any other stays
 unfoldable pub fired : Hook → vec2 → vec2 → Hook
-fired Idle p d = Flying (vadd p (vmul (vmul d c28) c1·5)) d
+fired Idle p d = Flying (vadd p (vmul (vmul d characterSize) c1·5)) d
 fired Retracted p d = Retracted
 fired (Flying a b) p d = Flying a b
 fired (Grabbed c t) p d = Grabbed c t
@@ -55,13 +55,13 @@ strike h Nothing = h
 strike h (At p t) = struckBy h p t
 
 -- the first is the nearest so far, a later one where its distance is less
-unfoldable pub closer : Nearest → ℕ → Float → Nearest
-closer Nobody cid distance = near.At distance (record { 0 = cid })
-closer (near.At least c) cid distance = cond (lt distance least) (near.At distance (record { 0 = cid })) (near.At least c)
+unfoldable pub closer : Nearest → CharacterId → Float → Nearest
+closer Nobody cid distance = near.At distance cid
+closer (near.At least c) cid distance = cond (lt distance least) (near.At distance cid) (near.At least c)
 
 -- of those that are within CHARACTER_SIZE of the way
-unfoldable pub nearer : Nearest → ℕ → vec2 → vec2 → vec2 → Nearest
-nearer best cid q from to = cond (lt (vdistance q (closestPointOnLine q from to)) c28) (closer best cid (vdistance from q)) best
+unfoldable pub nearer : Nearest → CharacterId → vec2 → vec2 → vec2 → Nearest
+nearer best cid q from to = cond (lt (vdistance q (closestPointOnLine q from to)) characterSize) (closer best cid (vdistance from q)) best
 
 -- whoever is met is grabbed, for no ticks yet
 unfoldable pub grab : Hook → Nearest → Hook

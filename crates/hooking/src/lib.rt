@@ -2,6 +2,7 @@
 use hook::CharacterId;
 use hook::Hook;
 use lines::LineCheck;
+use number::CHARACTER_SIZE;
 use tiles::Tile;
 use tuning::Tuning;
 use vector::vec2;
@@ -33,7 +34,7 @@ fn fired(hook: Hook, pos: vec2, target_dir: vec2) -> Hook
     let Hook::Idle = hook else {
         return hook;
     };
-    Hook::Flying(pos.add(target_dir.mul(28.0).mul(1.5)), target_dir)
+    Hook::Flying(pos.add(target_dir.mul(CHARACTER_SIZE).mul(1.5)), target_dir)
 }
 
 // The flight of a tick, which ends at the hook's length from the character.
@@ -75,26 +76,26 @@ pub enum Nearest {
 }
 
 // The nearest after the character cid at `other` is looked at: of those beside the way, the first of the least distance.
-pub fn nearer(best: Nearest, cid: u32, other: vec2, from: vec2, to: vec2) -> Nearest
+pub fn nearer(best: Nearest, cid: CharacterId, other: vec2, from: vec2, to: vec2) -> Nearest
     ensures { λ r. ⌜ r ≡ nearer best cid other from to ⌝ }
 {
     let closest = other.closest_point_on_line(from, to);
-    if vec2::distance(other, closest) < 28.0 {
+    if vec2::distance(other, closest) < CHARACTER_SIZE {
         return closer(best, cid, vec2::distance(from, other));
     }
     best
 }
 
-fn closer(best: Nearest, cid: u32, distance: f32) -> Nearest
+fn closer(best: Nearest, cid: CharacterId, distance: f32) -> Nearest
     ensures { λ r. ⌜ r ≡ closer best cid distance ⌝ }
 {
     if let Nearest::At(min_distance, _) = best {
         if distance < min_distance {
-            return Nearest::At(distance, CharacterId(cid));
+            return Nearest::At(distance, cid);
         }
         return best;
     }
-    Nearest::At(distance, CharacterId(cid))
+    Nearest::At(distance, cid)
 }
 
 // Whoever is met is grabbed.

@@ -4,6 +4,7 @@ use character::Character;
 use character::SEATS;
 use character::Slot;
 use float::i32_to_f32;
+use number::CHARACTER_SIZE;
 use seats::accepted;
 use seats::no_input;
 use seats::place_of;
@@ -48,7 +49,8 @@ fn join_at(world: World, sides: Sides, tiles: &[u8], at: usize, pos: vec2) -> An
     requires { ⌜ T (isMap sides (now tiles)) × (at < seats) ⌝ }
     ensures { λ r. ⌜ r ≡ joinAt world sides (now (tiles .entry)) at pos ⌝ }
 {
-    if check_box(sides, tiles, pos, vec2::new(28.0, 28.0)) {
+    let box_ = vec2::new(CHARACTER_SIZE, CHARACTER_SIZE);
+    if check_box(sides, tiles, pos, box_) {
         return refused(world, 5);
     }
     let slot = world.slots[at];

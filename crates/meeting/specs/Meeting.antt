@@ -3,7 +3,7 @@ use Prim.Native.Nat.{ℕ}
 use mathlib.Core.Bool.{cond}
 use lib.Dec.{eqb}
 use lib.Ieee.{Float, binary32, neg, add, sub, mul, div, lt, ne, ofBits}
-use Rattle.number.specs.Number.{c0, c1, saturatedAdd, c28, c1·5, c0·75}
+use Rattle.number.specs.Number.{c0, c1, saturatedAdd, characterSize, c1·5, c0·75}
 use Rattle.vector.specs.Vec2.{vnew, vadd, vsub, vmul, vlength, vnormalize, vdistance, vdot}
 use Rattle.vector.specs.declared.vec2.{vec2}
 use Rattle.hook.specs.Hook.{onGrabbed}
@@ -48,7 +48,7 @@ additionalVel v d = cond (lt c0·0001 (vlength v)) (sub binary32 c1 (div binary3
 unfoldable pub pushed : vec2 → vec2 → vec2 → Float → vec2
 pushed p v q distance =
     let d = vnormalize (vsub p q) in
-    let factor = sub binary32 (mul binary32 c28 c1·45) distance in
+    let factor = sub binary32 (mul binary32 characterSize c1·45) distance in
     vmul (vadd v (vmul (vmul (vmul d factor) (additionalVel v d)) c0·75)) c0·85
 
 -- where players collide and the other is near, but not in the same place
@@ -72,12 +72,12 @@ dragged p q v distance t =
 unfoldable pub held : vec2 → vec2 → Velocities → Float → Tuning → Velocities
 held p q v distance t = cond (ne (t .«player_hooking») c0) (cond (lt c42 distance) (dragged p q v distance t) v) v
 
--- the hook holds the character in the slot cid, or not
-abbrev pub dragIf : vec2 → vec2 → Velocities → Float → Tuning → ℕ → CharacterId → ℕ → Velocities
-dragIf p q v distance t cid hooked ticks = cond (eqb (hooked .0) cid) (held p q v distance t) v
+-- the hook holds the character cid, or not
+abbrev pub dragIf : vec2 → vec2 → Velocities → Float → Tuning → CharacterId → CharacterId → ℕ → Velocities
+dragIf p q v distance t cid hooked ticks = cond (eqb (hooked .0) (cid .0)) (held p q v distance t) v
 
--- p, v and the hook are of the character that ticks, q and u of the one in the slot cid: a collision, then the drag
-unfoldable pub meet : vec2 → vec2 → Hook → vec2 → vec2 → ℕ → Tuning → Velocities
+-- p, v and the hook are of the character that ticks, q and u of the character cid: a collision, then the drag
+unfoldable pub meet : vec2 → vec2 → Hook → vec2 → vec2 → CharacterId → Tuning → Velocities
 meet p v h q u cid t =
     let distance = vdistance p q in
     let w : Velocities = record { me = push p v q distance (t .«player_collision»); other = u } in

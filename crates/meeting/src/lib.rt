@@ -1,5 +1,7 @@
 // What two characters do to each other's velocity in a tick.
+use hook::CharacterId;
 use hook::Hook;
+use number::CHARACTER_SIZE;
 use number::saturated_add;
 use tuning::Tuning;
 use vector::vec2;
@@ -28,7 +30,7 @@ fn pushed(pos: vec2, vel: vec2, other: vec2, distance: f32) -> vec2
     ensures { λ r. ⌜ r ≡ pushed pos vel other distance ⌝ }
 {
     let dir_to_self = pos.sub(other).normalize();
-    let arbitrary_factor = 28.0 * 1.45 - distance;
+    let arbitrary_factor = CHARACTER_SIZE * 1.45 - distance;
     let additional_vel = additional_vel(vel, dir_to_self);
     let push = dir_to_self
         .mul(arbitrary_factor)
@@ -107,14 +109,14 @@ fn held(pos: vec2, other_pos: vec2, before: Velocities, distance: f32, tuning: T
     before
 }
 
-// A tick's meeting with the character in the slot cid: a collision, then the drag of a hook that holds it.
+// A tick's meeting with the character cid: a collision, then the drag of a hook that holds it.
 pub fn meet(
     pos: vec2,
     vel: vec2,
     hook: Hook,
     other_pos: vec2,
     other_vel: vec2,
-    cid: u32,
+    cid: CharacterId,
     tuning: Tuning,
 ) -> Velocities
     ensures { λ r. ⌜ r ≡ meet pos vel hook «other_pos» «other_vel» cid tuning ⌝ }
@@ -126,7 +128,7 @@ pub fn meet(
     let Hook::Grabbed(hooked, _) = hook else {
         return velocities;
     };
-    if hooked.0 == cid {
+    if hooked.0 == cid.0 {
         let distance = vec2::distance(pos, other_pos);
         return held(pos, other_pos, velocities, distance, tuning);
     }

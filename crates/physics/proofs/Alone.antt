@@ -9,6 +9,8 @@ use Rattle.turns.specs.Turns.{fold}
 use Rattle.turns.proofs.Kept.{fold-kept}
 use Rattle.number.specs.Number.{c0}
 use Rattle.vector.specs.declared.vec2.{vec2}
+use Rattle.hook.specs.Hook.{idOf}
+use Rattle.hook.specs.declared.CharacterId.{CharacterId}
 use Rattle.hook.specs.declared.Hook.{Hook}
 use Rattle.hook.specs.declared.Hook.the-variants.{Retracted, Idle, Flying, Grabbed, Attached, Retracting0, Retracting1, Retracting2}
 use Rattle.snap_obj.specs.declared.PlayerInput.{PlayerInput}
@@ -37,12 +39,12 @@ same v false = refl
 
 module _ (t : Tuning) (collision : ne (t .«player_collision») c0 ≡ false) (hooking : ne (t .«player_hooking») c0 ≡ false) where
   -- nobody changes anybody's velocity
-  meet-alone : (p v : vec2) (h : Hook) (q u : vec2) (cid : ℕ) → meet p v h q u cid t ≡ record { me = v; other = u }
+  meet-alone : (p v : vec2) (h : Hook) (q u : vec2) (cid : CharacterId) → meet p v h q u cid t ≡ record { me = v; other = u }
   unfolding meet push held
   meet-alone p v Retracted q u cid = rw collision
   meet-alone p v Idle q u cid = rw collision
   meet-alone p v (Flying a b) q u cid = rw collision
-  meet-alone p v (Grabbed c k) q u cid = rw (collision, hooking) (same (record { me = v; other = u }) (eqb (c .0) cid))
+  meet-alone p v (Grabbed c k) q u cid = rw (collision, hooking) (same (record { me = v; other = u }) (eqb (c .0) (cid .0)))
   meet-alone p v (Attached a) q u cid = rw collision
   meet-alone p v (Retracting0 a) q u cid = rw collision
   meet-alone p v (Retracting1 a) q u cid = rw collision
@@ -54,9 +56,9 @@ module _ (t : Tuning) (collision : ne (t .«player_collision») c0 ≡ false) (h
   turn-alone : (id : ℕ) (p : vec2) (h : Hook) (j : ℕ) (m : Met) → meetTurn id p h t j m ≡ m
   turn-alone id p h j m = go (eqb j id) (slotAt (m .slots) j .present)
     where
-      go : (b d : Bool) → cond b m (cond d (metAt (m .slots) j (meet p (m .vel) h (slotAt (m .slots) j .character .pos) (slotAt (m .slots) j .character .vel) j t)) m) ≡ m
+      go : (b d : Bool) → cond b m (cond d (metAt (m .slots) j (meet p (m .vel) h (slotAt (m .slots) j .character .pos) (slotAt (m .slots) j .character .vel) (idOf j) t)) m) ≡ m
       go true d = refl
-      go false true = ap (metAt (m .slots) j) (meet-alone p (m .vel) h (slotAt (m .slots) j .character .pos) (slotAt (m .slots) j .character .vel) j) ∙ met-alone (m .slots) j (m .vel)
+      go false true = ap (metAt (m .slots) j) (meet-alone p (m .vel) h (slotAt (m .slots) j .character .pos) (slotAt (m .slots) j .character .vel) (idOf j)) ∙ met-alone (m .slots) j (m .vel)
       go false false = refl
 
   pub meet-all-alone : (n : ℕ) (ss : List Slot) (id : ℕ) (p v : vec2) (h : Hook) → meetAll n ss id p v h t ≡ record { vel = v; slots = ss }
@@ -64,7 +66,7 @@ module _ (t : Tuning) (collision : ne (t .«player_collision») c0 ≡ false) (h
   meet-all-alone n ss id p v h = fold-kept (meetTurn id p h t) (λ m. m ≡ record { vel = v; slots = ss }) (λ j m e. turn-alone id p h j m ∙ e) n 0 (record { vel = v; slots = ss }) refl
 
   -- a hook passes everybody
-  caught-alone : (n : ℕ) (w : Way) (id : ℕ) (ss us : List Slot) → caught n w id ss t ≡ caught n w id us t
+  caught-alone : (n : ℕ) (w : Way) (id : ℕ) (ss us : List Slot) → caught n w id ss (t .«player_hooking») ≡ caught n w id us (t .«player_hooking»)
   unfolding caught
   caught-alone n way.TooFar id ss us = refl
   caught-alone n (way.Still h) id ss us = refl

@@ -14,7 +14,7 @@ use Rattle.vector.specs.Vec2.{vadd, vmul, vlength, vnormalize, vdistance}
 use Rattle.vector.specs.declared.vec2.{vec2}
 use Rattle.direction.specs.declared.MoveDirection.{MoveDirection}
 use Rattle.direction.specs.declared.MoveDirection.the-variants.{Left, None, Right}
-use Rattle.hook.specs.Hook.{onAttached, onGrabbed}
+use Rattle.hook.specs.Hook.{idOf, onAttached, onGrabbed}
 use Rattle.hook.specs.declared.CharacterId.{CharacterId}
 use Rattle.hook.specs.declared.Hook.{Hook}
 use Rattle.hook.specs.declared.Hook.the-variants.{Retracted, Idle, Flying, Grabbed, Attached, Retracting0, Retracting1, Retracting2}
@@ -22,11 +22,11 @@ use Rattle.snap_obj.specs.declared.PlayerInput.{PlayerInput}
 use Rattle.tiles.specs.declared.Sides.{Sides}
 use Rattle.tuning.specs.Tuning.{tuningAt, tuningOf}
 use Rattle.tuning.specs.declared.Tuning.{Tuning}
-use Rattle.controls.specs.Controls.{c6000, grounded, controlOf, jump, slowed, walk, clampSpeed}
+use Rattle.controls.specs.Controls.{maxVelocity, grounded, controlOf, jump, slowed, walk, clampSpeed}
 use Rattle.controls.specs.declared.Control.{Control}
 use Rattle.controls.specs.declared.JumpState.{JumpState}
 use Rattle.hooking.specs.Hooking.{hold}
-use Rattle.dragging.specs.Dragging.{c46, hookVel, drag, dragged}
+use Rattle.dragging.specs.Dragging.{disableHookDistance, hookVel, drag, dragged}
 use Rattle.meeting.specs.Meeting as meeting
 use Rattle.meeting.specs.declared.Velocities.{Velocities}
 use Rattle.character.specs.declared.Character.{Character}
@@ -75,14 +75,14 @@ walk-fits v d c h k = slowed-fits d _ _ (saturated-fits (c .«max_speed») v _ h
 
 clamp-speed-fits : (v : vec2) → FitsPair v → FitsPair (clampSpeed v)
 unfolding clampSpeed
-clamp-speed-fits v h = either FitsPair (lt c6000 (vlength v)) (mul-pair (vnormalize v) c6000) h
+clamp-speed-fits v h = either FitsPair (lt maxVelocity (vlength v)) (mul-pair (vnormalize v) maxVelocity) h
 
 drag-fits : (p v q : vec2) (d : MoveDirection) (t : Tuning) → FitsPair v → FitsPair (drag p v q d t)
 unfolding drag
 drag-fits p v q d t h =
     let new = vadd v (hookVel p q d t) in
     let k = add-pair v (hookVel p q d t) in
-    either FitsPair (lt c46 (vdistance q p)) (either FitsPair (lt (vlength new) (t .«hook_drag_speed»)) k (either FitsPair (lt (vlength new) (vlength v)) k h)) h
+    either FitsPair (lt disableHookDistance (vdistance q p)) (either FitsPair (lt (vlength new) (t .«hook_drag_speed»)) k (either FitsPair (lt (vlength new) (vlength v)) k h)) h
 
 module _ {A : Type 0} (P : A → Type 0) (e : A) (k : P e) where
   on-attached : (f : vec2 → A) (h : Hook) → ((q : vec2) → P (f q)) → P (onAttached f e h)
@@ -166,18 +166,18 @@ module _ (tunings : List ℤ) where
   unfolding meeting.held
   held-fits p q v distance h = either FitsBoth (ne (t .«player_hooking») c0) (either FitsBoth (lt meeting.c42 distance) (pulled-fits p q v distance h) h) h
 
-  meet-fits : (p v : vec2) (h : Hook) (q u : vec2) (cid : ℕ) → FitsPair v → FitsPair u → FitsBoth (meeting.meet p v h q u cid t)
+  meet-fits : (p v : vec2) (h : Hook) (q u : vec2) (cid : CharacterId) → FitsPair v → FitsPair u → FitsBoth (meeting.meet p v h q u cid t)
   unfolding meeting.meet
   meet-fits p v h q u cid k l =
       let distance = vdistance p q in
       let w : Velocities = record { me = meeting.push p v q distance (t .«player_collision»); other = u } in
       let b : FitsBoth w = (push-fits p v q distance (t .«player_collision») k, l) in
-      on-grabbed FitsBoth w b (meeting.dragIf p q w distance t cid) h (λ c n. either FitsBoth (eqb (c .0) cid) (held-fits p q w distance b) b)
+      on-grabbed FitsBoth w b (meeting.dragIf p q w distance t cid) h (λ c n. either FitsBoth (eqb (c .0) (cid .0)) (held-fits p q w distance b) b)
 
   turn-fits : (id : ℕ) (p : vec2) (h : Hook) (j : ℕ) (m : Met) → FitsMet m → FitsMet (meetTurn id p h t j m)
   turn-fits id p h j m k =
       let o = slotAt (m .slots) j in
-      either FitsMet (eqb j id) k (either FitsMet (o .present) (met-fits (m .slots) j _ (k .1) (meet-fits p (m .vel) h (o .character .pos) (o .character .vel) j (k .0) (k .1 j))) k)
+      either FitsMet (eqb j id) k (either FitsMet (o .present) (met-fits (m .slots) j _ (k .1) (meet-fits p (m .vel) h (o .character .pos) (o .character .vel) (idOf j) (k .0) (k .1 j))) k)
 
   meet-all-fits : (n : ℕ) (ss : List Slot) (id : ℕ) (p v : vec2) (h : Hook) → FitsPair v → FitsSlots ss → FitsMet (meetAll n ss id p v h t)
   unfolding meetAll

@@ -7,6 +7,7 @@ use lib.Dec.{eqb}
 use lib.ListN.{length, set, length-set}
 use Rattle.turns.proofs.Kept.{fold-kept}
 use Rattle.vector.specs.declared.vec2.{vec2}
+use Rattle.hook.specs.Hook.{idOf}
 use Rattle.hook.specs.declared.Hook.{Hook}
 use Rattle.snap_obj.specs.declared.PlayerInput.{PlayerInput}
 use Rattle.tiles.specs.declared.Sides.{Sides}
@@ -43,7 +44,7 @@ module _ (ss : List Slot) where
       set-kept Leaves ss us j (withCharacter (slotAt us j) (withVel (slotAt us j .character) v)) nowhere h (e, λ q. absurd (true≢false (sym p ∙ ap (λ (s : Slot). s .present) (h j .0) ∙ q)))
 
   turn-kept : (id : ℕ) (p : vec2) (h : Hook) (t : Tuning) (j : ℕ) (m : Met) → Kept (m .slots) → Kept (meetTurn id p h t j m .slots)
-  turn-kept id p h t j m k = go (eqb j id) (slotAt (m .slots) j .present) (meet p (m .vel) h (slotAt (m .slots) j .character .pos) (slotAt (m .slots) j .character .vel) j t) refl
+  turn-kept id p h t j m k = go (eqb j id) (slotAt (m .slots) j .present) (meet p (m .vel) h (slotAt (m .slots) j .character .pos) (slotAt (m .slots) j .character .vel) (idOf j) t) refl
     where
       go : (b d : Bool) (v : Velocities) → slotAt (m .slots) j .present ≡ d → Kept (cond b m (cond d (metAt (m .slots) j v) m) .slots)
       go true d v e = k
@@ -74,7 +75,7 @@ module _ (ss : List Slot) where
 -- as many slots as before
 module _ (ss : List Slot) where
   turn-length : (id : ℕ) (p : vec2) (h : Hook) (t : Tuning) (j : ℕ) (m : Met) → length (m .slots) ≡ length ss → length (meetTurn id p h t j m .slots) ≡ length ss
-  turn-length id p h t j m e = go (eqb j id) (slotAt (m .slots) j .present) (meet p (m .vel) h (slotAt (m .slots) j .character .pos) (slotAt (m .slots) j .character .vel) j t)
+  turn-length id p h t j m e = go (eqb j id) (slotAt (m .slots) j .present) (meet p (m .vel) h (slotAt (m .slots) j .character .pos) (slotAt (m .slots) j .character .vel) (idOf j) t)
     where
       go : (b d : Bool) (v : Velocities) → length (cond b m (cond d (metAt (m .slots) j v) m) .slots) ≡ length ss
       go true d v = e

@@ -10,7 +10,7 @@ use lib.Ieee.Fits.{add-fits}
 use borrow.Author.Tests.{le-ltb}
 use Rattle.root.specs.Root.{root, rootOf, isqrt}
 use Rattle.root.proofs.Monotone.{root-mono}
-use Rattle.number.specs.Number.{c0, c28}
+use Rattle.number.specs.Number.{c0, characterSize}
 use Rattle.vector.specs.declared.vec2.{vec2}
 use Rattle.vector.specs.Vec2.{vsub, vdot, vlength, vdistance}
 use Rattle.touching.specs.Touching.{touches}
@@ -62,10 +62,10 @@ far-from c r k p q h =
 abbrev pub c784 : Float
 c784 = ofBits binary32 0x4444_0000
 
-rooted-784 : Rooted c784 c28
+rooted-784 : Rooted c784 characterSize
 unfolding root rootOf isqrt ofBits round fits le lt eq
 rooted-784 = record { root-is = refl; fitting = tt; above = tt; positive-root = tt }
 
 pub far : (p q : vec2) → T (le c784 (square p q)) → false ≡ touches p q
 unfolding touches
-far p q h = both (lt c0 (vdistance p q)) (lt (vdistance p q) c28) (far-from c784 c28 rooted-784 p q h)
+far p q h = both (lt c0 (vdistance p q)) (lt (vdistance p q) characterSize) (far-from c784 characterSize rooted-784 p q h)

@@ -1,10 +1,10 @@
 -- When two characters touch in the player walk of lib.rs. Definitions only.
 use mathlib.Core.Bool.{Bool, _&&_}
 use lib.Ieee.{lt}
-use Rattle.number.specs.Number.{c0, c28}
+use Rattle.number.specs.Number.{c0, characterSize}
 use Rattle.vector.specs.Vec2.{vdistance}
 use Rattle.vector.specs.declared.vec2.{vec2}
 
 -- near, but not in the same place
 unfoldable pub touches : vec2 → vec2 → Bool
-touches p q = let d = vdistance p q in lt c0 d && lt d c28
+touches p q = let d = vdistance p q in lt c0 d && lt d characterSize

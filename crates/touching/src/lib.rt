@@ -1,4 +1,5 @@
 // When two characters touch.
+use number::CHARACTER_SIZE;
 use vector::vec2;
 ghost use mathlib.Core.Path.{_≡_};
 ghost use Rattle.touching.specs.Touching.{touches};
@@ -14,5 +15,5 @@ pub fn touches(p: vec2, q: vec2) -> bool
         return false;
     }
     let d = root::root(square);
-    0.0 < d && d < 28.0
+    0.0 < d && d < CHARACTER_SIZE
 }

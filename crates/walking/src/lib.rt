@@ -2,6 +2,7 @@
 use moves::Body;
 use moves::BoxMove;
 use moves::walk_box;
+use number::CHARACTER_SIZE;
 use ramp::velocity_ramp;
 use tiles::Sides;
 use tiles::count;
@@ -24,7 +25,8 @@ pub fn ramped_move(sides: Sides, tiles: &[u8], pos: vec2, vel: vec2, tuning: Tun
         tuning.velramp_curvature,
     );
     let ramped = vec2::new(vel.x * ramp_value, vel.y);
-    let moved = walk_box(sides, tiles, pos, ramped, vec2::new(28.0, 28.0));
+    let box_ = vec2::new(CHARACTER_SIZE, CHARACTER_SIZE);
+    let moved = walk_box(sides, tiles, pos, ramped, box_);
     let BoxMove::To(body) = moved else {
         return moved;
     };

@@ -118,7 +118,7 @@ data Left (c : Character) : Moved → Type 0 where
 box-left : (n : ℕ) (c : Character) (id : ℕ) (ss : List Slot) (t : Tuning) (b : BoxMove) → Left c (afterBox n c id ss t b)
 box-left n c id ss t box.BadMap = far
 box-left n c id ss t box.TooFar = far
-box-left n c id ss t (box.To b) = walked (playerWalk n ss id (c .pos) (b .pos) t)
+box-left n c id ss t (box.To b) = walked (playerWalk n ss id (c .pos) (b .pos) (t .«player_collision»))
   where
     walked : (w : PlayerWalk) → Left c (rested c (b .vel) w)
     walked among.TooFar = far

@@ -24,11 +24,11 @@ held-requires c κs = search needs
 
 returns-2 : tie.Need-returns-2
 unfolding meet
-returns-2 c = simp (c .held .ensures, c .before .distance .ensures, c .before .before .before .before .before .before .before .collide .ensures, c .before .before .before .before .before .hook .given .1, eq-eqb _ _ (c .before .before .if1 .taken))
+returns-2 c = simp (c .held .ensures, c .before .distance .ensures, c .before .before .before .before .before .before .before .before .collide .ensures, c .before .before .before .before .before .before .hook .given .1, eq-eqb _ _ (c .before .before .if1 .taken))
 
 returns-3 : tie.Need-returns-3
 unfolding meet
-returns-3 c = simp (← c .before .before .before .before .before .collide .ensures, c .before .before .before .hook .given .1, ne-eqb _ _ (c .if1 .left))
+returns-3 c = simp (← c .before .before .before .before .before .before .collide .ensures, c .before .before .before .before .hook .given .1, ne-eqb _ _ (c .if1 .left))
 
 pub meet-spec : {M : Type 1} → statement M
 meet-spec =

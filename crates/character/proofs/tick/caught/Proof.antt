@@ -21,7 +21,7 @@ grab-requires c κs = search needs
 
 returns : tie.Need-returns
 unfolding caught
-returns c = simp (c .before .before .before .before .before .way2 .given .1, c .before .before .if1 .taken, ← c .before .nearest .ensures, ← c .grab .ensures)
+returns c = simp (c .before .before .before .before .way2 .given .1, c .before .before .if1 .taken, ← c .before .nearest .ensures, ← c .grab .ensures)
 
 returns-2 : tie.Need-returns-2
 unfolding caught
@@ -33,7 +33,7 @@ returns-3 c = simp (c .before .way .given .1)
 
 returns-4 : tie.Need-returns-4
 unfolding caught
-returns-4 c = simp (c .before .before .before .way2 .given .1, c .if1 .left)
+returns-4 c = simp (c .before .before .way2 .given .1, c .if1 .left)
 
 pub caught-spec : {M : Type 1} → statement M
 caught-spec =

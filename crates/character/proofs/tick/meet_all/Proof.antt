@@ -11,6 +11,7 @@ use borrow.Author.Tests.{eq-eqb, ne-eqb}
 use Rattle.character.specs.Tick.{seats, slotAt, withVel, withCharacter, meetTurn, meetAll}
 use Rattle.character.specs.declared.Slot.{Slot}
 use Rattle.character.specs.declared.tick.Met.{Met}
+use Rattle.hook.specs.Hook.{idOf}
 use Rattle.hook.specs.declared.Hook.{Hook}
 use Rattle.meeting.specs.Meeting.{meet}
 use Rattle.meeting.specs.declared.Velocities.{Velocities}
@@ -26,7 +27,7 @@ met v ss = record { vel = v; slots = ss }
 
 -- a turn, on plain values: somebody is there; nobody; the slot is the walker's own
 module _ (id : ℕ) (p : vec2) (h : Hook) (t : Tuning) (j : ℕ) (v w : vec2) (ss us : List Slot) where
-  both : (r : Velocities) → (j ≡ id → ⊥) → slotAt ss j .present ≡ true → r ≡ meet p v h (slotAt ss j .character .pos) (slotAt ss j .character .vel) j t → w ≡ r .me → us ≡ set ss j (withCharacter (slotAt ss j) (withVel (slotAt ss j .character) (r .other))) → always (meetTurn id p h t) j (met v ss) ≡ more (met w us)
+  both : (r : Velocities) → (j ≡ id → ⊥) → slotAt ss j .present ≡ true → r ≡ meet p v h (slotAt ss j .character .pos) (slotAt ss j .character .vel) (idOf j) t → w ≡ r .me → us ≡ set ss j (withCharacter (slotAt ss j) (withVel (slotAt ss j .character) (r .other))) → always (meetTurn id p h t) j (met v ss) ≡ more (met w us)
   both r n q e f g = simp (f, g, ne-eqb j id n, q, ← e)
 
   absent : (j ≡ id → ⊥) → slotAt ss j .present ≡ false → w ≡ v → us ≡ ss → always (meetTurn id p h t) j (met v ss) ≡ more (met w us)
@@ -50,8 +51,8 @@ mul-slot c = search needs
 array-copy-out-slot : tie.Need-array-copy-out-slot Inv-loop μ-loop
 array-copy-out-slot c = omega arith
 
-cast-meet : tie.Need-cast-meet Inv-loop μ-loop
-cast-meet c = omega arith
+cast-cid : tie.Need-cast-cid Inv-loop μ-loop
+cast-cid c = omega arith
 
 meet-requires : tie.Need-meet-requires Inv-loop μ-loop
 meet-requires c κs = search needs
@@ -95,7 +96,7 @@ meet-all-spec =
     loop-holds
     mul-slot
     array-copy-out-slot
-    cast-meet
+    cast-cid
     meet-requires
     with-vel-requires
     mul-slots

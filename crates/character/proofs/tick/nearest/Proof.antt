@@ -9,6 +9,7 @@ use borrow.Author.Needs.{needs}
 use borrow.Author.Tests.{eq-eqb, ne-eqb}
 use Rattle.character.specs.Tick.{seats, slotAt, nearestTurn, nearest}
 use Rattle.character.specs.declared.Slot.{Slot}
+use Rattle.hook.specs.Hook.{idOf}
 use Rattle.hooking.specs.Hooking.{nearer}
 use Rattle.hooking.specs.declared.Nearest.{Nearest}
 use Rattle.turns.proofs.Loop.{Left, always, fold-first, turn-on, fold-end}
@@ -19,7 +20,7 @@ use Rattle.character.proofs.tick.nearest.Tie as tie
 
 -- a turn, on plain values: somebody is there; nobody; the slot is the walker's own
 module _ (ss : List Slot) (id : ℕ) (from to : vec2) (j : ℕ) (best after : Nearest) where
-  looked-at : (r : Nearest) → (j ≡ id → ⊥) → slotAt ss j .present ≡ true → r ≡ nearer best j (slotAt ss j .character .pos) from to → after ≡ r → always (nearestTurn ss id from to) j best ≡ more after
+  looked-at : (r : Nearest) → (j ≡ id → ⊥) → slotAt ss j .present ≡ true → r ≡ nearer best (idOf j) (slotAt ss j .character .pos) from to → after ≡ r → always (nearestTurn ss id from to) j best ≡ more after
   looked-at r n p e f = simp (f, ne-eqb j id n, p, ← e)
 
   absent : (j ≡ id → ⊥) → slotAt ss j .present ≡ false → after ≡ best → always (nearestTurn ss id from to) j best ≡ more after
@@ -43,8 +44,8 @@ mul-slot c = search needs
 array-copy-out-slot : tie.Need-array-copy-out-slot Inv-loop μ-loop
 array-copy-out-slot c = omega arith
 
-cast-nearer : tie.Need-cast-nearer Inv-loop μ-loop
-cast-nearer c = omega arith
+cast-cid : tie.Need-cast-cid Inv-loop μ-loop
+cast-cid c = omega arith
 
 nearer-requires : tie.Need-nearer-requires Inv-loop μ-loop
 nearer-requires c κs = search needs
@@ -77,7 +78,7 @@ nearest-spec =
     loop-holds
     mul-slot
     array-copy-out-slot
-    cast-nearer
+    cast-cid
     nearer-requires
     add-j
     loop-less
