@@ -8,7 +8,7 @@ use Rattle.tiles.specs.declared.Sides.{Sides}
 use Rattle.call.specs.declared.Call.{Call}
 use Rattle.call.specs.declared.Call.the-variants.{Join, Leave, Input, Step, Tune}
 use Rattle.character.specs.Tick.{seats}
-use Rattle.world.specs.World.{fresh, tuningCount}
+use Rattle.world.specs.World.{fresh}
 use Rattle.world.specs.Calls.{join, leave, input, tune}
 use Rattle.world.specs.Demand3.{inputOf, answer, after}
 use Rattle.world.specs.Settled.{Settled}

@@ -1,6 +1,6 @@
 -- `Character::tick` of lib.rs, among n slots. Definitions only.
 use Prim.Native.Nat.{ℕ}
-use mathlib.Core.Bool.{Bool, true, false, cond}
+use mathlib.Core.Bool.{Bool, false, cond}
 use mathlib.Core.List.{List}
 use lib.Dec.{eqb, ltb}
 use lib.ListN.{getD, set}
@@ -22,7 +22,6 @@ use Rattle.tiles.specs.Map.{isMap}
 use Rattle.tiles.specs.declared.Sides.{Sides}
 use Rattle.inputs.specs.Inputs.{moveDirection, targetDir, aim, jumps, hooks}
 use Rattle.controls.specs.Controls.{grounded, controlOf, jump, landed, walk, clampSpeed}
-use Rattle.controls.specs.declared.JumpState.{JumpState}
 use Rattle.hooking.specs.Hooking.{fire, nearer, grab, hold}
 use Rattle.hooking.specs.declared.Nearest.{Nearest}
 use Rattle.hooking.specs.declared.Nearest.the-variants.{Nobody}

@@ -15,7 +15,6 @@ use Rattle.tiles.specs.Map.{isMap, mostTurns}
 use Rattle.tiles.specs.declared.Sides.{Sides}
 use Rattle.tuning.specs.Tuning.{tuningOf}
 use Rattle.tuning.specs.declared.Tuning.{Tuning}
-use Rattle.moves.specs.declared.Body.{Body}
 use Rattle.moves.specs.declared.BoxMove.{BoxMove}
 use Rattle.moves.specs.declared.BoxMove.the-variants as box
 use Rattle.touching.specs.Touching.{touches}

@@ -28,9 +28,9 @@ use Rattle.encoding.specs.Encoding.{each, coreIn, seatNumbers, encoding}
 use Rattle.decoding.specs.Decoding.{fromZero, isPresent, readable, seatCore, seatInput, seatOf, seatsOf, decoding, ComesBack}
 
 -- what is asked of a seat
-record Kept (s : Slot) : Type 0 where
-  somebody : s .present ≡ true → Representable (s .character)
-  nobody : s .present ≡ false → s ≡ emptySlot
+pub record Kept (s : Slot) : Type 0 where
+  pub somebody : s .present ≡ true → Representable (s .character)
+  pub nobody : s .present ≡ false → s ≡ emptySlot
 
 -- a representable character has a record, which is read as it is
 ticks-fit : (c : Character) → Representable c → tickOf (c .hook) ≤ mostTick

@@ -1,10 +1,11 @@
 -- A list of numbers as a world of n seats: the way back from `encoding` (encoding/specs/Encoding.antt). Definitions only.
-use Prim.Native.Nat.{ℕ, zero, suc}
+use Prim.Native.Nat.{ℕ, zero, suc, _+_, _*_}
 use mathlib.Core.Bool.{Bool, true, false, cond}
 use mathlib.Core.List.{List, [], _∷_}
 use mathlib.Core.Path.{_≡_}
 use lib.IntN.{ℤ, pos, negsuc}
-use lib.ListN.{take, drop, getD}
+use lib.ListN.{length, take, drop, getD}
+use Rattle.casts.specs.Casts.{IsI32}
 use Rattle.tiles.specs.declared.Sides.{Sides}
 use Rattle.call.specs.declared.Call.{Call}
 use Rattle.snap_obj.specs.declared.CharacterCore.{CharacterCore}
@@ -81,3 +82,7 @@ decoding n l = record { slots = seatsOf n (drop tuningCount l); tunings = take t
 -- a world that calls can reach, whatever the map, comes back from its numbers
 abbrev pub ComesBack : ℕ → Type 0
 ComesBack n = (s : Sides) (ts : List ℕ) (cs : List Call) → decoding n (encoding (after n s ts (fresh n) cs)) ≡ after n s ts (fresh n) cs
+
+-- so does the world that any numbers stand for, whoever wrote them
+abbrev pub AnyComesBack : ℕ → Type 0
+AnyComesBack n = (l : List ℤ) → length l ≡ tuningCount + seatCount * n → ((k : ℕ) → IsI32 (numberAt l k)) → decoding n (encoding (decoding n l)) ≡ decoding n l

@@ -44,7 +44,7 @@ each f (x ∷ xs) = f x ++ each f xs
 abbrev pub presence : Bool → ℤ
 presence b = cond b (pos 1) (pos 0)
 
--- the record that `to_net` answers; an empty one where it refuses, which no world does that was reached or decoded
+-- the record that `to_net` answers; an empty one where it refuses, which no world does that calls reach or numbers stand for (decoding/proofs/Any.antt)
 abbrev pub coreIn : Net → CharacterCore
 coreIn net.TickTooLarge = noCore
 coreIn (net.Core core) = core

@@ -2,7 +2,7 @@
 use mathlib.Core.Path.{_≡_, refl, sym, ap, _∙_, subst}
 use mathlib.Core.Logic.{inl, inr, _⊎_}
 use mathlib.Core.Bool.{Bool, true, false, cond}
-use Prim.Native.Nat.{ℕ, zero, suc, _+_, _-_, _*_, _^_, _≤_, _<_, zero-le}
+use Prim.Native.Nat.{ℕ, zero, suc, _-_, _*_, _^_, _≤_, _<_, zero-le}
 use native.Mathlib.Nat.{le-trans, le-of-eq, le-of-lt, lt-of-not-le, one-mul, mul-le-mul-right}
 use native.Mathlib.Omega.{arith}
 use native.Mathlib.Decide.{decLe}
@@ -14,7 +14,7 @@ use lib.Ieee.Fits.{mul-fits}
 use Rattle.whole.specs.Whole.{cut, signed, wholeOf, roundToI32}
 use Rattle.float.specs.Convert.{c256, i32ToF32, quantize, to256ths, from256ths, quantize256ths}
 use Rattle.float.specs.Near.{withSign}
-use Rattle.binary32.proofs.Grid.{Grid, on-grid}
+use Rattle.binary32.proofs.Grid.{on-grid}
 use Rattle.float.proofs.Wholes.{Digits, few-digits, rounded-digits, digits-back, top-back, bottom-back}
 use Rattle.float.proofs.Scaled.{from256ths-back}
 use Rattle.whole.proofs.Ranges.{at-value, signed-in, signed-out, far}

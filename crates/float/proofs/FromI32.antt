@@ -17,7 +17,7 @@ use lib.Ieee.Fits.{round-is, nearest-le, kept-lt, ofInt-fits}
 use lib.Ieee.Nearest.{nearest-ge}
 use lib.Ieee.Back.{whole-unique}
 use Rattle.whole.specs.Whole.{wholeOf}
-use Rattle.float.specs.Convert.{c256, i32ToF32, quantize, to256ths, from256ths, quantize256ths}
+use Rattle.float.specs.Convert.{c256, i32ToF32, from256ths}
 use Rattle.float.proofs.Wholes.{Digits, few-digits, digits-exact, i32-exact}
 use Rattle.float.proofs.Scaled.{rescale}
 use Rattle.float.proofs.Again.{Rounded, top, bottom, digits, rounded-back, rounded-256ths-back}
@@ -139,11 +139,3 @@ i32-256ths u z U h =
     let y = same z h in
     let e : from256ths (y .stands) ≡ from256ths z = ap (λ (x : Float). div binary32 x c256) (y .float) in
     ap (λ (x : Float). from256ths (wholeOf 31 u (mul binary32 x c256))) (sym e) ∙ ap from256ths (rounded-256ths-back u (y .stands) U (y .back)) ∙ e
-
-pub quantize-i32 : (z : ℤ) → mag z < 2 ^ 31 → quantize (i32ToF32 z) ≡ i32ToF32 z
-unfolding quantize
-quantize-i32 z h = i32-whole 1 z (lit< tt) h
-
-pub quantize256ths-i32 : (z : ℤ) → mag z < 2 ^ 31 → quantize256ths (from256ths z) ≡ from256ths z
-unfolding quantize256ths to256ths
-quantize256ths-i32 z h = i32-256ths 1 z (lit< tt) h

@@ -1,18 +1,18 @@
 -- The nearest whole number is within 1/2 below 2 ^ 30, and the nearest 256th within 1/512 below 2 ^ 22. Assumes nothing.
-use mathlib.Core.Path.{_≡_, refl, sym, ap, _∙_, subst}
+use mathlib.Core.Path.{_≡_, refl, sym, ap, _∙_}
 use mathlib.Core.Bool.{Bool, true, false, not, cond}
-use Prim.Native.Nat.{ℕ, zero, suc, _+_, _-_, _*_, _/_, _%_, _^_, _≤_, _<_}
-use native.Mathlib.Nat.{le-trans, le-of-eq, lt-of-lt-of-le, lt-of-le-of-lt, mul-pos, mul-assoc, mul-right-comm, mul-one, zero-mul, mul-lt-mul-of-pos-right, div-lt-iff-lt-mul, div-add-mod', mod-lt}
+use Prim.Native.Nat.{ℕ, zero, suc, _+_, _-_, _*_, _%_, _^_, _≤_, _<_}
+use native.Mathlib.Nat.{lt-of-lt-of-le, mul-pos, mul-assoc, mul-right-comm, mul-one, zero-mul, mul-lt-mul-of-pos-right, div-lt-iff-lt-mul, div-add-mod', mod-lt}
 use native.Mathlib.Omega.{arith}
-use lib.Dec.{T, ltb, ltb→lt, nltb→le, lit<, lit≤}
-use lib.IntN.{ℤ, pos, negsuc, negℤ, natAbs, subℕ, _-ℤ_, _*ℤ_}
+use lib.Dec.{T, ltb, ltb→lt, nltb→le, lit<}
+use lib.IntN.{ℤ, pos, negsuc, natAbs, subℕ, _-ℤ_, _*ℤ_}
 use lib.Pow.{pow-pos}
 use lib.Ieee.{Float, nan, inf, fin, binary32, up, down, fits, mul}
 use lib.Ieee.Fits.{down-pos}
 use Rattle.whole.specs.Whole.{cut, signed, wholeOf, roundToI32}
 use Rattle.float.specs.Convert.{c256, to256ths}
 use Rattle.float.specs.Near.{Below, withSign, WithinHalf}
-use Rattle.binary32.proofs.Grid.{Grid, on-grid, units-lt, exponent-lt}
+use Rattle.binary32.proofs.Grid.{on-grid, units-lt, exponent-lt}
 use Rattle.float.proofs.Scaled.{eight-more, mul256}
 use Rattle.whole.proofs.Cut.{cut-same}
 use Rattle.whole.proofs.Ranges.{at-value, signed-in}

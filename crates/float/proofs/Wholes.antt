@@ -1,5 +1,5 @@
 -- Whole numbers as floats: those with at most 24 digits before their zeros are exact, and come back from either rounding. Assumes nothing.
-use mathlib.Core.Path.{_≡_, refl, sym, ap, _∙_, subst}
+use mathlib.Core.Path.{_≡_, refl, sym, ap, _∙_}
 use mathlib.Core.Bool.{Bool, true, false}
 use Prim.Native.Nat.{ℕ, zero, suc, _+_, _-_, _*_, _^_, _≤_, _<_, zero-le}
 use native.Mathlib.Nat.{le-trans, le-of-lt, lt-of-lt-of-le, lt-of-le-of-lt, lt-of-not-le, mul-pos, mul-assoc, mul-one, mul-le-mul-left, mul-lt-mul-of-pos-right, div-lt-iff-lt-mul, eq-or-lt-of-le}

@@ -1,7 +1,6 @@
 -- Whole numbers, hundredths and 256ths as floats, and quantizing. Definitions only.
-use mathlib.Core.Bool.{false}
-use lib.IntN.{ℤ, pos}
-use lib.Ieee.{Float, fin, binary32, ofInt, ofBits, mul, div}
+use lib.IntN.{ℤ}
+use lib.Ieee.{Float, binary32, ofInt, ofBits, mul, div}
 use Rattle.whole.specs.Whole.{roundToI32}
 
 -- 100.0 and 256.0

@@ -3,7 +3,7 @@ use Prim.Native.Nat.{ℕ}
 use mathlib.Core.Bool.{cond}
 use mathlib.Core.List.{List}
 use lib.Dec.{leb}
-use lib.IntN.{ℤ, pos, negsuc}
+use lib.IntN.{pos}
 use lib.Ieee.{Float, binary32, add, div}
 use Rattle.whole.specs.Whole.{truncToI32}
 use Rattle.float.specs.Convert.{i32ToF32}

@@ -1,5 +1,5 @@
 -- With player collision and player hooking both 0 a tick depends on no other slot and changes none. Assumes nothing.
-use mathlib.Core.Path.{_≡_, refl, sym, ap, _∙_}
+use mathlib.Core.Path.{_≡_, refl, ap, _∙_}
 use mathlib.Core.Bool.{Bool, true, false, cond}
 use mathlib.Core.List.{List}
 use Prim.Native.Nat.{ℕ}
@@ -16,7 +16,7 @@ use Rattle.hook.specs.declared.Hook.the-variants.{Retracted, Idle, Flying, Grab
 use Rattle.snap_obj.specs.declared.PlayerInput.{PlayerInput}
 use Rattle.tiles.specs.declared.Sides.{Sides}
 use Rattle.tuning.specs.declared.Tuning.{Tuning}
-use Rattle.controls.specs.Controls.{grounded, clampSpeed}
+use Rattle.controls.specs.Controls.{grounded}
 use Rattle.hooking.specs.Hooking.{hold}
 use Rattle.dragging.specs.Dragging.{dragged}
 use Rattle.flying.specs.Flying.{flown}
@@ -29,8 +29,7 @@ use Rattle.character.specs.declared.Slot.{Slot}
 use Rattle.character.specs.declared.tick.HookFlight.{HookFlight}
 use Rattle.character.specs.declared.tick.HookFlight.the-variants.{TooFar, To}
 use Rattle.character.specs.declared.tick.Met.{Met}
-use Rattle.character.specs.declared.tick.Ticked.{Ticked}
-use Rattle.character.specs.Tick.{slotAt, nowhere, withHook, withVel, withCharacter, steer, caught, flight, metAt, meetTurn, meetAll, hooked, ticked, tickAt}
+use Rattle.character.specs.Tick.{slotAt, nowhere, steer, caught, flight, metAt, meetTurn, meetAll, hooked, ticked, tickAt}
 use lib.Seq.{set-getD}
 
 same : (v : Velocities) (b : Bool) → cond b v v ≡ v

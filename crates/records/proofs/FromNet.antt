@@ -15,7 +15,7 @@ use Rattle.character.specs.Character.{spawn}
 use Rattle.character.specs.declared.Character.{Character}
 use Rattle.direction.specs.Direction.{angleToNet, angleFromNet}
 use Rattle.float.specs.Convert.{i32ToF32, to256ths, from256ths}
-use Rattle.hook.specs.Hook.{nobody, netHookedPlayer, tickOf, attachedOrGrabbed, hookFromNet}
+use Rattle.hook.specs.Hook.{idOf, nobody, netHookedPlayer, tickOf, attachedOrGrabbed, hookFromNet}
 use Rattle.hook.specs.declared.Hook.{Hook}
 use Rattle.hook.specs.declared.Hook.the-variants.{Retracted, Idle, Flying, Grabbed, Attached, Retracting0, Retracting1, Retracting2}
 use Rattle.number.specs.Number.{c0}
@@ -53,7 +53,7 @@ module _ (p d : vec2) (player : ℤ) (t : Tick) (w : Pair i32ToF32 p) (v : Pair 
   unfolding attachedOrGrabbed
   held-or-not e = go (nobody player) refl
     where
-      go : (b : Bool) → nobody player ≡ b → RepresentableHook (cond b (Attached p) (Grabbed (record { 0 = castUnsigned player }) (castUnsigned (t .0))))
+      go : (b : Bool) → nobody player ≡ b → RepresentableHook (cond b (Attached p) (Grabbed (idOf (castUnsigned player)) (castUnsigned (t .0))))
       go true f = w
       go false f = (player-in player i f, ticks-in (t .0) j (e f))
 
@@ -81,10 +81,6 @@ from-net-representable n a e =
       hook = hook-representable _ _ (n .«hooked_player») (n .«hook_tick») p d (a .hooked-player) (a .hook-tick) (n .«hook_state») (λ s f k t. e (record { state = s; somebody = f; less = k; ticks = t }));
       angle = record { number = n .angle; in-i32 = a .angle; is = refl };
     }
-
--- any record goes to a character that goes to a record and back with no bit changed
-pub from-net-back : (n : CharacterCore) → AllI32 n → (HeldBelowZero n → ⊥) → quantize (fromNet n) ≡ quantized.To (fromNet n)
-from-net-back n a e = representable-back (fromNet n) (from-net-representable n a e)
 
 -- but for those, which are refused
 held-ticks : (n : CharacterCore) (e : HeldBelowZero n) → tickOf (fromNet n .hook) ≡ 2 ^ 32 - suc (e .less)

@@ -1,11 +1,11 @@
 -- `root` is the correctly rounded root: strictly nearer to √x than any other value of the format. Assumes nothing.
-use mathlib.Core.Path.{_≡_, refl, sym, ap, _∙_, subst}
-use mathlib.Core.Bool.{Bool, true, false, true≢false}
+use mathlib.Core.Path.{_≡_, sym, ap, _∙_, subst}
+use mathlib.Core.Bool.{true, false, true≢false}
 use Prim.Native.Nat.{ℕ, zero, suc, _+_, _-_, _*_, _/_, _%_, _^_, _≤_, _<_}
 use native.Mathlib.Nat.{le-trans, le-of-eq, le-of-lt, lt-of-lt-of-le, lt-of-le-of-lt, lt-of-not-le, not-le-of-lt, mul-pos, mul-assoc, mul-comm, mul-left-comm, mul-right-comm, mul-mul-mul-comm, add-mul, mul-le-mul-left, mul-le-mul-right, mul-lt-mul-of-pos-right, lt-of-mul-lt-mul-right, pow-suc, div-add-mod'}
 use native.Mathlib.Omega.{arith}
 use native.Mathlib.Decide.{decLe}
-use lib.Dec.{T, ltb→lt, lit<, lit≤}
+use lib.Dec.{T, ltb→lt, lit<}
 use lib.Pow.{pow-pos, pow-add, pow-mono}
 use lib.Arith.{lt-of-le-ne}
 use lib.Ieee.{Float, nan, inf, fin, binary32, up, down, fits, lt, units}
@@ -15,7 +15,7 @@ use Rattle.root.specs.Root.{root, isqrt, sq, unsigned, CorrectRoot}
 use Rattle.binary32.proofs.Grid.{Grid, on-grid}
 use Rattle.root.proofs.Squares.{sq-mono, sq-lt, small}
 use Rattle.root.proofs.Floors.{Floor, even-root, isqrt-floor}
-use Rattle.root.proofs.Rooted.{Shifted, shifted, wide, halfExponent, Lifted, lifted, lift, finer, moved, root-is, digits-ge, root-fits}
+use Rattle.root.proofs.Rooted.{shifted, wide, halfExponent, lifted, lift, finer, moved, root-is, digits-ge, root-fits}
 
 -- ---- two values of the grid
 same-unit : (m i k : ℕ) → k ≤ i → m * 2 ^ i ≡ m * 2 ^ (i - k) * 2 ^ k

@@ -2,13 +2,13 @@
 use mathlib.Core.Path.{_≡_, refl, sym, ap, _∙_, subst}
 use mathlib.Core.Bool.{Bool, true, false, not, cond}
 use Prim.Native.Nat.{ℕ, zero, suc, _+_, _-_, _*_, _/_, _%_, _^_, _≤_, _<_, zero-le}
-use native.Mathlib.Nat.{le-refl, le-trans, le-of-eq, le-of-lt, lt-of-lt-of-le, lt-of-le-of-lt, lt-of-not-le, not-le-of-lt, le-of-suc-le-suc, le-antisymm, mul-le-mul-right, mul-lt-mul-of-pos-right, mul-pos, mul-assoc, mul-comm, mul-left-comm, mul-mul-mul-comm, pow-suc, div-add-mod', mul-add, add-mul, add-assoc, add-comm, add-left-comm}
+use native.Mathlib.Nat.{le-trans, le-of-eq, le-of-lt, lt-of-lt-of-le, lt-of-le-of-lt, lt-of-not-le, not-le-of-lt, le-of-suc-le-suc, le-antisymm, mul-le-mul-right, mul-lt-mul-of-pos-right, mul-pos, mul-assoc, mul-comm, mul-left-comm, mul-mul-mul-comm, pow-suc, div-add-mod', mul-add, add-mul, add-assoc, add-comm, add-left-comm}
 use native.Mathlib.Omega.{arith}
-use lib.Dec.{T, leb, ltb, leb→le, nleb→lt, ltb→lt, nltb→le, lit<}
+use lib.Dec.{T, leb, ltb, leb→le, nleb→lt, nltb→le}
 use lib.Ieee.{size}
 use lib.Ieee.Digits.{size-lt}
 use Rattle.root.specs.Root.{bump, isqrtIn, isqrt, short}
-use Rattle.root.proofs.Squares.{sq-mono, root-lt}
+use Rattle.root.proofs.Squares.{root-lt}
 
 -- s is the whole part of the root of n
 abbrev pub Floor : ℕ → ℕ → Type 0

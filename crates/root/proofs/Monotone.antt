@@ -4,7 +4,7 @@ use mathlib.Core.Logic.{inl, inr, _⊎_}
 use mathlib.Core.Bool.{Bool, true, false, _&&_, _||_, true≢false}
 use Prim.Native.Nat.{ℕ, zero, suc, _+_, _*_, _≤_, _<_, zero-le}
 use native.Mathlib.Omega.{arith}
-use native.Mathlib.Nat.{le-trans, le-of-eq, le-of-lt, lt-irrefl, lt-of-lt-of-le, lt-of-le-of-lt, lt-trans, le-of-suc-le-suc, lt-of-not-le, not-le-of-lt, mul-pos, mul-comm, mul-assoc, mul-left-comm, mul-right-comm, zero-mul, mul-le-mul-right, mul-lt-mul-of-pos-right, add-comm, zero-lt-suc}
+use native.Mathlib.Nat.{le-trans, le-of-eq, le-of-lt, lt-irrefl, lt-of-lt-of-le, lt-of-le-of-lt, lt-trans, le-of-suc-le-suc, lt-of-not-le, mul-pos, mul-comm, mul-assoc, mul-left-comm, mul-right-comm, zero-mul, mul-le-mul-right, mul-lt-mul-of-pos-right, add-comm, zero-lt-suc}
 use lib.Dec.{T, ltb, eqb, ltb→lt, lt→ltb, eqb→eq}
 use lib.IntN.{ℤ, pos}
 use lib.Ieee.{Float, nan, inf, fin, binary32, up, down, fits, lt, eq, le}
@@ -12,7 +12,7 @@ use lib.Ieee.Exact.{HasValue}
 use lib.Ieee.Fits.{up-pos, down-pos, and-l, and-r}
 use lib.Ieee.Order.{le-of-values}
 use lib.Ieee.Positive.{num, den, den-pos, positive, le→cross}
-use Rattle.root.specs.Root.{root, sq, Nearer, unsigned, CorrectRoot}
+use Rattle.root.specs.Root.{root, sq, unsigned, CorrectRoot}
 use Rattle.root.proofs.Correct.{root-correct}
 use Rattle.root.proofs.Unique.{cross→lt}
 
@@ -54,10 +54,6 @@ module _ (a b r t : Float) (ca : CorrectRoot binary32 a r) (cb : CorrectRoot bin
 or-l : (a b : Bool) → T a → T (a || b)
 or-l true b t = tt
 or-l false b t = absurd t
-
-or-r : (a b : Bool) → T b → T (a || b)
-or-r true b t = tt
-or-r false b t = t
 
 -- -0 is at most b / c, whose size is b here
 minus-zero : (a b : ℕ) → a ≡ 0 → T (ltb 0 (a + b) || (eqb a b && (false || eqb a 0)))

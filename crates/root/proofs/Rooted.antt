@@ -1,6 +1,6 @@
 -- The root of a value of binary32, by the whole part s of the root of a number n of 49 or 50 digits. Assumes nothing.
 use mathlib.Core.Path.{_≡_, refl, sym, ap, _∙_, subst}
-use mathlib.Core.Bool.{Bool, true, false, true≢false}
+use mathlib.Core.Bool.{true, false, true≢false}
 use Prim.Native.Nat.{ℕ, zero, suc, _+_, _-_, _*_, _/_, _%_, _^_, _≤_, _<_}
 use native.Mathlib.Nat.{le-trans, le-of-eq, lt-irrefl, lt-of-lt-of-le, lt-of-le-of-lt, le-of-suc-le-suc, mul-pos, mul-assoc, mul-comm, mul-left-comm, mul-right-comm, zero-mul, mul-le-mul-left, mul-le-mul-right, mul-lt-mul-of-pos-right, eq-of-mul-eq-mul-right, pow-suc, mul-mod-left, mod-eq-of-lt}
 use native.Mathlib.Omega.{arith}

@@ -1,19 +1,17 @@
 -- No two values are the correctly rounded root of one x: `CorrectRoot` says which value `root` is. Assumes nothing.
-use mathlib.Core.Path.{_≡_, refl, sym, ap, _∙_, subst}
-use mathlib.Core.Bool.{Bool, true, false}
+use mathlib.Core.Path.{_≡_, sym, ap, _∙_, subst}
+use mathlib.Core.Bool.{true, false}
 use Prim.Native.Nat.{ℕ, suc, _+_, _*_, _^_, _≤_, _<_}
-use native.Mathlib.Nat.{le-of-eq, le-antisymm, lt-of-not-le, le-of-suc-le-suc, lt-irrefl, lt-of-lt-of-le, mul-comm, mul-right-comm, mul-pos, mul-lt-mul-of-pos-right, lt-of-mul-lt-mul-right, mul-assoc, add-comm, eq-of-mul-eq-mul-right}
+use native.Mathlib.Nat.{le-antisymm, lt-of-not-le, le-of-suc-le-suc, mul-comm, mul-right-comm, mul-pos, mul-assoc, add-comm, eq-of-mul-eq-mul-right}
 use native.Mathlib.Omega.{arith}
 use lib.Dec.{T, ltb, lt→ltb}
-use lib.Pow.{pow-pos}
 use lib.Ieee.{Float, nan, inf, fin, binary32, up, down, fits, lt, toBits, ofBits}
 use lib.Ieee.Bits.{ofBits-toBits}
 use lib.Ieee.Exact.{HasValue}
 use lib.Ieee.Positive.{num, den, den-pos, positive, value→cross}
-use Rattle.root.specs.Root.{root, sq, Nearer, unsigned, CorrectRoot}
+use Rattle.root.specs.Root.{root, sq, unsigned, CorrectRoot}
 use Rattle.binary32.proofs.Patterns.{toBits-of}
 use Rattle.root.proofs.Correct.{unsigned-grid, root-correct}
-use Rattle.binary32.proofs.Grid.{Grid}
 
 pub cross→lt : (x y : Float) → T (unsigned x) → T (unsigned y) → num x * den y < num y * den x → T (lt x y)
 unfolding lt

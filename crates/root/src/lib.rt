@@ -5,7 +5,7 @@ use segments::c2;
 use segments::c3;
 ghost use mathlib.Core.Path.{_≡_};
 ghost use mathlib.Core.Bool.{false};
-ghost use Prim.Native.Nat.{ℕ, _+_, _*_, _≤_, _<_, _^_};
+ghost use Prim.Native.Nat.{_+_, _*_, _≤_, _<_, _^_};
 ghost use lib.Dec.{T};
 ghost use lib.Ieee.{Float, binary32, fits, ofBits};
 ghost use lib.Ieee.Exact.{HasValue};

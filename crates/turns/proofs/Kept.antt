@@ -1,6 +1,6 @@
 -- What each turn keeps, the walk keeps: a fact of the state, and a relation of two walks. Assumes nothing.
-use Prim.Native.Nat.{ℕ, zero, suc, _+_, _≤_, _<_}
-use mathlib.Core.Path.{_≡_, refl, sym, ap, _∙_, subst}
+use Prim.Native.Nat.{ℕ, zero, suc, _+_}
+use mathlib.Core.Path.{subst}
 use native.Mathlib.Omega.{arith}
 use Rattle.turns.specs.Turns.{Turn, more, stop, next, run, fold}
 

@@ -1,5 +1,5 @@
 -- A value cut to a whole number: by the exponent's field, and over another denominator. Assumes nothing.
-use mathlib.Core.Path.{_≡_, refl, sym, ap, _∙_}
+use mathlib.Core.Path.{_≡_, sym, ap, _∙_}
 use Prim.Native.Nat.{ℕ, zero, suc, _+_, _-_, _*_, _/_, _^_, _≤_, _<_}
 use native.Mathlib.Nat.{le-trans, le-of-suc-le-suc, mul-le-mul-right, mul-le-mul-left, mul-pos, mul-assoc, mul-comm, mul-left-comm, mul-right-comm, mul-mul-mul-comm, mul-add, add-mul, add-zero, zero-mul, mul-lt-mul-of-pos-right, mul-div-mul-left, mul-div-mul-right, div-div-eq-div-mul, add-mul-div-right, div-eq-of-lt, lt-of-lt-of-le}
 use native.Mathlib.Omega.{arith}

@@ -1,20 +1,17 @@
 -- `wholeOf` of a value, by its pattern. Assumes nothing.
 use mathlib.Core.Path.{_≡_, refl, sym, ap, _∙_, subst}
 use mathlib.Core.Logic.{inl, inr, _⊎_}
-use mathlib.Core.Bool.{Bool, true, false, not, cond, true≢false}
+use mathlib.Core.Bool.{Bool, true, false, not, cond}
 use Prim.Native.Nat.{ℕ, zero, suc, _+_, _-_, _*_, _/_, _%_, _^_, _≤_, _<_, min}
-use native.Mathlib.Nat.{le-trans, le-of-eq, lt-of-lt-of-le, mul-assoc, mul-le-mul-right, mul-le-mul-left, mul-pos, le-add-right, le-div-iff-mul-le, eq-or-lt-of-le, zero-mul, add-zero, mul-div-mul-right}
+use native.Mathlib.Nat.{le-trans, le-of-eq, mul-assoc, mul-le-mul-right, mul-le-mul-left, mul-pos, le-add-right, le-div-iff-mul-le, eq-or-lt-of-le}
 use native.Mathlib.Omega.{arith}
-use lib.Dec.{T, leb, eqb, lit<, lit≤}
-use lib.IntN.{ℤ, pos, negsuc, negℤ, _-ℤ_, +ℤ-idl}
+use lib.Dec.{T, eqb, lit<, lit≤}
+use lib.IntN.{ℤ, pos, negℤ, _-ℤ_, +ℤ-idl}
 use lib.Signed.{mag}
-use lib.Pow.{pow-pos, pow-add, pow-mono}
-use lib.Ieee.{Float, nan, inf, fin, binary32, up, down, ofFields, ofBits, toBits, fits, isNan, ne, toSigned}
+use lib.Pow.{pow-pos, pow-mono}
+use lib.Ieee.{Float, nan, inf, fin, binary32, up, down, ofFields, ofBits, fits, isNan, ne, toSigned}
 use lib.Ieee.Exact.{HasValue}
 use lib.Ieee.Fits.{down-pos}
-use lib.Ieee.Bits.{ofBits-toBits, toBits-lt}
-use lib.Ieee.Compare.{differs-from-itself}
-use borrow.Author.Tests.{lt-leb}
 use mir.Syntax.{w32}
 use mir.Val.{SFits, Fits}
 use Rattle.whole.specs.Whole.{cut, signed, wholeOf}

@@ -7,7 +7,6 @@ use lib.Dec.{T}
 use lib.Ieee.{binary32, ofInt, inFloat}
 use lib.IntN.{ℤ, pos, negsuc}
 use lib.Signed.{leZ}
-use mir.Syntax.{w32}
 use mir.Facts.{toZ-ofZ}
 use borrow.Author.Needs.{needs}
 use borrow.Author.Tests.{leb-true, lt-ltb}

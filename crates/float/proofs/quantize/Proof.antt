@@ -1,5 +1,5 @@
 -- `float::quantize` meets its contract. Assumes nothing.
-use mathlib.Core.Path.{_≡_, ap, _∙_}
+use mathlib.Core.Path.{ap, _∙_}
 use mir.Syntax.{w32}
 use mir.Facts.{toZ-ofZ}
 use Rattle.float.specs.Convert.{i32ToF32, quantize}

@@ -1,5 +1,5 @@
 -- `float::quantize_256ths` meets its contract. Assumes nothing.
-use mathlib.Core.Path.{_≡_, ap, _∙_}
+use mathlib.Core.Path.{ap, _∙_}
 use mir.Syntax.{w32}
 use mir.Facts.{toZ-ofZ}
 use Rattle.float.specs.Convert.{from256ths, quantize256ths}

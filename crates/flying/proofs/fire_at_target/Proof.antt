@@ -1,6 +1,4 @@
 -- `flying::fire_at_target` meets its contract. Assumes nothing.
-use mathlib.Core.Bool.{true}
-use mathlib.Core.Path.{_≡_, sym, _∙_}
 use borrow.Author.Needs.{needs}
 use Rattle.inputs.specs.Inputs.{hooks}
 use Rattle.hooking.specs.Hooking.{fire}

@@ -1,5 +1,5 @@
 -- `root::lowered` meets its contract. Assumes nothing.
-use Prim.Native.Nat.{_*_, _^_, _≤_, _<_}
+use Prim.Native.Nat.{_^_, _<_}
 use native.Mathlib.Omega.{arith}
 use Rattle.root.proofs.Squares.{sq-pos, sq-fits}
 use Rattle.root.proofs.lowered.Statement.{statement}

@@ -1,5 +1,5 @@
 -- `root::root` meets its contract. Assumes nothing.
-use mathlib.Core.Path.{_≡_, sym, ap, _∙_, subst}
+use mathlib.Core.Path.{sym, ap, _∙_, subst}
 use native.Mathlib.Nat.{le-of-lt}
 use lib.Dec.{T}
 use lib.Ieee.{binary32, fits, ofBits, div}

@@ -1,5 +1,5 @@
 -- `root::scaled` meets its contract. Assumes nothing.
-use Prim.Native.Nat.{ℕ, _*_, _^_, _≤_, _<_}
+use Prim.Native.Nat.{_*_, _^_, _≤_}
 use native.Mathlib.Nat.{le-of-lt, mul-le-mul-left}
 use native.Mathlib.Omega.{arith}
 use Rattle.root.proofs.scaled.Statement.{statement}

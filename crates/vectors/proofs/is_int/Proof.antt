@@ -1,5 +1,5 @@
 -- `vectors::is_int` meets its contract. Assumes nothing.
-use mathlib.Core.Path.{_≡_, sym, ap, subst, _∙_}
+use mathlib.Core.Path.{sym, ap, subst, _∙_}
 use lib.Dec.{T, eqb→eq}
 use mir.Facts.{toZ-ofZ}
 use mir.Syntax.{w32}
