@@ -1,2 +1,3 @@
-pub mod Chunks
+pub mod SoFar
 pub mod Whole
+pub mod Ends
