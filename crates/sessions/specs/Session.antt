@@ -48,7 +48,7 @@ mostLine = 216
 abbrev pub another : ℕ → Bool → ℕ → ℕ → ℕ → Bool
 another n done due used len = not done && leb due mostCalls && leb (used + mostLine * n) len
 
--- any number of lines: the session b with the buffer d up to the place `at` becomes the session f with the buffer e up to the place `to`
+-- any number of lines, none of them after the session has ended: the session b with the buffer d up to the place `at` becomes the session f with the buffer e up to the place `to`
 pub data LinesRan (n : ℕ) (text : List ℕ) (s : Sides) (ts : List ℕ) (b : Session) (d : List ℕ) (at : ℕ) : Session → List ℕ → ℕ → Type 0 where
   none : LinesRan n text s ts b d at b d at
-  then : (f : Session) (m : List ℕ) (k : ℕ) (r : Turned) (e : List ℕ) → LinesRan n text s ts b d at f m k → LineRan n text s ts f m k r e → LinesRan n text s ts b d at (r .session) e (r .next)
+  then : (f : Session) (m : List ℕ) (k : ℕ) (r : Turned) (e : List ℕ) → LinesRan n text s ts b d at f m k → f .done ≡ false → LineRan n text s ts f m k r e → LinesRan n text s ts b d at (r .session) e (r .next)

@@ -34,7 +34,10 @@ loop-less c =
     rw (h .0) (line-less seats _ _ _ (l .now) _ _ _ _ (c .before .before .before .run-line .ensures) (h .1))
 
 loop-again : tie.Need-loop-again Inv-loop μ-loop
-loop-again c = let l = c .before .before .before .before .before .before .before .loop in (then _ _ _ _ _ (l .inv .0) (c .before .before .before .run-line .ensures), c .before .before .before .run-line .kept .1 .1 .1 .1 .0 ∙ l .inv .1)
+loop-again c =
+    let l = c .before .before .before .before .before .before .before .loop in
+    let h = another-runs seats (l .now .done) (l .now .call) (l .used) (length (l .buf)) (sym (c .before .before .before .before .before .before .another .ensures) ∙ c .before .before .before .before .before .if1 .taken) in
+    (then _ _ _ _ _ (l .inv .0) (h .0) (c .before .before .before .run-line .ensures), c .before .before .before .run-line .kept .1 .1 .1 .1 .0 ∙ l .inv .1)
 
 same-length : tie.Need-same-length Inv-loop μ-loop
 same-length c = c .before .before .loop .inv .1

@@ -1,0 +1,3 @@
+pub mod SoFar
+pub mod Whole
+pub mod Ends

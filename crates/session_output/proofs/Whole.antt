@@ -1,0 +1,40 @@
+-- All that a session writes is the output of what its text stands for. Assumes nothing.
+use Prim.Native.Nat.{ℕ}
+use mathlib.Core.Bool.{true, true≢false}
+use mathlib.Core.List.{List, [], _++_, append-assoc, append-nil}
+use mathlib.Core.Path.{_≡_, refl, sym, ap, _∙_, subst}
+use native.Mathlib.Omega.{arith}
+use lib.ListN.{take}
+use Rattle.tiles.specs.declared.Sides.{Sides}
+use Rattle.output_lines.specs.Output.{heading}
+use Rattle.output_lines.specs.Put.{Put}
+use Rattle.output_lines.proofs.Sizes.{put-as, put-after}
+use Rattle.session_text.specs.Session.{Text, noMap, StandsFor}
+use Rattle.session_text.proofs.Reading.{no-map, passed-map}
+use Rattle.session_text.proofs.Unique.{text-unique}
+use Rattle.sessions.specs.Start.{Began}
+use Rattle.sessions.specs.declared.line.Session.{Session}
+use Rattle.sessions.specs.declared.line.Turned.{Turned}
+use Rattle.sessions.specs.declared.start.Begun.{Begun}
+use Rattle.session_output.specs.Output.{callsLines, faultLine, output}
+use Rattle.session_output.specs.Played.{WholeOutput}
+use Rattle.session_output.proofs.SoFar.{put-first, SoFar, going, over, after-turns}
+
+-- a session that starts has written the heading, and nothing more unless its map is at fault
+pub after-start : {n : ℕ} {text ts d : List ℕ} {r : Begun} {e : List ℕ} → Began n text ts d r e → (w : List ℕ) × Put d 0 (heading ++ w) e (r .first .next) × SoFar n text (r .sides) (take (r .count) ts) (r .first .session) w
+unfolding callsLines output
+after-start {text = text} {ts} (Began.fault m k none p q is) =
+    (faultLine 1, put-after (omega arith) p q, over noMap (ap (λ (t : Turned). t .session .done) is) (no-map text ts refl none) refl)
+after-start {n} {text} {ts} (Began.map w h next there p is) =
+    ([], put-as (sym (append-nil heading)) refl p, subst (λ (x : Begun). SoFar n text (x .sides) (take (x .count) ts) (x .first .session) []) (sym is) (going [] refl (passed-map text ts w h next refl there) refl (λ ds. refl)))
+
+-- a session that has ended has written all
+all-written : {n : ℕ} {text : List ℕ} {s : Sides} {ts : List ℕ} {f : Session} {out : List ℕ} → SoFar n text s ts f out → f .done ≡ true → (t : Text) → StandsFor text t → heading ++ out ≡ output n t
+all-written (going cs live p due a) done t h = absurd (true≢false (sym done ∙ live))
+all-written {n} {text} (over u _ stands is) done t h = is ∙ ap (output n) (text-unique text u t stands h)
+
+-- a whole session
+pub whole-output : (n : ℕ) → WholeOutput n
+whole-output n text ts d r e b turns f out p done t h =
+    let (w, q, i) = after-start b in
+    ap (λ (x : List ℕ). x ++ out) (put-first q) ∙ append-assoc heading w out ∙ all-written (after-turns i p) done t h

@@ -1,0 +1,27 @@
+-- How the program plays a session, and what it has written then. Definitions only; proofs/ proves the statements.
+use Prim.Native.Nat.{ℕ, suc, _*_, _≤_, _<_}
+use mathlib.Core.Bool.{true, false}
+use mathlib.Core.List.{List, [], _++_}
+use mathlib.Core.Path.{_≡_}
+use lib.ListN.{length, take}
+use Rattle.tiles.specs.declared.Sides.{Sides}
+use Rattle.session_text.specs.Session.{Text, StandsFor}
+use Rattle.sessions.specs.Session.{mostCalls, mostLine, another, LinesRan}
+use Rattle.sessions.specs.Start.{Began}
+use Rattle.sessions.specs.declared.line.Session.{Session}
+use Rattle.sessions.specs.declared.start.Begun.{Begun}
+use Rattle.session_output.specs.Output.{output}
+
+-- the session b is played on one map with n slots: after so many turns it is the session f, and the bytes `out` were written in all
+pub data Played (n : ℕ) (text : List ℕ) (s : Sides) (ts : List ℕ) (b : Session) : ℕ → Session → List ℕ → Type 0 where
+  none : Played n text s ts b 0 b []
+  -- a turn: the session has not ended; `run_lines` leaves lines at the start of a buffer that has room for an answer, and these are written
+  then : (turns : ℕ) (f g : Session) (out d e : List ℕ) (k : ℕ) → Played n text s ts b turns f out → f .done ≡ false → mostLine * n ≤ length d → LinesRan n text s ts f d 0 g e k → another n (g .done) (g .call) k (length d) ≡ false → Played n text s ts b (suc turns) g (out ++ take k e)
+
+-- once a session that started on a text has ended, all that was written is the output of what the text stands for
+abbrev pub WholeOutput : ℕ → Type 0
+WholeOutput n = (text ts d : List ℕ) (r : Begun) (e : List ℕ) → Began n text ts d r e → (turns : ℕ) (f : Session) (out : List ℕ) → Played n text (r .sides) (take (r .count) ts) (r .first .session) turns f out → f .done ≡ true → (t : Text) → StandsFor text t → take (r .first .next) e ++ out ≡ output n t
+
+-- it ends: there are never as many turns as the program has
+abbrev pub PlayEnds : ℕ → Type 0
+PlayEnds n = (text ts d : List ℕ) (r : Begun) (e : List ℕ) → Began n text ts d r e → (turns : ℕ) (f : Session) (out : List ℕ) → Played n text (r .sides) (take (r .count) ts) (r .first .session) turns f out → turns < mostCalls
