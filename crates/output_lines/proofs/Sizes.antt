@@ -3,11 +3,11 @@ use Prim.Native.Nat.{ℕ, _+_, _*_, _≤_}
 use mathlib.Core.Path.{_≡_, sym, ap, _∙_, subst}
 use mathlib.Core.List.{List, _∷_, _++_}
 use native.Mathlib.Omega.{arith}
-use lib.IntN.{ℤ, pos, negsuc}
-use lib.ListN.{length, replicate, length-append}
+use lib.IntN.{ℤ}
+use lib.ListN.{length, length-append}
 use Rattle.decimal.specs.Lines.{endByte, line}
 use Rattle.decimal.proofs.Lines.{front-line, front-short}
-use Rattle.output_lines.specs.Output.{recordBytes, answerBytes}
+use Rattle.output_lines.specs.Output.{recordBytes}
 use Rattle.output_lines.specs.Put.{put, Put}
 use Rattle.output_lines.proofs.Puts.{put-put}
 use Rattle.snap_obj.specs.Numbers.{coreNumbers}
@@ -20,10 +20,6 @@ line-short zs = subst (λ (w : List ℕ). length w ≤ 12 * length zs) (front-li
 pub record-short : (call answer id : ℤ) (n : CharacterCore) → length (recordBytes call answer id n) ≤ 216
 unfolding recordBytes coreNumbers
 record-short call answer id n = line-short (call ∷ answer ∷ id ∷ coreNumbers n)
-
-pub answer-short : (call answer : ℤ) → length (answerBytes call answer) ≤ 216
-unfolding answerBytes
-answer-short call answer = line-short (call ∷ answer ∷ negsuc 0 ∷ replicate 15 (pos 0))
 
 -- the same bytes and place, said otherwise
 pub put-as : {d e v w : List ℕ} {at end next : ℕ} → v ≡ w → end ≡ next → Put d at v e end → Put d at w e next

@@ -52,10 +52,13 @@ use Rattle.walks.proofs.Plainly.{of-uint, value, still-is, init-as, store-as, n
 use Rattle.lent.proofs.Shapes.{slot, slot-size, world, Tunings, tunings, tuned, slice}
 use Rattle.lent.proofs.unread as unread
 use Rattle.lent.proofs.unread.Symbol as unread-def
+use Rattle.lent.proofs.unread.Symbol.{name as #lent·unread}
 use Rattle.lent.proofs.unread.Met as unread-thm
 use Rattle.seats.proofs.with_slot as with
 use Rattle.seats.proofs.with_slot.Symbol as with-def
+use Rattle.seats.proofs.with_slot.Symbol.{name as #seats·with-slot}
 use Rattle.seats.proofs.with_slot.Met as with-thm
+use Rattle.lent.proofs.load.Key.{name as #lent·load}
 use Rattle.lent.proofs.load as load′
 use Rattle.lent.proofs.load.Statement as stated
 use Rattle.lent.proofs.load.Code as code

@@ -57,19 +57,25 @@ use Rattle.lent.proofs.Told.Laws as Tt′
 use Rattle.lent.proofs.Shapes.{world, stepped, told, sides, Tunings, tunings, tuned, slice, lent-tiles, ref}
 use Rattle.lent.proofs.load as load′
 use Rattle.lent.proofs.load.Symbol as load′-def
+use Rattle.lent.proofs.load.Symbol.{name as #lent·load}
 use Rattle.lent.proofs.load.Met as load′-thm
 use Rattle.steps.proofs.step as step′
 use Rattle.steps.proofs.step.Symbol as step′-def
+use Rattle.steps.proofs.step.Symbol.{name as #steps·step}
 use Rattle.steps.proofs.step.Met as step′-thm
 use Rattle.lent.proofs.next_world as next′
 use Rattle.lent.proofs.next_world.Symbol as next′-def
+use Rattle.lent.proofs.next_world.Symbol.{name as #lent·next-world}
 use Rattle.lent.proofs.next_world.Met as next′-thm
 use Rattle.lent.proofs.store as store′
 use Rattle.lent.proofs.store.Symbol as store′-def
+use Rattle.lent.proofs.store.Symbol.{name as #lent·store}
 use Rattle.lent.proofs.store.Met as store′-thm
 use Rattle.lent.proofs.tell as tell′
 use Rattle.lent.proofs.tell.Symbol as tell′-def
+use Rattle.lent.proofs.tell.Symbol.{name as #lent·tell}
 use Rattle.lent.proofs.tell.Met as tell′-thm
+use Rattle.lent.proofs.step_lent.Key.{name as #lent·step-lent}
 use Rattle.lent.proofs.step_lent as lent′
 use Rattle.lent.proofs.step_lent.Statement as stated
 use Rattle.lent.proofs.step_lent.Code as code

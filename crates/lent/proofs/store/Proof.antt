@@ -51,7 +51,9 @@ use Rattle.walks.proofs.Plainly.{of-uint, of-unit, value, still-is, init-as, no
 use Rattle.lent.proofs.Shapes.{slot, slot-size, world, slice}
 use Rattle.seats.proofs.slot_at as slot-at
 use Rattle.seats.proofs.slot_at.Symbol as slot-at-def
+use Rattle.seats.proofs.slot_at.Symbol.{name as #seats·slot-at}
 use Rattle.seats.proofs.slot_at.Met as slot-at-thm
+use Rattle.lent.proofs.store.Key.{name as #lent·store}
 use Rattle.lent.proofs.store as store′
 use Rattle.lent.proofs.store.Statement as stated
 use Rattle.lent.proofs.store.Code as code
