@@ -1,16 +1,14 @@
 // A world and what a step publishes, each as one word.
-use crate::words::core_words;
-use crate::words::flag;
-use crate::words::input_words;
 use casts::cast_unsigned;
 use character::SEATS;
 use character::Slot;
+use snap_obj::core_numbers;
+use snap_obj::input_numbers;
 use states::words_of;
-use tuning::TUNINGS;
 use world::Published;
 use world::World;
 ghost use mathlib.Core.Path.{_≡_};
-ghost use Rattle.world_vectors.specs.Digest.{mixed, mixedAll, mixedTunings, mixedSlot, mixedSlots, worldDigest, mixedRecord, recordsDigest};
+ghost use Rattle.world_vectors.specs.Digest.{mixed, mixedAll, mixedNumbers, flagWord, mixedSlot, mixedSlots, worldDigest, mixedRecord, recordsDigest};
 
 const FACTOR: u64 = 16777619;
 
@@ -33,23 +31,29 @@ fn with_all(digest: u32, words: &[u32]) -> u32
     sum
 }
 
+fn with_numbers(digest: u32, numbers: &[i32]) -> u32
+    ensures { λ r. ⌜ r ≡ mixedNumbers digest (now (numbers .entry)) ⌝ }
+{
+    let mut sum = digest;
+    for i in 0..numbers.len() {
+        sum = with(sum, cast_unsigned(numbers[i]));
+    }
+    sum
+}
+
+fn flag(set: bool) -> u32
+    ensures { λ r. ⌜ r ≡ flagWord set ⌝ }
+{
+    if set { 1 } else { 0 }
+}
+
 // The tunings, then the slots by rising id.
 pub fn world_digest(world: World) -> u32
     ensures { λ r. ⌜ r ≡ worldDigest world ⌝ }
 {
     let tunings = world.tunings;
     let slots = world.slots;
-    with_slots(with_tunings(0, tunings), slots)
-}
-
-fn with_tunings(digest: u32, tunings: [i32; TUNINGS]) -> u32
-    ensures { λ r. ⌜ r ≡ mixedTunings digest tunings ⌝ }
-{
-    let mut sum = digest;
-    for i in 0..TUNINGS {
-        sum = with(sum, cast_unsigned(tunings[i]));
-    }
-    sum
+    with_slots(with_numbers(0, &tunings), slots)
 }
 
 fn with_slots(digest: u32, slots: [Slot; SEATS]) -> u32
@@ -69,8 +73,8 @@ fn with_slot(digest: u32, slot: Slot) -> u32
     let marked = with(digest, flag(slot.present));
     let character = slot.character;
     let state = words_of(character);
-    let input = input_words(slot.input);
-    with_all(with_all(marked, &state), &input)
+    let input = input_numbers(slot.input);
+    with_numbers(with_all(marked, &state), &input)
 }
 
 // Those of the seats by rising id.
@@ -89,6 +93,6 @@ fn with_record(digest: u32, published: Published) -> u32
     ensures { λ r. ⌜ r ≡ mixedRecord digest published ⌝ }
 {
     let marked = with(digest, flag(published.present));
-    let words = core_words(published.core);
-    with_all(marked, &words)
+    let record = core_numbers(published.core);
+    with_numbers(marked, &record)
 }

@@ -2,7 +2,6 @@
 // rust/world/record_calls prints the lines: n or c, the map's sides and 64 tiles, then twelve words.
 mod digest;
 mod requests;
-mod words;
 
 use casts::cast_signed;
 use digest::world_digest;

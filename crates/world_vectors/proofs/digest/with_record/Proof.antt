@@ -10,18 +10,18 @@ flag-requires c κs = search needs
 with-requires : tie.Need-with-requires
 with-requires c κs = search needs
 
-core-words-requires : tie.Need-core-words-requires
-core-words-requires c κs = search needs
+core-numbers-requires : tie.Need-core-numbers-requires
+core-numbers-requires c κs = search needs
 
-slice-aggregate-with-all : tie.Need-slice-aggregate-with-all
-slice-aggregate-with-all c = search needs
+slice-aggregate-with-numbers : tie.Need-slice-aggregate-with-numbers
+slice-aggregate-with-numbers c = search needs
 
-with-all-requires : tie.Need-with-all-requires
-with-all-requires c κs = search needs
+with-numbers-requires : tie.Need-with-numbers-requires
+with-numbers-requires c κs = search needs
 
 returns : tie.Need-returns
 unfolding mixedRecord
-returns c = simp (← c .before .before .before .before .flag .ensures, ← c .before .before .before .with .ensures, ← c .before .before .core-words .ensures, ← c .with-all .ensures)
+returns c = simp (← c .before .before .before .before .flag .ensures, ← c .before .before .before .with .ensures, ← c .before .before .core-numbers .ensures, ← c .with-numbers .ensures)
 
 pub with-record-spec : {M : Type 1} → statement M
 with-record-spec =
@@ -29,7 +29,7 @@ with-record-spec =
     (tie.spec
     flag-requires
     with-requires
-    core-words-requires
-    slice-aggregate-with-all
-    with-all-requires
+    core-numbers-requires
+    slice-aggregate-with-numbers
+    with-numbers-requires
     returns)

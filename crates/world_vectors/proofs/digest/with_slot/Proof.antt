@@ -13,8 +13,8 @@ with-requires c κs = search needs
 words-of-requires : tie.Need-words-of-requires
 words-of-requires c κs = search needs
 
-input-words-requires : tie.Need-input-words-requires
-input-words-requires c κs = search needs
+input-numbers-requires : tie.Need-input-numbers-requires
+input-numbers-requires c κs = search needs
 
 slice-aggregate-with-all : tie.Need-slice-aggregate-with-all
 slice-aggregate-with-all c = search needs
@@ -22,15 +22,15 @@ slice-aggregate-with-all c = search needs
 with-all-requires : tie.Need-with-all-requires
 with-all-requires c κs = search needs
 
-slice-aggregate-with-all-2 : tie.Need-slice-aggregate-with-all-2
-slice-aggregate-with-all-2 c = search needs
+slice-aggregate-with-numbers : tie.Need-slice-aggregate-with-numbers
+slice-aggregate-with-numbers c = search needs
 
-with-all-requires-2 : tie.Need-with-all-requires-2
-with-all-requires-2 c κs = search needs
+with-numbers-requires : tie.Need-with-numbers-requires
+with-numbers-requires c κs = search needs
 
 returns : tie.Need-returns
 unfolding mixedSlot
-returns c = simp (← c .before .before .before .before .before .before .before .before .flag .ensures, ← c .before .before .before .before .before .before .before .with .ensures, ← c .before .before .before .before .before .words-of .ensures, ← c .before .before .before .before .input-words .ensures, ← c .before .before .with-all .ensures, ← c .with-all2 .ensures)
+returns c = simp (← c .before .before .before .before .before .before .before .before .flag .ensures, ← c .before .before .before .before .before .before .before .with .ensures, ← c .before .before .before .before .before .words-of .ensures, ← c .before .before .before .before .input-numbers .ensures, ← c .before .before .with-all .ensures, ← c .with-numbers .ensures)
 
 pub with-slot-spec : {M : Type 1} → statement M
 with-slot-spec =
@@ -39,9 +39,9 @@ with-slot-spec =
     flag-requires
     with-requires
     words-of-requires
-    input-words-requires
+    input-numbers-requires
     slice-aggregate-with-all
     with-all-requires
-    slice-aggregate-with-all-2
-    with-all-requires-2
+    slice-aggregate-with-numbers
+    with-numbers-requires
     returns)
