@@ -10,7 +10,7 @@ ghost use mathlib.Core.Path.{_≡_};
 ghost use Prim.Native.Nat.{_+_, _*_, _≤_};
 ghost use lib.ListN.{length};
 ghost use Rattle.character.specs.Tick.{seats};
-ghost use Rattle.sessions.specs.Session.{LineRan, endedAt};
+ghost use Rattle.sessions.specs.Session.{LineRan, endedAt, goesOn};
 
 // A session between two lines: whether it has ended, the number of the call that is due, the place of its line, the world.
 pub struct Session {
@@ -53,16 +53,22 @@ pub fn run_line(
             let ran = run_call(world, sides, tiles, line);
             let next = put_ran(buf, at, call as i32, ran);
             let after = ran.world;
-            Turned {
-                session: Session {
-                    done: false,
-                    call: call + 1,
-                    place: past,
-                    world: after,
-                },
-                next,
-            }
+            goes_on(call + 1, past, after, next)
         }
+    }
+}
+
+pub fn goes_on(call: u32, place: usize, world: World, next: usize) -> Turned
+    ensures { λ r. ⌜ r ≡ goesOn call place world next ⌝ }
+{
+    Turned {
+        session: Session {
+            done: false,
+            call,
+            place,
+            world,
+        },
+        next,
     }
 }
 

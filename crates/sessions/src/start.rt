@@ -1,7 +1,7 @@
 // How a session starts: the heading, and the map.
-use crate::line::Session;
 use crate::line::Turned;
 use crate::line::ended;
+use crate::line::goes_on;
 use map_text::MOST_BYTES;
 use map_text::MapPart;
 use map_text::read_map;
@@ -52,15 +52,7 @@ pub fn begin(text: &[u8], tiles: &mut [u8], buf: &mut [u8]) -> Begun
                 height: height as u32,
             },
             count: width * height,
-            first: Turned {
-                session: Session {
-                    done: false,
-                    call: 1,
-                    place: next,
-                    world: fresh(),
-                },
-                next: end,
-            },
+            first: goes_on(1, next, fresh(), end),
         },
     }
 }

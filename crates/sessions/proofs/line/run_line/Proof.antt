@@ -54,8 +54,11 @@ cast-put-ran c = search needs
 put-ran-requires : tie.Need-put-ran-requires
 put-ran-requires c κs = search needs
 
-add-t26 : tie.Need-add-t26
-add-t26 c = search needs
+add-goes-on : tie.Need-add-goes-on
+add-goes-on c = search needs
+
+goes-on-requires : tie.Need-goes-on-requires
+goes-on-requires c κs = search needs
 
 same-length : tie.Need-same-length
 same-length c = search needs
@@ -75,14 +78,16 @@ same-length-2 c = search needs
 
 returns-3 : tie.Need-returns-3
 returns-3 c =
-    let a = c .before .before .before .before .before .before .before .before .before .before .before .before .before .before .before in
+    let a = c .before .before .before .before .before .before .before .before .before .before .before .before .before .before .before .before in
     let s = a .args .session in
-    let g = c .before .before .before .before .before .before .before .line .given in
-    let r = c .before .before .before .before .before .run-call in
+    let g = c .before .before .before .before .before .before .before .before .line .given in
+    let r = c .before .before .before .before .before .before .run-call in
+    let put = c .before .before .before .before .put-ran in
+    let next : c .goes-on .result .next ≡ put .result = ap (λ (t : Turned). t .next) (c .goes-on .ensures) in
     let number : toZ w32 (ofZ w32 (pos (s .call))) ≡ pos (s .call) = read (pos (s .call)) (small (s .call) (a .pre .1)) in
-    call (g .0 .0) (g .0 .1 .0) (c .before .before .before .before .before .before .before .before .before .before .if1 .left) (subst (CallAt (a .args .text .now) (s .place)) (g .1) (c .before .before .before .before .before .before .before .before .before .next-call .ensures))
-    (ap (λ (u : Stepped). goesOn (s .call + 1) (g .0 .1 .0) (u .world) (c .before .before .before .put-ran .result)) (r .ensures))
-    (put-as (ap₂ (ranBytes seats) number (r .ensures)) refl (c .before .before .before .put-ran .ensures))
+    call (g .0 .0) (g .0 .1 .0) (c .before .before .before .before .before .before .before .before .before .before .before .if1 .left) (subst (CallAt (a .args .text .now) (s .place)) (g .1) (c .before .before .before .before .before .before .before .before .before .before .next-call .ensures))
+    (c .goes-on .ensures ∙ ap (λ (u : Stepped). goesOn (s .call + 1) (g .0 .1 .0) (u .world) (put .result)) (r .ensures) ∙ ap (goesOn (s .call + 1) (g .0 .1 .0) _) (sym next))
+    (put-as (ap₂ (ranBytes seats) number (r .ensures)) (sym next) (put .ensures))
 
 pub run-line-spec : {M : Type 1} → statement M
 run-line-spec =
@@ -99,7 +104,8 @@ run-line-spec =
     run-call-requires
     cast-put-ran
     put-ran-requires
-    add-t26
+    add-goes-on
+    goes-on-requires
     same-length
     returns-2
     same-length-2

@@ -12,6 +12,7 @@ use Rattle.map_text.specs.declared.MapPart.the-variants as mapPart
 use Rattle.map_text.proofs.Maps.{map-read}
 use Rattle.world.specs.declared.World.{World}
 use Rattle.sessions.specs.declared.line.Turned.{Turned}
+use Rattle.sessions.specs.declared.start.Begun.{Begun}
 use Rattle.sessions.specs.Session.{endedAt, goesOn}
 use Rattle.sessions.specs.Start.{fault, map}
 use borrow.Author.Needs.{needs}
@@ -58,6 +59,9 @@ mul-t23 c = fits-of-lt (product _ _ (sides _ _ _ _ _ (c .before .width .given .1
 fresh-requires-2 : tie.Need-fresh-requires-2
 fresh-requires-2 c κs = search needs
 
+goes-on-requires : tie.Need-goes-on-requires
+goes-on-requires c κs = search needs
+
 same-length : tie.Need-same-length
 same-length c = search needs
 
@@ -81,11 +85,14 @@ same-length-4 c = search needs
 
 returns-2 : tie.Need-returns-2
 returns-2 c =
-    let a = c .before .before .before .before .before .before .before .before .before .before .before .before .before .before .before in
-    let g = c .before .before .width .given in
-    map (g .0 .0) (g .0 .1 .0) (g .0 .1 .1 .0) (subst (MapAt (a .args .text .now) _) (g .1) (c .before .before .before .before .before .before .read-map .ensures))
-    (c .before .before .before .before .before .before .before .before .before .before .put-heading .ensures)
-    (ap (λ (w : World). record { sides = record { width = g .0 .0; height = g .0 .1 .0 }; count = g .0 .0 * g .0 .1 .0; first = goesOn 1 (g .0 .1 .1 .0) w (c .before .before .before .before .before .before .before .before .before .before .put-heading .result) }) (c .fresh2 .ensures))
+    let a = c .before .before .before .before .before .before .before .before .before .before .before .before .before .before .before .before in
+    let g = c .before .before .before .width .given in
+    let head = c .before .before .before .before .before .before .before .before .before .before .before .put-heading in
+    let next : c .goes-on .result .next ≡ head .result = ap (λ (t : Turned). t .next) (c .goes-on .ensures) in
+    let made : Turned → Begun = λ t. record { sides = record { width = g .0 .0; height = g .0 .1 .0 }; count = g .0 .0 * g .0 .1 .0; first = t } in
+    map (g .0 .0) (g .0 .1 .0) (g .0 .1 .1 .0) (subst (MapAt (a .args .text .now) _) (g .1) (c .before .before .before .before .before .before .before .read-map .ensures))
+    (rw next (head .ensures))
+    (ap made (c .goes-on .ensures ∙ ap (λ (w : World). goesOn 1 (g .0 .1 .1 .0) w (head .result)) (c .before .fresh2 .ensures) ∙ ap (goesOn 1 (g .0 .1 .1 .0) _) (sym next)))
 
 pub begin-spec : {M : Type 1} → statement M
 begin-spec =
@@ -102,6 +109,7 @@ begin-spec =
     cast-t21
     mul-t23
     fresh-requires-2
+    goes-on-requires
     same-length
     same-length-2
     returns
