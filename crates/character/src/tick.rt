@@ -101,7 +101,12 @@ impl Character {
         let pos = self.pos;
         let steered = self.steer(grounded(sides, tiles, pos), input, tuning);
         let fired = steered.hook;
-        let flight = caught(flown(fired, pos, sides, tiles, tuning), id, slots, tuning.player_hooking);
+        let flight = caught(
+            flown(fired, pos, sides, tiles, tuning),
+            id,
+            slots,
+            tuning.player_hooking,
+        );
         let HookFlight::To(hook) = flight else {
             return Ticked {
                 number: 9,

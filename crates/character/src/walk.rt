@@ -87,7 +87,13 @@ impl Character {
 }
 
 // The way from one point to another; where players collide, up to the first turn in which somebody is close.
-fn player_walk(slots: [Slot; SEATS], id: usize, from: vec2, to: vec2, player_collision: f32) -> PlayerWalk
+fn player_walk(
+    slots: [Slot; SEATS],
+    id: usize,
+    from: vec2,
+    to: vec2,
+    player_collision: f32,
+) -> PlayerWalk
     ensures { λ r. ⌜ r ≡ playerWalk seats slots id from to «player_collision» ⌝ }
 {
     if player_collision != 0.0 {
