@@ -1,4 +1,4 @@
-// What becomes of a hook in a tick, as far as nobody else is in it.
+// What becomes of a hook in a tick, and whom it meets on its way.
 use hook::CharacterId;
 use hook::Hook;
 use lines::LineCheck;

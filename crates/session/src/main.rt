@@ -7,39 +7,47 @@ use sessions::Turned;
 use sessions::begin;
 use sessions::run_lines;
 use tiles::Sides;
+ghost use mathlib.Core.Bool.{true};
+ghost use mathlib.Core.Path.{_≡_};
+ghost use Prim.Native.Nat.{_*_, _≤_};
+ghost use lib.ListN.{length};
+ghost use Rattle.character.specs.Tick.{seats};
+ghost use Rattle.sessions.specs.Session.{mostLine};
+ghost use Rattle.session_output.specs.Played.{Started};
 
 fn main() {
     let mut text = [0u8; MOST_READ];
     let n = io::read_full(STDIN_FILENO, &mut text);
-    if n <= MOST_READ {
-        run(&text[0..n]);
-    }
+    run(&text[0..n]);
 }
 
-fn run(text: &[u8]) {
+// Whether the session has ended: it always has.
+fn run(text: &[u8]) -> bool
+    ensures { λ r. ⌜ r ≡ true ⌝ }
+{
     let mut tiles = [0u8; MOST_TILES];
     let mut buf = [0u8; 65536];
     let begun = begin(text, &mut tiles, &mut buf);
     let count = begun.count;
     let sides = begun.sides;
     let first = begun.first;
-    if count <= MOST_TILES {
-        play(text, sides, &tiles[0..count], first, &mut buf);
-    }
+    play(text, sides, &tiles[0..count], first, &mut buf)
 }
 
-// Writes what is in the buffer and runs the calls that come next; a text has fewer than 65,536 of them.
-fn play(text: &[u8], sides: Sides, tiles: &[u8], first: Turned, buf: &mut [u8]) {
+// Writes what is in the buffer and runs the calls that come next, until the session has ended: it does so in fewer turns.
+fn play(text: &[u8], sides: Sides, tiles: &[u8], first: Turned, buf: &mut [u8]) -> bool
+    requires { ⌜ Started seats (now text) sides (now tiles) first (now buf) × (mostLine * seats ≤ length (now buf)) ⌝ }
+    ensures { λ r. ⌜ r ≡ true ⌝ }
+{
     let mut turned = first;
     for _ in 0..65536u32 {
         let end = turned.next;
-        if end <= buf.len() {
-            io::write_all(STDOUT_FILENO, &buf[0..end]);
-        }
+        io::write_all(STDOUT_FILENO, &buf[0..end]);
         let session = turned.session;
         if session.done {
-            break;
+            return true;
         }
         turned = run_lines(text, sides, tiles, session, buf);
     }
+    false
 }

@@ -15,7 +15,7 @@ use Rattle.sessions.specs.declared.line.Session.{Session}
 use Rattle.sessions.specs.declared.line.Turned.{Turned}
 use Rattle.session_output.specs.Played.{Played, PlayEnds}
 use Rattle.session_output.proofs.SoFar.{SoFar, going, over, after-turns}
-use Rattle.session_output.proofs.Whole.{after-start}
+use Rattle.session_output.proofs.Whole.{started}
 
 module _ {n : ℕ} {text : List ℕ} {s : Sides} {ts : List ℕ} where
   -- a line after which the session goes on is counted
@@ -54,4 +54,4 @@ module _ {n : ℕ} {text : List ℕ} {s : Sides} {ts : List ℕ} where
 
 -- a whole session
 pub play-ends : (n : ℕ) → PlayEnds n
-play-ends n text ts d r e b turns f out p = turns-few (after-start b .2) p
+play-ends n text s ts first e b turns f out p = turns-few (started b .2) p

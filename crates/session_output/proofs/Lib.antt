@@ -1,3 +1,4 @@
 pub mod SoFar
 pub mod Whole
 pub mod Ends
+pub mod Within

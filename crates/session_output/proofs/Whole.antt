@@ -17,13 +17,17 @@ use Rattle.sessions.specs.declared.line.Session.{Session}
 use Rattle.sessions.specs.declared.line.Turned.{Turned}
 use Rattle.sessions.specs.declared.start.Begun.{Begun}
 use Rattle.session_output.specs.Output.{callsLines, faultLine, output}
-use Rattle.session_output.specs.Played.{WholeOutput}
+use Rattle.session_output.specs.Played.{Started, WholeOutput}
 use Rattle.session_output.proofs.SoFar.{put-first, SoFar, going, over, after-turns}
+
+-- the bytes w were put at the start of some buffer, which became e
+abbrev Put0 : List ℕ → List ℕ → ℕ → Type 0
+Put0 w e next = (d : List ℕ) × Put d 0 w e next
 
 -- a session that starts has written the heading, and nothing more unless its map is at fault
 pub after-start : {n : ℕ} {text ts d : List ℕ} {r : Begun} {e : List ℕ} → Began n text ts d r e → (w : List ℕ) × Put d 0 (heading ++ w) e (r .first .next) × SoFar n text (r .sides) (take (r .count) ts) (r .first .session) w
 unfolding callsLines output
-after-start {text = text} {ts} (Began.fault m k none p q is) =
+after-start {text = text} {ts} (Began.fault m k none p q is _) =
     (faultLine 1, put-after (omega arith) p q, over noMap (ap (λ (t : Turned). t .session .done) is) (no-map text ts refl none) refl)
 after-start {n} {text} {ts} (Began.map w h next there p is) =
     ([], put-as (sym (append-nil heading)) refl p, subst (λ (x : Begun). SoFar n text (x .sides) (take (x .count) ts) (x .first .session) []) (sym is) (going [] refl (passed-map text ts w h next refl there) refl (λ ds. refl)))
@@ -33,8 +37,14 @@ all-written : {n : ℕ} {text : List ℕ} {s : Sides} {ts : List ℕ} {f : Sessi
 all-written (going cs live p due a) done t h = absurd (true≢false (sym done ∙ live))
 all-written {n} {text} (over u _ stands is) done t h = is ∙ ap (output n) (text-unique text u t stands h)
 
+-- the same of what `begin` leaves
+pub started : {n : ℕ} {text : List ℕ} {s : Sides} {ts : List ℕ} {first : Turned} {e : List ℕ} → Started n text s ts first e → (w : List ℕ) × Put0 (heading ++ w) e (first .next) × SoFar n text s ts (first .session) w
+started {n} {text} {e = e} h =
+    let (w, q, i) = after-start (h .began) in
+    (w, subst (λ (t : Turned). Put0 (heading ++ w) e (t .next)) (h .is-first) (h .buffer, q), rw (← h .on-sides, ← h .on-tiles, ← h .is-first) i)
+
 -- a whole session
 pub whole-output : (n : ℕ) → WholeOutput n
-whole-output n text ts d r e b turns f out p done t h =
-    let (w, q, i) = after-start b in
-    ap (λ (x : List ℕ). x ++ out) (put-first q) ∙ append-assoc heading w out ∙ all-written (after-turns i p) done t h
+whole-output n text s ts first e b turns f out p done t h =
+    let (w, q, i) = started b in
+    ap (λ (x : List ℕ). x ++ out) (put-first (q .1)) ∙ append-assoc heading w out ∙ all-written (after-turns i p) done t h

@@ -9,6 +9,7 @@ use Rattle.session_text.specs.Session.{Text, StandsFor}
 use Rattle.sessions.specs.Session.{mostCalls, mostLine, another, LinesRan}
 use Rattle.sessions.specs.Start.{Began}
 use Rattle.sessions.specs.declared.line.Session.{Session}
+use Rattle.sessions.specs.declared.line.Turned.{Turned}
 use Rattle.sessions.specs.declared.start.Begun.{Begun}
 use Rattle.session_output.specs.Output.{output}
 
@@ -18,10 +19,20 @@ pub data Played (n : ℕ) (text : List ℕ) (s : Sides) (ts : List ℕ) (b : Ses
   -- a turn: the session has not ended; `run_lines` leaves lines at the start of a buffer that has room for an answer, and these are written
   then : (turns : ℕ) (f g : Session) (out d e : List ℕ) (k : ℕ) → Played n text s ts b turns f out → f .done ≡ false → mostLine * n ≤ length d → LinesRan n text s ts f d 0 g e k → another n (g .done) (g .call) k (length d) ≡ false → Played n text s ts b (suc turns) g (out ++ take k e)
 
+-- what `begin` leaves of a text: the map, the session before its first turn, and the buffer e
+pub record Started (n : ℕ) (text : List ℕ) (s : Sides) (ts : List ℕ) (first : Turned) (e : List ℕ) : Type 0 where
+  pub tiles : List ℕ
+  pub buffer : List ℕ
+  pub begun : Begun
+  pub began : Began n text tiles buffer begun e
+  pub on-sides : begun .sides ≡ s
+  pub on-tiles : take (begun .count) tiles ≡ ts
+  pub is-first : begun .first ≡ first
+
 -- once a session that started on a text has ended, all that was written is the output of what the text stands for
 abbrev pub WholeOutput : ℕ → Type 0
-WholeOutput n = (text ts d : List ℕ) (r : Begun) (e : List ℕ) → Began n text ts d r e → (turns : ℕ) (f : Session) (out : List ℕ) → Played n text (r .sides) (take (r .count) ts) (r .first .session) turns f out → f .done ≡ true → (t : Text) → StandsFor text t → take (r .first .next) e ++ out ≡ output n t
+WholeOutput n = (text : List ℕ) (s : Sides) (ts : List ℕ) (first : Turned) (e : List ℕ) → Started n text s ts first e → (turns : ℕ) (f : Session) (out : List ℕ) → Played n text s ts (first .session) turns f out → f .done ≡ true → (t : Text) → StandsFor text t → take (first .next) e ++ out ≡ output n t
 
 -- it ends: there are never as many turns as the program has
 abbrev pub PlayEnds : ℕ → Type 0
-PlayEnds n = (text ts d : List ℕ) (r : Begun) (e : List ℕ) → Began n text ts d r e → (turns : ℕ) (f : Session) (out : List ℕ) → Played n text (r .sides) (take (r .count) ts) (r .first .session) turns f out → turns < mostCalls
+PlayEnds n = (text : List ℕ) (s : Sides) (ts : List ℕ) (first : Turned) (e : List ℕ) → Started n text s ts first e → (turns : ℕ) (f : Session) (out : List ℕ) → Played n text s ts (first .session) turns f out → turns < mostCalls

@@ -13,7 +13,7 @@ use Rattle.sessions.specs.declared.start.Begun.{Begun}
 
 -- with n slots: the tiles are at the start of ts, and the buffer d becomes e
 pub data Began (n : ℕ) (text ts d : List ℕ) (r : Begun) (e : List ℕ) : Type 0 where
-  -- no map stands there: after the heading, text at fault with the number of the first call
-  fault : (m : List ℕ) (k : ℕ) → MapAt text ts mapPart.Fault → Put d 0 heading m k → Put m k (answerBytes (pos 1) (pos textFault)) e (r .first .next) → r .first ≡ endedAt 1 0 (fresh n) (r .first .next) → Began n text ts d r e
+  -- no map stands there: after the heading, text at fault with the number of the first call; there are no tiles
+  fault : (m : List ℕ) (k : ℕ) → MapAt text ts mapPart.Fault → Put d 0 heading m k → Put m k (answerBytes (pos 1) (pos textFault)) e (r .first .next) → r .first ≡ endedAt 1 0 (fresh n) (r .first .next) → r .count ≡ 0 → Began n text ts d r e
   -- a map: the heading is written, and the first call is due past the map's part
   map : (w h next : ℕ) → MapAt text ts (mapPart.Read w h next) → Put d 0 heading e (r .first .next) → r ≡ record { sides = record { width = w; height = h }; count = w * h; first = goesOn 1 next (fresh n) (r .first .next) } → Began n text ts d r e

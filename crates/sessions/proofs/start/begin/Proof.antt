@@ -1,6 +1,6 @@
 -- `sessions::start::begin` meets its contract. Assumes nothing.
 use mathlib.Core.List.{List}
-use mathlib.Core.Path.{_≡_, sym, ap, _∙_, subst}
+use mathlib.Core.Path.{_≡_, refl, sym, ap, _∙_, subst}
 use Prim.Native.Nat.{ℕ, _*_, _^_, _≤_, _<_}
 use native.Mathlib.Nat.{mul-le-mul, lt-of-le-of-lt}
 use native.Mathlib.Omega.{arith}
@@ -76,6 +76,7 @@ returns c =
     (c .before .before .before .before .before .before .before .before .before .before .before .before .before .before .put-heading .ensures)
     (rw (next) (c .before .before .before .before .put-answer .ensures))
     (c .ended .ensures ∙ ap (λ (w : World). endedAt 1 0 w (c .before .before .before .before .put-answer .result)) (c .before .fresh .ensures) ∙ ap (endedAt 1 0 _) (sym next))
+    refl
 
 same-length-3 : tie.Need-same-length-3
 same-length-3 c = search needs
