@@ -1,26 +1,37 @@
-//! Links the static library that `rt staticlib exports` writes.
+//! Links the static libraries that `rt staticlib` writes of the Rattle crates
+//! `exports` and `exports_parts`.
 
 use std::env;
 use std::path::{Path, PathBuf};
 
 const FOLDER_VARIABLE: &str = "PONGURIENA_STATICLIB";
 
+const WORLD: &str = "exports";
+
+const PARTS: &str = "exports_parts";
+
 fn main() {
     println!("cargo::rerun-if-env-changed={FOLDER_VARIABLE}");
     let folder = library_folder();
-    let archive = folder.join("libexports.a");
-    println!("cargo::rerun-if-changed={}", archive.display());
-    if !archive.is_file() {
-        println!(
-            "cargo::error={} is not there: run `rt staticlib exports` first",
-            archive.display()
-        );
-        return;
+    println!("cargo::rustc-link-search=native={}", folder.display());
+    for library in [WORLD, PARTS] {
+        let archive = archive_of(&folder, library);
+        println!("cargo::rerun-if-changed={}", archive.display());
+        if !archive.is_file() {
+            println!(
+                "cargo::error={} is not there: run `rt staticlib {library}` first",
+                archive.display()
+            );
+        }
+        println!("cargo::rustc-link-lib=static={library}");
     }
     // For the test that builds a C program.
-    println!("cargo::rustc-env=PONGURIENA_ARCHIVE={}", archive.display());
-    println!("cargo::rustc-link-search=native={}", folder.display());
-    println!("cargo::rustc-link-lib=static=exports");
+    let world = archive_of(&folder, WORLD);
+    println!("cargo::rustc-env=PONGURIENA_ARCHIVE={}", world.display());
+}
+
+fn archive_of(folder: &Path, library: &str) -> PathBuf {
+    folder.join(format!("lib{library}.a"))
 }
 
 fn library_folder() -> PathBuf {

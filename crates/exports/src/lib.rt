@@ -1,86 +1,105 @@
-// The C interface: each function is the one of the crates below with its name.
-mod aim;
-mod walks;
-mod worlds;
-
-pub use aim::ponguriena_net_angle;
-pub use aim::ponguriena_velocity_ramp;
-pub use walks::ponguriena_check_line;
-pub use walks::ponguriena_move_box;
-pub use worlds::ponguriena_fresh;
-pub use worlds::ponguriena_input;
-pub use worlds::ponguriena_join;
-pub use worlds::ponguriena_leave;
-pub use worlds::ponguriena_player_input;
-pub use worlds::ponguriena_record;
-pub use worlds::ponguriena_step;
-pub use worlds::ponguriena_tune;
-pub use worlds::ponguriena_tuning;
+// The C interface of the calls on a world that is kept as the numbers of a lent buffer. Their answers are a refusal's number, or 0.
+use snap_obj::PlayerInput;
+use tiles::Sides;
 ghost use mathlib.Core.Path.{_≡_};
-ghost use lib.Ieee.{binary32};
-ghost use Rattle.root.specs.Root.{root};
-ghost use Rattle.whole.specs.Whole.{roundToI32, truncToI32};
-ghost use Rattle.float.specs.Convert.{i32ToF32, hundredthsToF32, quantize, to256ths, from256ths, quantize256ths};
+ghost use Rattle.character.specs.Tick.{seats};
+ghost use Rattle.world.specs.World.{fresh};
+ghost use Rattle.world.specs.Calls.{accepted, join, leave, input, tune};
+ghost use Rattle.world.specs.Demand3.{inputOf};
+ghost use Rattle.snap_obj.specs.Numbers.{coreCount, inputCount};
+ghost use Rattle.buffers.specs.Buffers.{callIn, stepIn};
+ghost use Rattle.readers.specs.Readers.{readIn, recordOf, tuningIn};
+ghost use Rattle.readers.specs.Readers as readers;
+ghost use Rattle.tiles.specs.Map.{sidesOf};
 
 #[no_mangle]
-pub extern "C" fn ponguriena_root(x: f32) -> f32
-    ensures { λ r. ⌜ r ≡ root binary32 x ⌝ }
+pub extern "C" fn ponguriena_fresh(world: &mut [i32]) -> u32
+    ensures { λ r. ⌜ callIn (λ _. accepted (fresh seats)) (now (world .entry)) ≡ record { number = r; world = now (world .exit) } ⌝ }
 {
-    root::root(x)
+    buffers::fresh_in(world)
 }
 
 #[no_mangle]
-pub extern "C" fn ponguriena_round_to_i32(x: f32) -> i32
-    ensures { λ r. ⌜ r ≡ roundToI32 x ⌝ }
+pub extern "C" fn ponguriena_join(
+    world: &mut [i32],
+    width: u32,
+    height: u32,
+    tiles: &[u8],
+    id: i32,
+    x: i32,
+    y: i32,
+) -> u32
+    ensures { λ r. ⌜ callIn (λ w. join seats w (sidesOf width height) (now (tiles .entry)) id x y) (now (world .entry)) ≡ record { number = r; world = now (world .exit) } ⌝ }
 {
-    whole::round_to_i32(x)
+    buffers::join_in(world, Sides { width, height }, tiles, id, x, y)
 }
 
 #[no_mangle]
-pub extern "C" fn ponguriena_trunc_to_i32(x: f32) -> i32
-    ensures { λ r. ⌜ r ≡ truncToI32 x ⌝ }
+pub extern "C" fn ponguriena_leave(world: &mut [i32], id: i32) -> u32
+    ensures { λ r. ⌜ callIn (λ w. leave seats w id) (now (world .entry)) ≡ record { number = r; world = now (world .exit) } ⌝ }
 {
-    whole::trunc_to_i32(x)
+    buffers::leave_in(world, id)
 }
 
 #[no_mangle]
-pub extern "C" fn ponguriena_i32_to_f32(n: i32) -> f32
-    ensures { λ r. ⌜ r ≡ i32ToF32 n ⌝ }
+pub extern "C" fn ponguriena_input(
+    world: &mut [i32],
+    id: i32,
+    direction: i32,
+    target_x: i32,
+    target_y: i32,
+    jump: i32,
+    hook: i32,
+) -> u32
+    ensures { λ r. ⌜ callIn (λ w. input seats w id (inputOf direction «target_x» «target_y» jump hook)) (now (world .entry)) ≡ record { number = r; world = now (world .exit) } ⌝ }
 {
-    float::i32_to_f32(n)
+    let values = PlayerInput {
+        direction,
+        target_x,
+        target_y,
+        jump,
+        hook,
+    };
+    buffers::input_in(world, id, values)
 }
 
 #[no_mangle]
-pub extern "C" fn ponguriena_hundredths_to_f32(n: i32) -> f32
-    ensures { λ r. ⌜ r ≡ hundredthsToF32 n ⌝ }
+pub extern "C" fn ponguriena_tune(world: &mut [i32], index: i32, value: i32) -> u32
+    ensures { λ r. ⌜ callIn (λ w. tune w index value) (now (world .entry)) ≡ record { number = r; world = now (world .exit) } ⌝ }
 {
-    float::hundredths_to_f32(n)
+    buffers::tune_in(world, index, value)
 }
 
 #[no_mangle]
-pub extern "C" fn ponguriena_quantize(x: f32) -> f32
-    ensures { λ r. ⌜ r ≡ quantize x ⌝ }
+pub extern "C" fn ponguriena_step(
+    world: &mut [i32],
+    width: u32,
+    height: u32,
+    tiles: &[u8],
+    records: &mut [i32],
+) -> u32
+    ensures { λ r. ⌜ stepIn (sidesOf width height) (now (tiles .entry)) (now (world .entry)) (now (records .entry)) ≡ record { number = r; world = now (world .exit); records = now (records .exit) } ⌝ }
 {
-    float::quantize(x)
+    buffers::step_in(world, Sides { width, height }, tiles, records)
 }
 
 #[no_mangle]
-pub extern "C" fn ponguriena_to_256ths(v: f32) -> i32
-    ensures { λ r. ⌜ r ≡ to256ths v ⌝ }
+pub extern "C" fn ponguriena_record(world: &[i32], id: i32, record: &mut [i32]) -> u32
+    ensures { λ r. ⌜ readIn coreCount recordOf (now (world .entry)) id (now («record» .entry)) ≡ record { number = r; numbers = now («record» .exit) } ⌝ }
 {
-    float::to_256ths(v)
+    readers::record_in(world, id, record)
 }
 
 #[no_mangle]
-pub extern "C" fn ponguriena_from_256ths(n: i32) -> f32
-    ensures { λ r. ⌜ r ≡ from256ths n ⌝ }
+pub extern "C" fn ponguriena_player_input(world: &[i32], id: i32, input: &mut [i32]) -> u32
+    ensures { λ r. ⌜ readIn inputCount readers.inputOf (now (world .entry)) id (now (input .entry)) ≡ record { number = r; numbers = now (input .exit) } ⌝ }
 {
-    float::from_256ths(n)
+    readers::player_input_in(world, id, input)
 }
 
 #[no_mangle]
-pub extern "C" fn ponguriena_quantize_256ths(v: f32) -> f32
-    ensures { λ r. ⌜ r ≡ quantize256ths v ⌝ }
+pub extern "C" fn ponguriena_tuning(world: &[i32], index: i32, value: &mut i32) -> u32
+    ensures { λ r. ⌜ tuningIn (now (world .entry)) index (now (value .entry)) ≡ record { number = r; value = now (value .exit) } ⌝ }
 {
-    float::quantize_256ths(v)
+    readers::tuning_in(world, index, value)
 }

@@ -11,6 +11,10 @@ use Rattle.tiles.specs.declared.Sides.{Sides}
 use Rattle.tiles.specs.declared.point.Tile.{Tile}
 use Rattle.tiles.specs.declared.point.Tile.the-variants.{Open, Normal, Unhookable}
 
+-- width and height by two numbers
+abbrev pub sidesOf : ℕ → ℕ → Sides
+sidesOf w h = record { width = w; height = h }
+
 -- from 1 to 1,024
 unfoldable pub isSide : ℕ → Bool
 isSide n = leb 1 n && leb n 1024

@@ -1,7 +1,7 @@
-//! Safe Rust functions over the static library of the Rattle crate `exports`: the
-//! [`World`] of characters with its calls, the same calls on lent numbers
-//! ([`buffers`]), and what they are made of: walks over a [`Map`], the aim angle, the
-//! velocity ramp, the root and the conversions. `include/ponguriena.h` is for C.
+//! Safe Rust functions over the static libraries of two Rattle crates. Of `exports`:
+//! the [`World`] of characters with its calls, and the same calls on lent numbers
+//! ([`buffers`]). Of `exports_parts` what they are made of: walks over a [`Map`], the
+//! aim angle, the velocity ramp, the root and the conversions. `include/ponguriena.h` is for C.
 
 // Nothing checks the declarations in these modules against the Rattle source: a
 // change of a signature there must be repeated here by hand.
