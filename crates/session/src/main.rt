@@ -2,8 +2,8 @@
 use libc::STDIN_FILENO;
 use libc::STDOUT_FILENO;
 use map_text::MOST_TILES;
+use session_lines::Turned;
 use sessions::MOST_READ;
-use sessions::Turned;
 use sessions::begin;
 use sessions::run_lines;
 use tiles::Sides;

@@ -10,9 +10,10 @@ use Rattle.tiles.specs.declared.Sides.{Sides}
 use Rattle.decimal.proofs.Places.{within}
 use Rattle.map_text.specs.Map.{mostBytes, mapBytes}
 use Rattle.session_text.proofs.Reading.{passed-few}
-use Rattle.sessions.specs.Session.{mostCalls, mostLine, another, LineRan, LinesRan}
-use Rattle.sessions.specs.declared.line.Session.{Session}
-use Rattle.sessions.specs.declared.line.Turned.{Turned}
+use Rattle.session_lines.specs.Line.{LineRan}
+use Rattle.sessions.specs.Session.{mostCalls, mostLine, another, LinesRan}
+use Rattle.session_lines.specs.declared.Session.{Session}
+use Rattle.session_lines.specs.declared.Turned.{Turned}
 use Rattle.session_output.specs.Played.{Played, PlayEnds}
 use Rattle.session_output.proofs.SoFar.{SoFar, going, over, after-turns}
 use Rattle.session_output.proofs.Whole.{started}

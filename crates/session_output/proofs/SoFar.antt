@@ -17,9 +17,10 @@ use Rattle.world.specs.World.{fresh}
 use Rattle.answers.specs.Answers.{ran, ranBytes}
 use Rattle.session_text.specs.Session.{End, ended, fault, Text, session, StandsFor, Passed}
 use Rattle.session_text.proofs.Reading.{passed-call, passed-end, passed-fault}
-use Rattle.sessions.specs.Session.{LineRan, LinesRan}
-use Rattle.sessions.specs.declared.line.Session.{Session}
-use Rattle.sessions.specs.declared.line.Turned.{Turned}
+use Rattle.session_lines.specs.Line.{LineRan}
+use Rattle.sessions.specs.Session.{LinesRan}
+use Rattle.session_lines.specs.declared.Session.{Session}
+use Rattle.session_lines.specs.declared.Turned.{Turned}
 use Rattle.session_output.specs.Output.{callsLines, faultLine, endLines, output}
 use Rattle.session_output.specs.Played.{Played}
 

@@ -13,8 +13,8 @@ use Rattle.session_text.specs.Session.{Text, noMap, StandsFor}
 use Rattle.session_text.proofs.Reading.{no-map, passed-map}
 use Rattle.session_text.proofs.Unique.{text-unique}
 use Rattle.sessions.specs.Start.{Began}
-use Rattle.sessions.specs.declared.line.Session.{Session}
-use Rattle.sessions.specs.declared.line.Turned.{Turned}
+use Rattle.session_lines.specs.declared.Session.{Session}
+use Rattle.session_lines.specs.declared.Turned.{Turned}
 use Rattle.sessions.specs.declared.start.Begun.{Begun}
 use Rattle.session_output.specs.Output.{callsLines, faultLine, output}
 use Rattle.session_output.specs.Played.{Started, WholeOutput}

@@ -7,10 +7,11 @@ use lib.ListN.{length, take, drop, length-append, length-take}
 use Rattle.tiles.specs.declared.Sides.{Sides}
 use Rattle.map_text.proofs.Maps.{map-read}
 use Rattle.output_lines.specs.Put.{put, Put}
-use Rattle.sessions.specs.Session.{LineRan, LinesRan}
+use Rattle.session_lines.specs.Line.{LineRan}
+use Rattle.sessions.specs.Session.{LinesRan}
 use Rattle.sessions.specs.Start.{Began}
-use Rattle.sessions.specs.declared.line.Session.{Session}
-use Rattle.sessions.specs.declared.line.Turned.{Turned}
+use Rattle.session_lines.specs.declared.Session.{Session}
+use Rattle.session_lines.specs.declared.Turned.{Turned}
 use Rattle.sessions.specs.declared.start.Begun.{Begun}
 use Rattle.session_output.specs.Played.{Started}
 use Rattle.session_output.proofs.Whole.{started}

@@ -9,7 +9,7 @@ use Rattle.world.specs.World.{fresh}
 use Rattle.world.specs.declared.World.{World}
 use Rattle.answers.specs.Answers.{ran, ranBytes}
 use Rattle.session_text.specs.Session.{End, ended, fault, Text, noMap, session, dueCall}
-use Rattle.sessions.specs.Session.{textFault}
+use Rattle.session_lines.specs.Line.{textFault}
 
 -- the lines of calls that are run one after another on one map, from the world w on; the first call has the number k
 unfoldable pub callsLines : ℕ → Sides → List ℕ → World → ℕ → List Call → List ℕ

@@ -8,8 +8,8 @@ use Rattle.tiles.specs.declared.Sides.{Sides}
 use Rattle.session_text.specs.Session.{Text, StandsFor}
 use Rattle.sessions.specs.Session.{mostCalls, mostLine, another, LinesRan}
 use Rattle.sessions.specs.Start.{Began}
-use Rattle.sessions.specs.declared.line.Session.{Session}
-use Rattle.sessions.specs.declared.line.Turned.{Turned}
+use Rattle.session_lines.specs.declared.Session.{Session}
+use Rattle.session_lines.specs.declared.Turned.{Turned}
 use Rattle.sessions.specs.declared.start.Begun.{Begun}
 use Rattle.session_output.specs.Output.{output}
 

@@ -7,9 +7,10 @@ use native.Mathlib.Omega.{arith}
 use lib.Dec.{leb}
 use borrow.Author.Tests.{leb-true}
 use Rattle.tiles.specs.declared.Sides.{Sides}
-use Rattle.sessions.specs.Session.{mostCalls, mostLine, another, LineRan, end, fault, call}
-use Rattle.sessions.specs.declared.line.Session.{Session}
-use Rattle.sessions.specs.declared.line.Turned.{Turned}
+use Rattle.session_lines.specs.Line.{LineRan, end, fault, call}
+use Rattle.sessions.specs.Session.{mostCalls, mostLine, another}
+use Rattle.session_lines.specs.declared.Session.{Session}
+use Rattle.session_lines.specs.declared.Turned.{Turned}
 
 -- the session goes on, and there is a call and room for its answer
 pub another-runs : (n : ℕ) (done : Bool) (due used len : ℕ) → another n done due used len ≡ true → (done ≡ false) × (due ≤ mostCalls) × (used + mostLine * n ≤ len)

@@ -8,7 +8,7 @@ use Rattle.map_text.specs.declared.MapPart.the-variants as mapPart
 use Rattle.output_lines.specs.Output.{heading, answerBytes}
 use Rattle.output_lines.specs.Put.{Put}
 use Rattle.world.specs.World.{fresh}
-use Rattle.sessions.specs.Session.{textFault, endedAt, goesOn}
+use Rattle.session_lines.specs.Line.{textFault, endedAt, goesOn}
 use Rattle.sessions.specs.declared.start.Begun.{Begun}
 
 -- with n slots: the tiles are at the start of ts, and the buffer d becomes e

@@ -1,9 +1,9 @@
 // As many lines as a buffer has room for.
-use crate::line::Session;
-use crate::line::Turned;
-use crate::line::run_line;
 use character::SEATS;
 use output_lines::MOST_LINE;
+use session_lines::Session;
+use session_lines::Turned;
+use session_lines::run_line;
 use tiles::Sides;
 ghost use mathlib.Core.Bool.{false};
 ghost use mathlib.Core.Path.{_≡_};

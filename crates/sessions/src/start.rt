@@ -1,13 +1,13 @@
 // How a session starts: the heading, and the map.
-use crate::line::Turned;
-use crate::line::ended;
-use crate::line::goes_on;
 use map_text::MOST_BYTES;
 use map_text::MapPart;
 use map_text::read_map;
 use output_lines::put_answer;
 use output_lines::put_heading;
 use seats::fresh;
+use session_lines::Turned;
+use session_lines::ended;
+use session_lines::goes_on;
 use tiles::Sides;
 ghost use Prim.Native.Nat.{_≤_};
 ghost use lib.ListN.{length};

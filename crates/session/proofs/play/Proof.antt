@@ -10,7 +10,7 @@ use borrow.Author.Needs.{needs}
 use Rattle.character.specs.Tick.{seats}
 use Rattle.tiles.specs.declared.Sides.{Sides}
 use Rattle.sessions.specs.Session.{mostLine, another, LinesRan}
-use Rattle.sessions.specs.declared.line.Session.{Session}
+use Rattle.session_lines.specs.declared.Session.{Session}
 use Rattle.session_output.specs.Played.{Played, none, then}
 use Rattle.session_output.proofs.Ends.{play-ends}
 use Rattle.session_output.proofs.Within.{start-within, lines-within}

@@ -11,9 +11,9 @@ use Rattle.map_text.specs.declared.MapPart.{MapPart}
 use Rattle.map_text.specs.declared.MapPart.the-variants as mapPart
 use Rattle.map_text.proofs.Maps.{map-read}
 use Rattle.world.specs.declared.World.{World}
-use Rattle.sessions.specs.declared.line.Turned.{Turned}
+use Rattle.session_lines.specs.declared.Turned.{Turned}
 use Rattle.sessions.specs.declared.start.Begun.{Begun}
-use Rattle.sessions.specs.Session.{endedAt, goesOn}
+use Rattle.session_lines.specs.Line.{endedAt, goesOn}
 use Rattle.sessions.specs.Start.{fault, map}
 use borrow.Author.Needs.{needs}
 use Rattle.sessions.proofs.start.begin.Statement.{statement}

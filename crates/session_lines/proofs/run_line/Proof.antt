@@ -1,4 +1,4 @@
--- `sessions::line::run_line` meets its contract. Assumes nothing.
+-- `session_lines::run_line` meets its contract. Assumes nothing.
 use mathlib.Core.Path.{_≡_, refl, sym, ap, ap₂, _∙_, subst}
 use Prim.Native.Nat.{ℕ, _+_, _≤_, _<_, _^_}
 use native.Mathlib.Omega.{arith}
@@ -8,15 +8,15 @@ use mir.Val.{toZ, ofZ}
 use Rattle.output_lines.specs.Output.{answerBytes}
 use Rattle.output_lines.proofs.Sizes.{put-as}
 use Rattle.world.specs.declared.Stepped.{Stepped}
-use Rattle.sessions.specs.declared.line.Turned.{Turned}
+use Rattle.session_lines.specs.declared.Turned.{Turned}
 use Rattle.casts.proofs.Signed.{read}
 use Rattle.call_lines.specs.Calls.{CallAt}
 use Rattle.character.specs.Tick.{seats}
 use Rattle.answers.specs.Answers.{ranBytes}
-use Rattle.sessions.specs.Session.{textFault, endedAt, goesOn, end, fault, call}
+use Rattle.session_lines.specs.Line.{textFault, endedAt, goesOn, end, fault, call}
 use borrow.Author.Needs.{needs}
-use Rattle.sessions.proofs.line.run_line.Statement.{statement}
-use Rattle.sessions.proofs.line.run_line.Tie as tie
+use Rattle.session_lines.proofs.run_line.Statement.{statement}
+use Rattle.session_lines.proofs.run_line.Tie as tie
 
 small : (n : ℕ) → n ≤ 65537 → n < 2 ^ 31
 small n h = omega arith

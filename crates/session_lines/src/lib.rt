@@ -1,4 +1,4 @@
-// What the next line of a text does to a session.
+// A session, and what the next line of its text does to it.
 use answers::put_ran;
 use answers::run_call;
 use call_lines::CallLine;
@@ -10,7 +10,7 @@ ghost use mathlib.Core.Path.{_≡_};
 ghost use Prim.Native.Nat.{_+_, _*_, _≤_};
 ghost use lib.ListN.{length};
 ghost use Rattle.character.specs.Tick.{seats};
-ghost use Rattle.sessions.specs.Session.{LineRan, endedAt, goesOn};
+ghost use Rattle.session_lines.specs.Line.{LineRan, endedAt, goesOn};
 
 // A session between two lines: whether it has ended, the number of the call that is due, the place of its line, the world.
 pub struct Session {
