@@ -63,9 +63,6 @@ fn run(text: &[u8], recorded: i32) -> bool {
     let count = begun.count;
     let sides = begun.sides;
     let first = begun.first;
-    if MOST_TILES < count {
-        return false;
-    }
     play(text, sides, &tiles[0..count], first, &mut buf, recorded) && is_ended(recorded)
 }
 
