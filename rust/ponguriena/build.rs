@@ -27,7 +27,9 @@ fn main() {
     }
     // For the test that builds a C program.
     let world = archive_of(&folder, WORLD);
-    println!("cargo::rustc-env=PONGURIENA_ARCHIVE={}", world.display());
+    let parts = archive_of(&folder, PARTS);
+    println!("cargo::rustc-env=PONGURIENA_WORLD={}", world.display());
+    println!("cargo::rustc-env=PONGURIENA_PARTS={}", parts.display());
 }
 
 fn archive_of(folder: &Path, library: &str) -> PathBuf {

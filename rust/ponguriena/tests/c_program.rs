@@ -16,7 +16,8 @@ fn calls_from_c() {
         .arg("-o")
         .arg(&program)
         .arg(package.join("tests/c/calls.c"))
-        .arg(env!("PONGURIENA_ARCHIVE"))
+        .arg(env!("PONGURIENA_WORLD"))
+        .arg(env!("PONGURIENA_PARTS"))
         .status();
     assert!(built.expect("cc starts").success(), "it does not build");
     let output = Command::new(&program).output().expect("it starts");
