@@ -9,7 +9,7 @@ use vector::vec2;
 ghost use mathlib.Core.Path.{_≡_};
 ghost use Rattle.hooking.specs.Hooking.{fired, fire, fly, strike, closer, nearer, grab, retract, hold};
 
-// What of its hold a hook keeps: 1.2 s with 50 ticks a second.
+// For how many ticks a hook holds somebody: 1.2 s with 50 ticks a second.
 pub const MAX_HOOK_GRAB_TIME: u32 = 60;
 
 // Where a hook flies to, and what it is there.
