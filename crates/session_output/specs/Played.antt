@@ -19,6 +19,13 @@ pub data Played (n : ℕ) (text : List ℕ) (s : Sides) (ts : List ℕ) (b : Ses
   -- a turn: the session has not ended; `run_lines` leaves lines at the start of a buffer that has room for an answer, and these are written
   then : (turns : ℕ) (f g : Session) (out d e : List ℕ) (k : ℕ) → Played n text s ts b turns f out → f .done ≡ false → mostLine * n ≤ length d → LinesRan n text s ts f d 0 g e k → another n (g .done) (g .call) k (length d) ≡ false → Played n text s ts b (suc turns) g (out ++ take k e)
 
+-- the session f is the one that b comes to: it was played, and has ended
+pub record PlayedOut (n : ℕ) (text : List ℕ) (s : Sides) (ts : List ℕ) (b f : Session) : Type 0 where
+  pub turns : ℕ
+  pub out : List ℕ
+  pub played : Played n text s ts b turns f out
+  pub done : f .done ≡ true
+
 -- what `begin` leaves of a text: the map, the session before its first turn, and the buffer e
 pub record Started (n : ℕ) (text : List ℕ) (s : Sides) (ts : List ℕ) (first : Turned) (e : List ℕ) : Type 0 where
   pub tiles : List ℕ

@@ -48,7 +48,7 @@ same-length : tie.Need-same-length Inv-loop μ-loop
 same-length c = c .before .before .before .before .before .before .loop .inv .0
 
 returns : tie.Need-returns Inv-loop μ-loop
-returns c = search needs
+returns c = let l = c .before .before .before .before .before .before .loop in record { turns = l .counter; out = l .inv .2 .0; played = l .inv .2 .1; done = c .if1 .taken }
 
 run-lines-requires : tie.Need-run-lines-requires Inv-loop μ-loop
 run-lines-requires c κs = search needs
@@ -68,13 +68,13 @@ loop-again c =
     (r .kept .1 .1 .1 .1 .0 ∙ same, lines-within (r .ensures .0) (omega arith), played-on (l .counter) (l .inv .2) (c .before .before .before .before .if1 .left) (omega arith) (r .ensures .0) (r .ensures .1))
 
 same-length-2 : tie.Need-same-length-2 Inv-loop μ-loop
-same-length-2 c = c .before .loop .inv .0
+same-length-2 c = c .before .before .loop .inv .0
 
 returns-2 : tie.Need-returns-2 Inv-loop μ-loop
 returns-2 c =
-    let l = c .before .loop in
-    let few = play-ends seats _ _ _ _ _ (c .before .before .before .before .before .pre .0) (l .counter) _ (l .inv .2 .0) (l .inv .2 .1) in
-    absurd (omega (arith, c .loop-test .left))
+    let l = c .before .before .loop in
+    let few = play-ends seats _ _ _ _ _ (c .before .before .before .before .before .before .pre .0) (l .counter) _ (l .inv .2 .0) (l .inv .2 .1) in
+    absurd (omega (arith, c .before .loop-test .left))
 
 pub play-spec : {M : Type 1} → statement M
 play-spec =
