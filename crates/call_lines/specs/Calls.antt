@@ -3,6 +3,7 @@ use Prim.Native.Nat.{ℕ}
 use mathlib.Core.List.{List, [], _∷_}
 use lib.IntN.{ℤ, pos}
 use Rattle.casts.specs.Casts.{IsI32}
+use Rattle.game_refusals.specs.Refusals.{badText}
 use Rattle.decimal.specs.Lines.{line, All}
 use Rattle.decimal.specs.Places.{Stands, Absent}
 use Rattle.call_lines.specs.declared.CallLine.{CallLine}
@@ -30,3 +31,8 @@ callBytes c = line (values c)
 unfoldable pub CallAt : List ℕ → ℕ → CallLine → Type 0
 CallAt s at (callLine.Read c next) = IsCall c × Stands (callBytes c) s at next
 CallAt s at callLine.Fault = (c : Call) → IsCall c → Absent (callBytes c) s at
+
+-- document 01's number of an answer
+abbrev pub lineNumber : CallLine → ℕ
+lineNumber (callLine.Read c next) = 0
+lineNumber callLine.Fault = badText

@@ -3,6 +3,7 @@ use Prim.Native.Nat.{ℕ, _*_, _≤_}
 use mathlib.Core.List.{List}
 use mathlib.Core.Path.{_≡_}
 use lib.ListN.{length, take}
+use Rattle.game_refusals.specs.Refusals.{badText}
 use Rattle.decimal.specs.Decimal.{digits}
 use Rattle.decimal.specs.Lines.{ended, All}
 use Rattle.decimal.specs.Places.{Stands, Absent}
@@ -21,6 +22,11 @@ use Rattle.map_text.specs.declared.name.Place.the-variants as place
 unfoldable pub MapAt : List ℕ → List ℕ → MapPart → Type 0
 MapAt s d (mapPart.Read w h next) = (length s ≤ mostBytes) × IsMap w h (take (w * h) d) × Stands (mapBytes w h (take (w * h) d)) s 0 next
 MapAt s d mapPart.Fault = length s ≤ mostBytes → (w h : ℕ) (ts : List ℕ) → IsMap w h ts → Absent (mapBytes w h ts) s 0
+
+-- document 01's number of an answer
+abbrev pub mapNumber : MapPart → ℕ
+mapNumber (mapPart.Read w h next) = 0
+mapNumber mapPart.Fault = badText
 
 -- ---- its parts
 unfoldable pub NameAt : List ℕ → List ℕ → ℕ → Place → Type 0

@@ -7,7 +7,7 @@ use lib.IntN.{pos}
 use lib.ListN.{length}
 use Rattle.tiles.specs.declared.Sides.{Sides}
 use Rattle.call.specs.declared.Call.{Call}
-use Rattle.call_lines.specs.Calls.{CallAt}
+use Rattle.call_lines.specs.Calls.{CallAt, lineNumber}
 use Rattle.call_lines.specs.declared.CallLine.the-variants as line
 use Rattle.output_lines.specs.Output.{answerBytes}
 use Rattle.output_lines.specs.Put.{Put}
@@ -15,10 +15,6 @@ use Rattle.world.specs.declared.World.{World}
 use Rattle.answers.specs.Answers.{ran, ranBytes}
 use Rattle.session_lines.specs.declared.Session.{Session}
 use Rattle.session_lines.specs.declared.Turned.{Turned}
-
--- text at fault
-abbrev pub textFault : ℕ
-textFault = 6
 
 -- the session has ended; next is the place past what was written
 abbrev pub endedAt : ℕ → ℕ → World → ℕ → Turned
@@ -32,6 +28,6 @@ pub data LineRan (n : ℕ) (text : List ℕ) (s : Sides) (ts : List ℕ) (b : Se
   -- the text ends: nothing is written
   end : length text ≤ b .place → r ≡ endedAt (b .call) (b .place) (b .world) at → e ≡ d → LineRan n text s ts b d at r e
   -- no call stands there: text at fault, with the number of the call that is due
-  fault : b .place < length text → CallAt text (b .place) line.Fault → r ≡ endedAt (b .call) (b .place) (b .world) (r .next) → Put d at (answerBytes (pos (b .call)) (pos textFault)) e (r .next) → LineRan n text s ts b d at r e
+  fault : b .place < length text → CallAt text (b .place) line.Fault → r ≡ endedAt (b .call) (b .place) (b .world) (r .next) → Put d at (answerBytes (pos (b .call)) (pos (lineNumber line.Fault))) e (r .next) → LineRan n text s ts b d at r e
   -- a call: it is run, and its answer is written
   call : (c : Call) (past : ℕ) → b .place < length text → CallAt text (b .place) (line.Read c past) → r ≡ goesOn (b .call + 1) past (ran n s ts (b .world) c .world) (r .next) → Put d at (ranBytes n (pos (b .call)) (ran n s ts (b .world) c)) e (r .next) → LineRan n text s ts b d at r e

@@ -3,6 +3,7 @@ use answers::put_ran;
 use answers::run_call;
 use call_lines::CallLine;
 use call_lines::next_call;
+use game_refusals::BAD_TEXT;
 use output_lines::put_answer;
 use tiles::Sides;
 use world::World;
@@ -46,7 +47,7 @@ pub fn run_line(
     }
     match next_call(text, place) {
         CallLine::Fault => {
-            let next = put_answer(buf, at, call as i32, 6);
+            let next = put_answer(buf, at, call as i32, BAD_TEXT as i32);
             ended(call, place, world, next)
         }
         CallLine::Read(line, past) => {

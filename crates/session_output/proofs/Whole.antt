@@ -27,8 +27,8 @@ Put0 w e next = (d : List ℕ) × Put d 0 w e next
 -- a session that starts has written the heading, and nothing more unless its map is at fault
 pub after-start : {n : ℕ} {text ts d : List ℕ} {r : Begun} {e : List ℕ} → Began n text ts d r e → (w : List ℕ) × Put d 0 (heading ++ w) e (r .first .next) × SoFar n text (r .sides) (take (r .count) ts) (r .first .session) w
 unfolding callsLines output
-after-start {text = text} {ts} (Began.fault m k none p q is _) =
-    (faultLine 1, put-after (omega arith) p q, over noMap (ap (λ (t : Turned). t .session .done) is) (no-map text ts refl none) refl)
+after-start {text = text} {ts} (Began.fault m k none p q is) =
+    (faultLine 1, put-after (omega arith) p q, over noMap (ap (λ (b : Begun). b .first .session .done) is) (no-map text ts refl none) refl)
 after-start {n} {text} {ts} (Began.map w h next there p is) =
     ([], put-as (sym (append-nil heading)) refl p, subst (λ (x : Begun). SoFar n text (x .sides) (take (x .count) ts) (x .first .session) []) (sym is) (going [] refl (passed-map text ts w h next refl there) refl (λ ds. refl)))
 
@@ -45,6 +45,7 @@ started {n} {text} {e = e} h =
 
 -- a whole session
 pub whole-output : (n : ℕ) → WholeOutput n
-whole-output n text s ts first e b turns f out p done t h =
-    let (w, q, i) = started b in
-    ap (λ (x : List ℕ). x ++ out) (put-first (q .1)) ∙ append-assoc heading w out ∙ all-written (after-turns i p) done t h
+whole-output n text f p t h =
+    let (w, q, i) = started (p .started) in
+    let out = p .ended .out in
+    ap (λ (x : List ℕ). x ++ out) (put-first (q .1)) ∙ append-assoc heading w out ∙ all-written (after-turns i (p .ended .played)) (p .ended .done) t h

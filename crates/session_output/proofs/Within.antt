@@ -41,7 +41,7 @@ module _ {n : ℕ} {text : List ℕ} {s : Sides} {ts : List ℕ} where
 
 -- the map's tiles
 pub count-within : {n : ℕ} {text ts d : List ℕ} {r : Begun} {e : List ℕ} → Began n text ts d r e → r .count ≤ length ts
-count-within (Began.fault m k none p q is zero) = omega arith
+count-within (Began.fault m k none p q is) = omega (arith, ap (λ (b : Begun). b .count) is)
 count-within {text = text} {ts} (Began.map w h next there p is) =
     let c = ap (λ (b : Begun). b .count) is in
     let m = map-read text ts w h next refl there .1 .count in

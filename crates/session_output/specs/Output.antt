@@ -2,6 +2,7 @@
 use Prim.Native.Nat.{ℕ, _+_}
 use mathlib.Core.List.{List, [], _∷_, _++_}
 use lib.IntN.{pos}
+use Rattle.game_refusals.specs.Refusals.{badText}
 use Rattle.tiles.specs.declared.Sides.{Sides}
 use Rattle.call.specs.declared.Call.{Call}
 use Rattle.output_lines.specs.Output.{heading, answerBytes}
@@ -9,7 +10,6 @@ use Rattle.world.specs.World.{fresh}
 use Rattle.world.specs.declared.World.{World}
 use Rattle.answers.specs.Answers.{ran, ranBytes}
 use Rattle.session_text.specs.Session.{End, ended, fault, Text, noMap, session, dueCall}
-use Rattle.session_lines.specs.Line.{textFault}
 
 -- the lines of calls that are run one after another on one map, from the world w on; the first call has the number k
 unfoldable pub callsLines : ℕ → Sides → List ℕ → World → ℕ → List Call → List ℕ
@@ -18,7 +18,7 @@ callsLines n s ts w k (c ∷ cs) = ranBytes n (pos k) (ran n s ts w c) ++ callsL
 
 -- the line of text at fault, where the call with the number k is due
 abbrev pub faultLine : ℕ → List ℕ
-faultLine k = answerBytes (pos k) (pos textFault)
+faultLine k = answerBytes (pos k) (pos badText)
 
 -- what is written after the calls
 abbrev pub endLines : ℕ → End → List ℕ

@@ -36,9 +36,22 @@ pub record Started (n : ℕ) (text : List ℕ) (s : Sides) (ts : List ℕ) (firs
   pub on-tiles : take (begun .count) tiles ≡ ts
   pub is-first : begun .first ≡ first
 
--- once a session that started on a text has ended, all that was written is the output of what the text stands for
+-- a text was played to its end: it was started, what `begin` left in the buffer was written, and the session f is the one that it came to
+pub record TextPlayed (n : ℕ) (text : List ℕ) (f : Session) : Type 0 where
+  pub sides : Sides
+  pub tiles : List ℕ
+  pub first : Turned
+  pub buffer : List ℕ
+  pub started : Started n text sides tiles first buffer
+  pub ended : PlayedOut n text sides tiles (first .session) f
+
+-- all that was written
+abbrev pub allWritten : {n : ℕ} {text : List ℕ} {f : Session} → TextPlayed n text f → List ℕ
+allWritten p = take (p .first .next) (p .buffer) ++ p .ended .out
+
+-- once a text was played to its end, all that was written is the output of what the text stands for
 abbrev pub WholeOutput : ℕ → Type 0
-WholeOutput n = (text : List ℕ) (s : Sides) (ts : List ℕ) (first : Turned) (e : List ℕ) → Started n text s ts first e → (turns : ℕ) (f : Session) (out : List ℕ) → Played n text s ts (first .session) turns f out → f .done ≡ true → (t : Text) → StandsFor text t → take (first .next) e ++ out ≡ output n t
+WholeOutput n = (text : List ℕ) (f : Session) (p : TextPlayed n text f) (t : Text) → StandsFor text t → allWritten p ≡ output n t
 
 -- it ends: there are never as many turns as the program has
 abbrev pub PlayEnds : ℕ → Type 0

@@ -10,7 +10,7 @@ use Rattle.call_lines.specs.Calls.{callBytes}
 use Rattle.call.specs.declared.Call.the-variants.{Join, Step}
 use Rattle.call_lines.proofs.Calls.{call-long}
 use Rattle.map_text.specs.Map.{tileBytes, mapBytes}
-use Rattle.session_text.specs.Session.{ended, fault, Text, noMap, session, callsBytes, StandsFor, dueCall, textNumber}
+use Rattle.session_text.specs.Session.{ended, fault, Text, noMap, session, callsBytes, StandsFor, dueCall}
 
 -- the map, the names and the first call, line by line
 abbrev begun : List ℕ
@@ -41,7 +41,7 @@ example-stands = (
 abbrev broken : Text
 broken = session 3 3 (replicate 9 0) (Join (pos 0) (pos 48) (pos 48) ∷ []) fault
 
-pub broken-stands : StandsFor (begun ++ step) broken × (dueCall broken ≡ 2) × (textNumber broken ≡ 6)
+pub broken-stands : StandsFor (begun ++ step) broken × (dueCall broken ≡ 2)
 unfolding digits callBytes tileBytes mapBytes callsBytes StandsFor
 broken-stands = (
   (
@@ -51,10 +51,9 @@ broken-stands = (
     (step, refl, (λ e. omega (arith, ap length e), λ c i rest e. omega (arith, call-long c, length-append (callBytes c) rest, ap length e))),
   ),
   refl,
-  refl,
 )
 
 -- so are no bytes, at call 1
-pub empty-stands : StandsFor [] noMap × (dueCall noMap ≡ 1) × (textNumber noMap ≡ 6)
+pub empty-stands : StandsFor [] noMap × (dueCall noMap ≡ 1)
 unfolding mapBytes StandsFor
-empty-stands = (λ short w h ts m rest e. let z : _≡_ {A = ℕ} 0 1 = cc in omega arith, refl, refl)
+empty-stands = (λ short w h ts m rest e. let z : _≡_ {A = ℕ} 0 1 = cc in omega arith, refl)

@@ -34,12 +34,6 @@ unfoldable pub StandsFor : List ℕ → Text → Type 0
 StandsFor s noMap = length s ≤ mostBytes → (w h : ℕ) (ts : List ℕ) → IsMap w h ts → (rest : List ℕ) → s ≡ mapBytes w h ts ++ rest → ⊥
 StandsFor s (session w h ts cs e) = (length s ≤ mostBytes) × IsMap w h ts × All IsCall cs × ((rest : List ℕ) × (s ≡ mapBytes w h ts ++ (callsBytes cs ++ rest)) × Ends e rest)
 
--- document 01's number of a text: 6 where it is at fault
-abbrev pub textNumber : Text → ℕ
-textNumber noMap = 6
-textNumber (session w h ts cs ended) = 0
-textNumber (session w h ts cs fault) = 6
-
 -- the number that is due after the calls of a text: a fault is found there
 abbrev pub dueCall : Text → ℕ
 dueCall noMap = 1

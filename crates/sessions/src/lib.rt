@@ -3,6 +3,7 @@ mod lines;
 mod start;
 
 pub use lines::MOST_ANSWER;
+pub use lines::MOST_CALLS;
 pub use lines::run_lines;
 pub use start::Begun;
 pub use start::MOST_READ;

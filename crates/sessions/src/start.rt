@@ -1,4 +1,5 @@
 // How a session starts: the heading, and the map.
+use game_refusals::BAD_TEXT;
 use map_text::MOST_BYTES;
 use map_text::MapPart;
 use map_text::read_map;
@@ -32,7 +33,7 @@ pub fn begin(text: &[u8], tiles: &mut [u8], buf: &mut [u8]) -> Begun
     let end = put_heading(buf, 0);
     match read_map(text, tiles) {
         MapPart::Fault => {
-            let past = put_answer(buf, end, 1, 6);
+            let past = put_answer(buf, end, 1, BAD_TEXT as i32);
             Begun {
                 sides: Sides {
                     width: 0,

@@ -10,10 +10,11 @@ use Rattle.output_lines.proofs.Sizes.{put-as}
 use Rattle.world.specs.declared.Stepped.{Stepped}
 use Rattle.session_lines.specs.declared.Turned.{Turned}
 use Rattle.casts.proofs.Signed.{read}
+use Rattle.game_refusals.specs.Refusals.{badText}
 use Rattle.call_lines.specs.Calls.{CallAt}
 use Rattle.character.specs.Tick.{seats}
 use Rattle.answers.specs.Answers.{ranBytes}
-use Rattle.session_lines.specs.Line.{textFault, endedAt, goesOn, end, fault, call}
+use Rattle.session_lines.specs.Line.{endedAt, goesOn, end, fault, call}
 use borrow.Author.Needs.{needs}
 use Rattle.session_lines.proofs.run_line.Statement.{statement}
 use Rattle.session_lines.proofs.run_line.Tie as tie
@@ -35,6 +36,9 @@ enum-told c = search needs
 
 cast-put-answer : tie.Need-cast-put-answer
 cast-put-answer c = search needs
+
+cast-put-answer-2 : tie.Need-cast-put-answer-2
+cast-put-answer-2 c = search needs
 
 put-answer-requires : tie.Need-put-answer-requires
 put-answer-requires c κs = search needs
@@ -71,7 +75,7 @@ returns-2 c =
     let number : toZ w32 (ofZ w32 (pos (s .call))) ≡ pos (s .call) = read (pos (s .call)) (small (s .call) (a .pre .1)) in
     fault (c .before .before .before .before .before .before .before .before .if1 .left) (subst (CallAt (a .args .text .now) (s .place)) (c .before .before .before .before .before .enum-told .given .1) (c .before .before .before .before .before .before .before .next-call .ensures))
     (c .ended2 .ensures ∙ ap (endedAt (s .call) (s .place) (s .world)) (sym next))
-    (put-as (ap (λ (z : ℤ). answerBytes z (pos textFault)) number) (sym next) (c .before .before .before .put-answer .ensures))
+    (put-as (ap (λ (z : ℤ). answerBytes z (pos badText)) number) (sym next) (c .before .before .before .put-answer .ensures))
 
 same-length-2 : tie.Need-same-length-2
 same-length-2 c = search needs
@@ -98,6 +102,7 @@ run-line-spec =
     next-call-requires
     enum-told
     cast-put-answer
+    cast-put-answer-2
     put-answer-requires
     ended-requires-2
     enum-known-line

@@ -55,6 +55,9 @@ const GAMES: [(&str, Draw, usize); 13] = [
 /// Each fault is recorded so often.
 const FAULTS_RECORDED: usize = 3;
 
+/// The one whose output is longer than what the program writes at once.
+const LONG_OUTPUT: &str = "long output";
+
 /// The example of document 01.
 const EXAMPLE: &str = "width height\n3 3\ntiles\n0 0 0\n0 0 0\n0 0 0\ncall a b c d e f\n\
                        1 0 48 48 0 0 0\n4 0 0 0 0 0 0\n";
@@ -101,5 +104,8 @@ pub fn recorded() -> Vec<Text> {
             texts.push(Text { kind, bytes });
         }
     }
+    let bytes = sequence_text(&play::crowded(&mut random));
+    let kind = LONG_OUTPUT;
+    texts.push(Text { kind, bytes });
     texts
 }

@@ -48,12 +48,21 @@ pub fn at_map_ends(random: &mut Xorshift) -> Sequence {
 
 /// Every seat taken, and everybody told something.
 pub fn full(random: &mut Xorshift) -> Sequence {
+    everybody(random, 10)
+}
+
+/// The same for more steps.
+pub fn crowded(random: &mut Xorshift) -> Sequence {
+    everybody(random, 120)
+}
+
+fn everybody(random: &mut Xorshift, steps: usize) -> Sequence {
     let mut sequence = joined(Sequence::on(&walled_map(random)), SEATS, random);
     for id in 0..SEATS as i32 {
         let input = input_at_somebody(&sequence.world, id, random);
         sequence = sequence.told(id, input);
     }
-    sequence.steps(10)
+    sequence.steps(steps)
 }
 
 /// Many tunings, or all, at their ends.

@@ -1,6 +1,6 @@
 //! That the texts are what they are meant to be.
 
-use crate::{GAMES, Text, drawn, faults, recorded, timed};
+use crate::{GAMES, LONG_OUTPUT, Text, drawn, faults, recorded, timed};
 use session::{MOST_BYTES, run};
 use std::collections::BTreeSet;
 
@@ -91,6 +91,14 @@ fn lengths_are_at_the_limit() {
             "a text too long" => assert!(length > MOST_BYTES && is_at_fault(&text)),
             _ => assert!(length < MOST_BYTES),
         }
+    }
+}
+
+#[test]
+fn an_output_is_long() {
+    for text in recorded() {
+        let long = output(&text).len() > MOST_BYTES;
+        assert_eq!(long, text.kind == LONG_OUTPUT);
     }
 }
 

@@ -35,6 +35,9 @@ read-map-requires c κs = search needs
 enum-told : tie.Need-enum-told
 enum-told c = search needs
 
+cast-put-answer : tie.Need-cast-put-answer
+cast-put-answer c = search needs
+
 put-answer-requires : tie.Need-put-answer-requires
 put-answer-requires c κs = search needs
 
@@ -47,14 +50,14 @@ ended-requires c κs = search needs
 enum-known-width : tie.Need-enum-known-width
 enum-known-width c = search needs
 
-cast-t20 : tie.Need-cast-t20
-cast-t20 c = let h = sides _ _ _ _ _ (c .before .width .given .1) (c .before .before .before .before .before .read-map .ensures) in fits-of-lt (omega (arith, h .0))
-
 cast-t21 : tie.Need-cast-t21
-cast-t21 c = let h = sides _ _ _ _ _ (c .before .width .given .1) (c .before .before .before .before .before .read-map .ensures) in fits-of-lt (omega (arith, h .1))
+cast-t21 c = let h = sides _ _ _ _ _ (c .before .width .given .1) (c .before .before .before .before .before .read-map .ensures) in fits-of-lt (omega (arith, h .0))
 
-mul-t23 : tie.Need-mul-t23
-mul-t23 c = fits-of-lt (product _ _ (sides _ _ _ _ _ (c .before .width .given .1) (c .before .before .before .before .before .read-map .ensures)))
+cast-t22 : tie.Need-cast-t22
+cast-t22 c = let h = sides _ _ _ _ _ (c .before .width .given .1) (c .before .before .before .before .before .read-map .ensures) in fits-of-lt (omega (arith, h .1))
+
+mul-t24 : tie.Need-mul-t24
+mul-t24 c = fits-of-lt (product _ _ (sides _ _ _ _ _ (c .before .width .given .1) (c .before .before .before .before .before .read-map .ensures)))
 
 fresh-requires-2 : tie.Need-fresh-requires-2
 fresh-requires-2 c κs = search needs
@@ -72,11 +75,11 @@ returns : tie.Need-returns
 returns c =
     let a = c .before .before .before .before .before .before .before .before .before .before .before .before .before .before .before .before .before .before .before in
     let next : c .ended .result .next ≡ c .before .before .before .before .put-answer .result = ap (λ (t : Turned). t .next) (c .ended .ensures) in
+    let made : Turned → Begun = λ t. record { sides = record { width = 0; height = 0 }; count = 0; first = t } in
     fault _ _ (subst (MapAt (a .args .text .now) _) (c .before .before .before .before .before .before .enum-told .given .1) (c .before .before .before .before .before .before .before .before .before .before .read-map .ensures))
     (c .before .before .before .before .before .before .before .before .before .before .before .before .before .before .put-heading .ensures)
     (rw (next) (c .before .before .before .before .put-answer .ensures))
-    (c .ended .ensures ∙ ap (λ (w : World). endedAt 1 0 w (c .before .before .before .before .put-answer .result)) (c .before .fresh .ensures) ∙ ap (endedAt 1 0 _) (sym next))
-    refl
+    (ap made (c .ended .ensures ∙ ap (λ (w : World). endedAt 1 0 w (c .before .before .before .before .put-answer .result)) (c .before .fresh .ensures) ∙ ap (endedAt 1 0 _) (sym next)))
 
 same-length-3 : tie.Need-same-length-3
 same-length-3 c = search needs
@@ -102,13 +105,14 @@ begin-spec =
     put-heading-requires
     read-map-requires
     enum-told
+    cast-put-answer
     put-answer-requires
     fresh-requires
     ended-requires
     enum-known-width
-    cast-t20
     cast-t21
-    mul-t23
+    cast-t22
+    mul-t24
     fresh-requires-2
     goes-on-requires
     same-length

@@ -1,4 +1,4 @@
--- `session::play` meets its contract. Assumes nothing.
+-- `session_files::play` meets its contract. Assumes nothing.
 use mathlib.Core.Bool.{false}
 use mathlib.Core.List.{List, [], _++_}
 use mathlib.Core.Path.{_≡_, refl, sym, _∙_, subst}
@@ -14,8 +14,8 @@ use Rattle.session_lines.specs.declared.Session.{Session}
 use Rattle.session_output.specs.Played.{Played, none, then}
 use Rattle.session_output.proofs.Ends.{play-ends}
 use Rattle.session_output.proofs.Within.{start-within, lines-within}
-use Rattle.session.proofs.play.Statement.{statement}
-use Rattle.session.proofs.play.Tie as tie
+use Rattle.session_files.proofs.play.Statement.{statement}
+use Rattle.session_files.proofs.play.Tie as tie
 
 -- one turn more
 module _ {n : ℕ} {text : List ℕ} {s : Sides} {ts : List ℕ} {b : Session} where
@@ -24,10 +24,10 @@ module _ {n : ℕ} {text : List ℕ} {s : Sides} {ts : List ℕ} {b : Session} w
 
 -- as many turns as the counter says were played, and what is to be written is in the buffer
 abbrev Inv-loop : tie.InvT-loop
-Inv-loop text sides tiles buf₀ turned₀ counter₀ buf turned counter = (length buf ≡ length buf₀) × (turned .next ≤ length buf) × ((out : List ℕ) × Played seats text sides tiles (turned₀ .session) counter (turned .session) out)
+Inv-loop text sides tiles buf₀ output turned₀ counter₀ buf turned counter = (length buf ≡ length buf₀) × (turned .next ≤ length buf) × ((out : List ℕ) × Played seats text sides tiles (turned₀ .session) counter (turned .session) out)
 
 abbrev μ-loop : tie.MeasureT-loop
-μ-loop text sides tiles buf₀ turned₀ counter₀ buf turned counter = 65536 - counter
+μ-loop text sides tiles buf₀ output turned₀ counter₀ buf turned counter = 65536 - counter
 
 loop-holds : tie.Need-loop-holds Inv-loop μ-loop
 loop-holds c = (refl, start-within (c .before .before .before .pre .0), ([], none))

@@ -1,0 +1,46 @@
+-- The numbers with which a call is declined. Definitions only.
+use Prim.Native.Nat.{ℕ}
+
+-- a map's sides are not 1 to 1,024 each, or its bytes are not width times height
+abbrev pub badMap : ℕ
+badMap = 1
+
+-- no seat has this id
+abbrev pub badId : ℕ
+badId = 2
+
+-- no tuning has this index
+abbrev pub badTuning : ℕ
+badTuning = 3
+
+-- a join with x or y outside -100,000 to 100,000
+abbrev pub outOfReach : ℕ
+outOfReach = 4
+
+-- a join whose box is not clear
+abbrev pub notClear : ℕ
+notClear = 5
+
+-- a text at fault
+abbrev pub badText : ℕ
+badText = 6
+
+-- a join of an id that is present
+abbrev pub isPresent : ℕ
+isPresent = 7
+
+-- an id that is absent
+abbrev pub isAbsent : ℕ
+isAbsent = 8
+
+-- a walk of more turns than there may be
+abbrev pub tooFar : ℕ
+tooFar = 9
+
+-- a hook that has held somebody for more ticks than a record holds
+abbrev pub tickTooLarge : ℕ
+tickTooLarge = 10
+
+-- a lent buffer of numbers that has another length than it must
+abbrev pub badLength : ℕ
+badLength = 17
