@@ -12,9 +12,13 @@ use vectors::nth;
 use vectors::pattern_of;
 use vectors::point;
 ghost use mathlib.Core.Path.{_≡_};
-ghost use Rattle.states.specs.Words.{jumpsOf, directionNumber, posWords, hookWords, wordsOf};
+ghost use mathlib.Core.Bool.{true};
+ghost use Rattle.vectors.specs.Words.{wordAt};
+ghost use Rattle.states.specs.Words.{jumpsOf, directionNumber, pointAt, hookIn, directionIn, characterIn, posWords, hookWords, wordsOf};
 
-pub fn character_of(words: &[u8]) -> Character {
+pub fn character_of(words: &[u8]) -> Character
+    ensures { λ r. ⌜ r ≡ characterIn (now (words .entry)) ⌝ }
+{
     let jumps = nth(words, 9);
     Character {
         pos: point(nth(words, 0), nth(words, 1)),
@@ -81,16 +85,28 @@ fn pos_words(case: u32, pos: vec2) -> [u32; 5]
     [case, pattern_of(pos.x), pattern_of(pos.y), 0, 0]
 }
 
-pub fn is_character(character: Character, words: &[u8]) -> bool {
+pub fn is_character(character: Character, words: &[u8]) -> bool
+    ensures { λ r. ⌜ (r ≡ true → character ≡ characterIn (now (words .entry))) ⌝ }
+{
     let hook = character.hook;
     let angle = character.angle;
     let direction = character.move_direction;
-    is_point(character.pos, nth(words, 0), nth(words, 1))
-        && is_point(character.vel, nth(words, 2), nth(words, 3))
-        && is_hook(hook, words)
-        && jumps(character.jumped_already, character.used_airjump) == nth(words, 9)
-        && is_float(angle.to_radians(), nth(words, 10))
-        && direction_number(direction) == nth(words, 11)
+    if !is_point(character.pos, nth(words, 0), nth(words, 1)) {
+        return false;
+    }
+    if !is_point(character.vel, nth(words, 2), nth(words, 3)) {
+        return false;
+    }
+    if !is_hook(hook, words) {
+        return false;
+    }
+    if jumps(character.jumped_already, character.used_airjump) != nth(words, 9) {
+        return false;
+    }
+    if !is_float(angle.to_radians(), nth(words, 10)) {
+        return false;
+    }
+    direction_number(direction) == nth(words, 11)
 }
 
 fn jumps(jumped_already: bool, used_airjump: bool) -> u32
@@ -103,7 +119,9 @@ fn jumps(jumped_already: bool, used_airjump: bool) -> u32
     }
 }
 
-fn hook_of(words: &[u8]) -> Hook {
+fn hook_of(words: &[u8]) -> Hook
+    ensures { λ r. ⌜ r ≡ hookIn (now (words .entry)) ⌝ }
+{
     let pos = point(nth(words, 5), nth(words, 6));
     match nth(words, 4) {
         0 => Hook::Retracted,
@@ -117,27 +135,48 @@ fn hook_of(words: &[u8]) -> Hook {
     }
 }
 
-fn is_hook(hook: Hook, words: &[u8]) -> bool {
-    let case = nth(words, 4);
+fn is_hook(hook: Hook, words: &[u8]) -> bool
+    ensures { λ r. ⌜ (r ≡ true → hook ≡ hookIn (now (words .entry))) ⌝ }
+{
     match hook {
-        Hook::Retracted => case == 0,
-        Hook::Idle => case == 1,
-        Hook::Flying(pos, dir) => case == 2
-            && is_hook_pos(pos, words)
-            && is_point(dir, nth(words, 7), nth(words, 8)),
-        Hook::Grabbed(id, tick) => case == 3 && id.0 == nth(words, 5) && tick == nth(words, 6),
-        Hook::Attached(pos) => case == 4 && is_hook_pos(pos, words),
-        Hook::Retracting0(pos) => case == 5 && is_hook_pos(pos, words),
-        Hook::Retracting1(pos) => case == 6 && is_hook_pos(pos, words),
-        Hook::Retracting2(pos) => case == 7 && is_hook_pos(pos, words),
+        Hook::Retracted => nth(words, 4) == 0,
+        Hook::Idle => nth(words, 4) == 1,
+        Hook::Flying(pos, dir) => {
+            is_pos_case(2, pos, words) && is_point(dir, nth(words, 7), nth(words, 8))
+        }
+        Hook::Grabbed(id, tick) => is_grabbed(id.0, tick, words),
+        Hook::Attached(pos) => is_pos_case(4, pos, words),
+        Hook::Retracting0(pos) => is_pos_case(5, pos, words),
+        Hook::Retracting1(pos) => is_pos_case(6, pos, words),
+        Hook::Retracting2(pos) => is_pos_case(7, pos, words),
     }
 }
 
-fn is_hook_pos(pos: vec2, words: &[u8]) -> bool {
+// A case that begins with a position.
+fn is_pos_case(case: u32, pos: vec2, words: &[u8]) -> bool
+    ensures { λ r. ⌜ (r ≡ true → (wordAt (now (words .entry)) 4 ≡ case) × (pos ≡ pointAt (now (words .entry)) 5)) ⌝ }
+{
+    if nth(words, 4) != case {
+        return false;
+    }
     is_point(pos, nth(words, 5), nth(words, 6))
 }
 
-fn direction_of(number: u32) -> MoveDirection {
+fn is_grabbed(id: u32, tick: u32, words: &[u8]) -> bool
+    ensures { λ r. ⌜ (r ≡ true → (wordAt (now (words .entry)) 4 ≡ 3) × (wordAt (now (words .entry)) 5 ≡ id) × (wordAt (now (words .entry)) 6 ≡ tick)) ⌝ }
+{
+    if nth(words, 4) != 3 {
+        return false;
+    }
+    if nth(words, 5) != id {
+        return false;
+    }
+    nth(words, 6) == tick
+}
+
+fn direction_of(number: u32) -> MoveDirection
+    ensures { λ r. ⌜ r ≡ directionIn number ⌝ }
+{
     match number {
         0 => MoveDirection::Left,
         1 => MoveDirection::None,

@@ -3,6 +3,7 @@ use libc::STDOUT_FILENO;
 use std::num::wrapping_add_u64;
 ghost use mathlib.Core.Path.{_≡_};
 ghost use mathlib.Core.Bool.{cond};
+ghost use lib.Dec.{eqb};
 ghost use Rattle.vectors.specs.Counts.{counted};
 ghost use Rattle.vectors.specs.declared.counts.Outcome.the-variants.{Agrees, Differs};
 
@@ -54,10 +55,14 @@ impl Counts {
         }
     }
 
-    pub fn print(self) {
+    // Tells how many agree, and answers whether all do.
+    pub fn print(self) -> bool
+        ensures { λ r. ⌜ r ≡ eqb (self .good) (self .lines) ⌝ }
+    {
         io::print_decimal(STDOUT_FILENO, self.good);
         io::write_all(STDOUT_FILENO, b" of ");
         io::print_decimal(STDOUT_FILENO, self.lines);
         io::write_all(STDOUT_FILENO, b" agree\n");
+        self.good == self.lines
     }
 }

@@ -16,9 +16,12 @@ ghost use lib.Ieee.{binary32, ofBits};
 ghost use Rattle.casts.specs.Casts.{castSigned};
 ghost use Rattle.vector.specs.Vec2.{vnew};
 ghost use Rattle.vectors.specs.Patterns.{patternOf};
+ghost use Rattle.vectors.specs.Words.{hexOf, wordOf, wordsFrom, wordAt};
 
 // The first 8 digits as a number.
-pub fn word(text: &[u8]) -> u32 {
+pub fn word(text: &[u8]) -> u32
+    ensures { λ r. ⌜ r ≡ wordOf (now (text .entry)) ⌝ }
+{
     let mut value: u32 = 0;
     for i in 0..8usize {
         if i < text.len() {
@@ -29,28 +32,34 @@ pub fn word(text: &[u8]) -> u32 {
 }
 
 pub fn hex(byte: u8) -> u32
-    ensures { λ r. ⌜ r < 16 ⌝ }
+    ensures { λ r. ⌜ (r ≡ hexOf byte) × (r < 16) ⌝ }
 {
-    if 48 <= byte {
-        if byte < 58 {
-            return (byte - 48) as u32;
-        }
+    if byte < 48 {
+        return 0;
     }
-    if 97 <= byte {
-        if byte < 103 {
-            return (byte - 87) as u32;
-        }
+    if byte < 58 {
+        return (byte - 48) as u32;
+    }
+    if byte < 97 {
+        return 0;
+    }
+    if byte < 103 {
+        return (byte - 87) as u32;
     }
     0
 }
 
 // The word with the number k; each ends with a byte of its own.
-pub fn nth(words: &[u8], k: usize) -> u32 {
+pub fn nth(words: &[u8], k: usize) -> u32
+    ensures { λ r. ⌜ r ≡ wordAt (now (words .entry)) k ⌝ }
+{
     word(after(words, k))
 }
 
 // The words from the number k on.
-pub fn after(words: &[u8], k: usize) -> &[u8] {
+pub fn after(words: &[u8], k: usize) -> &[u8]
+    ensures { λ r. ⌜ now r ≡ wordsFrom (now (words .entry)) k ⌝ }
+{
     if k < words.len() / 9 {
         let start = k * 9;
         return &words[start..];

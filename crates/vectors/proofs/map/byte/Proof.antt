@@ -1,4 +1,6 @@
 -- `vectors::map::byte` meets its contract. Assumes nothing.
+use Prim.Native.Nat.{ℕ, _+_, _*_}
+use mathlib.Core.Path.{ap₂}
 use native.Mathlib.Omega.{arith}
 use Rattle.vectors.proofs.map.byte.Statement.{statement}
 use Rattle.vectors.proofs.map.byte.Tie as tie
@@ -16,7 +18,7 @@ add-result : tie.Need-add-result
 add-result c = omega arith
 
 returns : tie.Need-returns
-returns c = omega arith
+returns c = (ap₂ (λ (a b : ℕ). a * 16 + b) (c .before .hex .ensures .0) (c .hex2 .ensures .0), omega arith)
 
 pub byte-spec : {M : Type 1} → statement M
 byte-spec = tie.close (tie.spec hex-requires mul-result hex-requires-2 add-result returns)
