@@ -1,14 +1,14 @@
 //! Links the static libraries that `rt staticlib` writes of the Rattle crates
-//! `exports` and `exports_parts`.
+//! `ponguriena` and `ponguriena_parts`.
 
 use std::env;
 use std::path::{Path, PathBuf};
 
 const FOLDER_VARIABLE: &str = "PONGURIENA_STATICLIB";
 
-const WORLD: &str = "exports";
+const WORLD: &str = "ponguriena";
 
-const PARTS: &str = "exports_parts";
+const PARTS: &str = "ponguriena_parts";
 
 fn main() {
     println!("cargo::rerun-if-env-changed={FOLDER_VARIABLE}");

@@ -4,10 +4,10 @@ use mathlib.Core.List.{List, [], _∷_}
 use Prim.Native.Nat.{ℕ}
 use types.Run.{OneOf, miss}
 use denote.Enum.Declared.{tagOf}
-use Rattle.tuning.specs.declared.Tuning.{Tuning}
-use Rattle.moves.specs.declared.BoxMove.{BoxMove}
-use Rattle.moves.specs.declared.BoxMove.the-variants as box
-use Rattle.moves.proofs.BoxMove.{the-type}
+use Rattle.game_tuning.specs.declared.Tuning.{Tuning}
+use Rattle.map_walks.specs.declared.moves.BoxMove.{BoxMove}
+use Rattle.map_walks.specs.declared.moves.BoxMove.the-variants as box
+use Rattle.map_walks.proofs.moves.BoxMove.{the-type}
 use Rattle.character.specs.declared.Character.{Character}
 use Rattle.character.specs.declared.Slot.{Slot}
 use Rattle.character.specs.declared.walk.Moved.the-variants.{TooFar}

@@ -1,3 +1,4 @@
 pub mod Character
 pub mod Tick
 pub mod Walk
+pub mod Records

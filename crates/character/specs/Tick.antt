@@ -6,31 +6,31 @@ use lib.Dec.{eqb, ltb}
 use lib.ListN.{getD, set}
 use lib.IntN.{ℤ, pos}
 use lib.Ieee.{Float, nan, binary32, add, ne}
-use Rattle.turns.specs.Turns.{fold}
-use Rattle.number.specs.Number.{c0}
-use Rattle.vector.specs.Vec2.{vnew}
-use Rattle.vector.specs.declared.vec2.{vec2}
-use Rattle.direction.specs.declared.MoveDirection.the-variants.{Left}
-use Rattle.hook.specs.Hook.{idOf}
-use Rattle.hook.specs.declared.CharacterId.{CharacterId}
-use Rattle.hook.specs.declared.Hook.{Hook}
-use Rattle.hook.specs.declared.Hook.the-variants.{Retracted}
-use Rattle.snap_obj.specs.declared.PlayerInput.{PlayerInput}
-use Rattle.tuning.specs.Tuning.{tuningOf}
-use Rattle.tuning.specs.declared.Tuning.{Tuning}
-use Rattle.tiles.specs.Map.{isMap}
-use Rattle.tiles.specs.declared.Sides.{Sides}
-use Rattle.inputs.specs.Inputs.{moveDirection, targetDir, aim, jumps, hooks}
-use Rattle.controls.specs.Controls.{grounded, controlOf, jump, landed, walk, clampSpeed}
-use Rattle.hooking.specs.Hooking.{fire, nearer, grab, hold}
-use Rattle.hooking.specs.declared.Nearest.{Nearest}
-use Rattle.hooking.specs.declared.Nearest.the-variants.{Nobody}
-use Rattle.dragging.specs.Dragging.{dragged}
-use Rattle.flying.specs.Flying.{flown}
-use Rattle.flying.specs.declared.Way.{Way}
-use Rattle.flying.specs.declared.Way.the-variants as way
-use Rattle.meeting.specs.Meeting.{meet}
-use Rattle.meeting.specs.declared.Velocities.{Velocities}
+use Rattle.base_turns.specs.Turns.{fold}
+use Rattle.num_convert.specs.Number.{c0}
+use Rattle.num_vec2.specs.Vec2.{vnew}
+use Rattle.num_vec2.specs.declared.vec2.{vec2}
+use Rattle.game_input.specs.declared.direction.MoveDirection.the-variants.{Left}
+use Rattle.character_hook.specs.Hook.{idOf}
+use Rattle.character_hook.specs.declared.hook.CharacterId.{CharacterId}
+use Rattle.character_hook.specs.declared.hook.Hook.{Hook}
+use Rattle.character_hook.specs.declared.hook.Hook.the-variants.{Retracted}
+use Rattle.game_records.specs.declared.PlayerInput.{PlayerInput}
+use Rattle.game_tuning.specs.Tuning.{tuningOf}
+use Rattle.game_tuning.specs.declared.Tuning.{Tuning}
+use Rattle.map_tiles.specs.Map.{isMap}
+use Rattle.map_tiles.specs.declared.tiles.Sides.{Sides}
+use Rattle.game_input.specs.Inputs.{moveDirection, targetDir, aim, jumps, hooks}
+use Rattle.character_motion.specs.Controls.{grounded, controlOf, jump, landed, walk, clampSpeed}
+use Rattle.character_hook.specs.Hooking.{fire, nearer, grab, hold}
+use Rattle.character_hook.specs.declared.hooking.Nearest.{Nearest}
+use Rattle.character_hook.specs.declared.hooking.Nearest.the-variants.{Nobody}
+use Rattle.character_hook.specs.Dragging.{dragged}
+use Rattle.character_hook.specs.Flying.{flown}
+use Rattle.character_hook.specs.declared.flying.Way.{Way}
+use Rattle.character_hook.specs.declared.flying.Way.the-variants as way
+use Rattle.character_motion.specs.Meeting.{meet}
+use Rattle.character_motion.specs.declared.meeting.Velocities.{Velocities}
 use Rattle.character.specs.declared.Character.{Character}
 use Rattle.character.specs.declared.Slot.{Slot}
 use Rattle.character.specs.declared.tick.Ticked.{Ticked}

@@ -5,20 +5,20 @@ use mathlib.Core.List.{List}
 use lib.Dec.{leb, ltb, eqb}
 use lib.IntN.{ℤ, pos}
 use lib.Ieee.{Float, binary32, div, ne}
-use Rattle.turns.specs.Turns.{Turn, more, stop, next, run}
-use Rattle.number.specs.Number.{c0}
-use Rattle.float.specs.Convert.{i32ToF32}
-use Rattle.vector.specs.Vec2.{vdistance, vmix}
-use Rattle.vector.specs.declared.vec2.{vec2}
-use Rattle.hook.specs.declared.CharacterId.{CharacterId}
-use Rattle.tiles.specs.Map.{isMap, mostTurns}
-use Rattle.tiles.specs.declared.Sides.{Sides}
-use Rattle.tuning.specs.Tuning.{tuningOf}
-use Rattle.tuning.specs.declared.Tuning.{Tuning}
-use Rattle.moves.specs.declared.BoxMove.{BoxMove}
-use Rattle.moves.specs.declared.BoxMove.the-variants as box
-use Rattle.touching.specs.Touching.{touches}
-use Rattle.walking.specs.Walking.{rampedMove, playerTurns, restAt}
+use Rattle.base_turns.specs.Turns.{Turn, more, stop, next, run}
+use Rattle.num_convert.specs.Number.{c0}
+use Rattle.num_convert.specs.Convert.{i32ToF32}
+use Rattle.num_vec2.specs.Vec2.{vdistance, vmix}
+use Rattle.num_vec2.specs.declared.vec2.{vec2}
+use Rattle.character_hook.specs.declared.hook.CharacterId.{CharacterId}
+use Rattle.map_tiles.specs.Map.{isMap, mostTurns}
+use Rattle.map_tiles.specs.declared.tiles.Sides.{Sides}
+use Rattle.game_tuning.specs.Tuning.{tuningOf}
+use Rattle.game_tuning.specs.declared.Tuning.{Tuning}
+use Rattle.map_walks.specs.declared.moves.BoxMove.{BoxMove}
+use Rattle.map_walks.specs.declared.moves.BoxMove.the-variants as box
+use Rattle.character_motion.specs.Touching.{touches}
+use Rattle.character_motion.specs.Walking.{rampedMove, playerTurns, restAt}
 use Rattle.character.specs.declared.Character.{Character}
 use Rattle.character.specs.declared.Slot.{Slot}
 use Rattle.character.specs.declared.walk.Moved.{Moved}

@@ -1,13 +1,21 @@
 // A character, and its tick and move among the others.
+mod from_record;
+mod records;
 mod tick;
+mod to_record;
 mod walk;
 
-use direction::Angle;
-use direction::MoveDirection;
-use hook::Hook;
-use snap_obj::PlayerInput;
+use character_hook::Hook;
+pub use from_record::from_net;
+pub use from_record::quantize;
+use game_input::Angle;
+use game_input::MoveDirection;
+use game_records::PlayerInput;
+use num_vec2::vec2;
+pub use records::Net;
+pub use records::Quantized;
 pub use tick::Ticked;
-use vector::vec2;
+pub use to_record::to_net;
 pub use walk::Moved;
 ghost use mathlib.Core.Path.{_≡_};
 ghost use Rattle.character.specs.Character.{spawn};

@@ -1,20 +1,20 @@
 // A session between two files: what is read of the one is played, and what that writes goes to the other.
-use map_text::MOST_TILES;
-use session_lines::Session;
-use session_lines::Turned;
-use sessions::MOST_CALLS;
-use sessions::MOST_READ;
-use sessions::begin;
-use sessions::run_lines;
-use tiles::Sides;
+use map_tiles::Sides;
+use session_run::MOST_CALLS;
+use session_run::MOST_READ;
+use session_run::Session;
+use session_run::Turned;
+use session_run::begin;
+use session_run::run_lines;
+use text_reading::MOST_TILES;
 ghost use Prim.Native.Nat.{ℕ, _*_, _≤_};
 ghost use mathlib.Core.List.{List};
 ghost use mathlib.Core.Path.{_≡_};
 ghost use lib.ListN.{length, take};
 ghost use Rattle.character.specs.Tick.{seats};
-ghost use Rattle.sessions.specs.Session.{mostLine};
-ghost use Rattle.sessions.specs.Start.{mostRead};
-ghost use Rattle.session_output.specs.Played.{PlayedOut, Started, TextPlayed};
+ghost use Rattle.session_run.specs.Session.{mostLine};
+ghost use Rattle.session_run.specs.Start.{mostRead};
+ghost use Rattle.session_laws.specs.Played.{PlayedOut, Started, TextPlayed};
 
 // How many bytes were read, and the session that they came to.
 pub struct FilePlayed {

@@ -5,11 +5,11 @@ use mathlib.Core.List.{List}
 use mathlib.Core.Path.{_≡_, refl, ap}
 use lib.Dec.{ltb}
 use lib.IntN.{ℤ}
-use Rattle.turns.specs.Turns.{Turn, more, stop, next}
-use Rattle.tiles.specs.Map.{isMap}
-use Rattle.tiles.specs.declared.Sides.{Sides}
-use Rattle.tuning.specs.Tuning.{tuningOf}
-use Rattle.call.specs.declared.Call.the-variants.{Join, Leave, Input, Step, Tune}
+use Rattle.base_turns.specs.Turns.{Turn, more, stop, next}
+use Rattle.map_tiles.specs.Map.{isMap}
+use Rattle.map_tiles.specs.declared.tiles.Sides.{Sides}
+use Rattle.game_tuning.specs.Tuning.{tuningOf}
+use Rattle.world.specs.declared.call.Call.the-variants.{Join, Leave, Input, Step, Tune}
 use Rattle.world.specs.World.{tuningCount, withTuning}
 use Rattle.world.specs.Calls.{refused, accepted, placeOf, tune}
 use Rattle.world.specs.Demand1.{Demand1}

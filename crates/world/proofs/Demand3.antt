@@ -9,17 +9,17 @@ use lib.IntN.{ℤ, pos}
 use lib.ListN.{length, getD, set}
 use lib.Seq.{getD-set-same, getD-set-other}
 use borrow.Author.Tests.{eq-eqb, ne-eqb, eqb-true, eqb-false, ltb-true, ltb-false}
-use Rattle.vector.specs.declared.vec2.{vec2}
-use Rattle.tiles.specs.declared.Sides.{Sides}
-use Rattle.boxes.specs.Box.{Clear, characterBox}
-use Rattle.boxes.proofs.Corners.{character-corners}
-use Rattle.call.specs.declared.Call.{Call}
-use Rattle.call.specs.declared.Call.the-variants.{Join, Leave, Input, Step, Tune}
+use Rattle.num_vec2.specs.declared.vec2.{vec2}
+use Rattle.map_tiles.specs.declared.tiles.Sides.{Sides}
+use Rattle.map_tiles.specs.Box.{Clear, characterBox}
+use Rattle.map_tiles.proofs.Corners.{character-corners}
+use Rattle.world.specs.declared.call.Call.{Call}
+use Rattle.world.specs.declared.call.Call.the-variants.{Join, Leave, Input, Step, Tune}
 use Rattle.character.specs.Character.{spawn}
 use Rattle.character.specs.Tick.{slotAt, nowhere}
 use Rattle.character.specs.declared.Slot.{Slot}
-use Rattle.records.proofs.Back.{representable-back}
-use Rattle.physics.proofs.Slots.{set-others, replicate-every}
+use Rattle.character_laws.proofs.Back.{representable-back}
+use Rattle.character_laws.proofs.Slots.{set-others, replicate-every}
 use Rattle.world.specs.World.{emptySlot, fresh, tuningCount, playerCollision, withSlot, withTuning}
 use Rattle.world.specs.Calls.{refused, accepted, placeOf, pointOf}
 use Rattle.world.specs.Calls as calls

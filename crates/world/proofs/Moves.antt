@@ -8,31 +8,31 @@ use mathlib.Core.Path.{_≡_, refl, sym, ap, _∙_, subst}
 use lib.Dec.{T, leb}
 use lib.Ieee.{ne}
 use lib.ListN.{length, set, length-set, length-replicate}
-use Rattle.turns.specs.Turns.{Turn, more, stop, next, run}
-use Rattle.turns.proofs.Kept.{Ends, run-kept}
-use Rattle.turns.proofs.Last.{run-last}
-use Rattle.number.specs.Number.{c0}
-use Rattle.tiles.specs.Map.{isMap}
-use Rattle.tiles.specs.declared.Sides.{Sides}
-use Rattle.tuning.specs.declared.Tuning.{Tuning}
-use Rattle.boxes.specs.Box.{Clear, characterBox}
-use Rattle.snap_obj.specs.declared.CharacterCore.{CharacterCore}
-use Rattle.hook.specs.Hook.{tickOf}
+use Rattle.base_turns.specs.Turns.{Turn, more, stop, next, run}
+use Rattle.base_turns.proofs.Kept.{Ends, run-kept}
+use Rattle.base_turns.proofs.Last.{run-last}
+use Rattle.num_convert.specs.Number.{c0}
+use Rattle.map_tiles.specs.Map.{isMap}
+use Rattle.map_tiles.specs.declared.tiles.Sides.{Sides}
+use Rattle.game_tuning.specs.declared.Tuning.{Tuning}
+use Rattle.map_tiles.specs.Box.{Clear, characterBox}
+use Rattle.game_records.specs.declared.CharacterCore.{CharacterCore}
+use Rattle.character_hook.specs.Hook.{tickOf}
 use Rattle.character.specs.declared.Character.{Character}
 use Rattle.character.specs.declared.Slot.{Slot}
 use Rattle.character.specs.declared.walk.Moved.{Moved}
 use Rattle.character.specs.declared.walk.Moved.the-variants as moved
 use Rattle.character.specs.Tick.{slotAt, nowhere, withCharacter}
-use Rattle.records.specs.Faithful.{Faithful}
-use Rattle.records.specs.Records.{coreOf, toNet, fromNet, mostTick}
-use Rattle.records.specs.Representable.{Representable}
-use Rattle.records.specs.declared.Net.{Net}
-use Rattle.records.specs.declared.Net.the-variants as net
-use Rattle.records.proofs.Faithful.{core-faithful, core-clear}
-use Rattle.physics.proofs.Slots.{set-every, set-others, replicate-every}
-use Rattle.physics.proofs.Moved.{move-clear}
-use Rattle.physics.proofs.FitsTick.{FitsPair}
-use Rattle.physics.proofs.FitsMove.{move-fits}
+use Rattle.character_laws.specs.Faithful.{Faithful}
+use Rattle.character.specs.Records.{coreOf, toNet, fromNet, mostTick}
+use Rattle.character_laws.specs.Representable.{Representable}
+use Rattle.character.specs.declared.records.Net.{Net}
+use Rattle.character.specs.declared.records.Net.the-variants as net
+use Rattle.character_laws.proofs.Faithful.{core-faithful, core-clear}
+use Rattle.character_laws.proofs.Slots.{set-every, set-others, replicate-every}
+use Rattle.character_laws.proofs.Moved.{move-clear}
+use Rattle.character_laws.proofs.FitsTick.{FitsPair}
+use Rattle.character_laws.proofs.FitsMove.{move-fits}
 use Rattle.world.specs.Step.{Moving, unpublished, ofNet, recordOf, publish, moveIn, moveTurn, movingFrom, moveAll}
 use Rattle.world.specs.Demand3.{leftIn, leftFrom, FaithfulTo, recordAt}
 use Rattle.world.specs.declared.Published.{Published}

@@ -8,31 +8,31 @@ use mathlib.Core.Path.{_≡_, refl, sym, ap, _∙_, subst}
 use lib.Dec.{ltb}
 use lib.ListN.{length, length-set}
 use borrow.Author.Tests.{eq-eqb, ne-eqb, ltb-false}
-use Rattle.turns.specs.Turns.{Turn, more, stop, next, run}
-use Rattle.turns.proofs.Kept.{Ends, run-kept}
-use Rattle.hook.specs.Hook.{tickOf}
-use Rattle.hook.specs.declared.Hook.{Hook}
-use Rattle.hook.specs.declared.Hook.the-variants.{Retracted, Idle, Flying, Grabbed, Attached, Retracting0, Retracting1, Retracting2}
-use Rattle.hooking.specs.Hooking.{maxHookGrabTime, hold}
-use Rattle.controls.specs.Controls.{grounded}
-use Rattle.snap_obj.specs.declared.PlayerInput.{PlayerInput}
-use Rattle.tiles.specs.declared.Sides.{Sides}
-use Rattle.tiles.specs.Map.{isMap}
-use Rattle.tuning.specs.Tuning.{tuningOf}
-use Rattle.tuning.specs.declared.Tuning.{Tuning}
-use Rattle.records.specs.Records.{coreOf, toNet, fromNet}
-use Rattle.records.proofs.Back.{to-core}
+use Rattle.base_turns.specs.Turns.{Turn, more, stop, next, run}
+use Rattle.base_turns.proofs.Kept.{Ends, run-kept}
+use Rattle.character_hook.specs.Hook.{tickOf}
+use Rattle.character_hook.specs.declared.hook.Hook.{Hook}
+use Rattle.character_hook.specs.declared.hook.Hook.the-variants.{Retracted, Idle, Flying, Grabbed, Attached, Retracting0, Retracting1, Retracting2}
+use Rattle.character_hook.specs.Hooking.{maxHookGrabTime, hold}
+use Rattle.character_motion.specs.Controls.{grounded}
+use Rattle.game_records.specs.declared.PlayerInput.{PlayerInput}
+use Rattle.map_tiles.specs.declared.tiles.Sides.{Sides}
+use Rattle.map_tiles.specs.Map.{isMap}
+use Rattle.game_tuning.specs.Tuning.{tuningOf}
+use Rattle.game_tuning.specs.declared.Tuning.{Tuning}
+use Rattle.character.specs.Records.{coreOf, toNet, fromNet}
+use Rattle.character_laws.proofs.Back.{to-core}
 use Rattle.character.specs.declared.Character.{Character}
 use Rattle.character.specs.declared.Slot.{Slot}
 use Rattle.character.specs.declared.tick.HookFlight.{HookFlight}
 use Rattle.character.specs.declared.tick.HookFlight.the-variants.{TooFar, To}
 use Rattle.character.specs.declared.tick.Ticked.{Ticked}
 use Rattle.character.specs.Tick.{slotAt, nowhere, withCharacter, steer, flight, hooked, ticked, tickAt}
-use Rattle.physics.proofs.Slots.{set-others}
-use Rattle.physics.proofs.Others.{tick-others, tick-length}
-use Rattle.moves.specs.declared.BoxMove.{BoxMove}
-use Rattle.moves.specs.declared.BoxMove.the-variants as box
-use Rattle.walking.specs.Walking.{rampedMove}
+use Rattle.character_laws.proofs.Slots.{set-others}
+use Rattle.character_laws.proofs.Others.{tick-others, tick-length}
+use Rattle.map_walks.specs.declared.moves.BoxMove.{BoxMove}
+use Rattle.map_walks.specs.declared.moves.BoxMove.the-variants as box
+use Rattle.character_motion.specs.Walking.{rampedMove}
 use Rattle.character.specs.declared.walk.Moved.{Moved}
 use Rattle.character.specs.declared.walk.Moved.the-variants as moved
 use Rattle.character.specs.declared.walk.PlayerWalk.{PlayerWalk}

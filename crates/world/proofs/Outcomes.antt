@@ -7,15 +7,15 @@ use mathlib.Core.Path.{_≡_, refl}
 use lib.Dec.{ltb}
 use lib.IntN.{ℤ, pos, negsuc}
 use borrow.Author.Tests.{ltb-true, leb-true}
-use Rattle.vector.specs.declared.vec2.{vec2}
-use Rattle.tiles.specs.Map.{isMap}
-use Rattle.tiles.specs.declared.Sides.{Sides}
-use Rattle.boxes.specs.Box.{checkBox, Clear, characterBox}
-use Rattle.snap_obj.specs.declared.PlayerInput.{PlayerInput}
+use Rattle.num_vec2.specs.declared.vec2.{vec2}
+use Rattle.map_tiles.specs.Map.{isMap}
+use Rattle.map_tiles.specs.declared.tiles.Sides.{Sides}
+use Rattle.map_tiles.specs.Box.{checkBox, Clear, characterBox}
+use Rattle.game_records.specs.declared.PlayerInput.{PlayerInput}
 use Rattle.character.specs.Character.{spawn}
 use Rattle.character.specs.Tick.{slotAt}
 use Rattle.character.specs.declared.Slot.{Slot}
-use Rattle.casts.specs.Casts.{IsI32}
+use Rattle.num_convert.specs.Casts.{IsI32}
 use Rattle.world.specs.World.{noInput, emptySlot, withSlot}
 use Rattle.world.specs.Calls.{refused, accepted, placeOf, inReach, pointOf, joinAt, join, ifPresent, leave, input}
 use Rattle.world.specs.declared.Answer.{Answer}

@@ -10,18 +10,18 @@ use lib.Ieee.Fits.{nan-fits}
 use lib.Ieee.Bits.{ofBits-fits}
 use lib.IntN.{ℤ, pos}
 use lib.ListN.{getD}
-use Rattle.turns.specs.Turns.{Turn, more, stop, next, run}
-use Rattle.turns.proofs.Kept.{Ends}
-use Rattle.number.specs.Number.{c0}
-use Rattle.float.specs.Convert.{hundredthsToF32}
-use Rattle.tiles.specs.Map.{isMap}
-use Rattle.tiles.specs.declared.Sides.{Sides}
-use Rattle.tuning.specs.Tuning.{tuningAt, tuningOf}
-use Rattle.tuning.specs.declared.Tuning.{Tuning}
+use Rattle.base_turns.specs.Turns.{Turn, more, stop, next, run}
+use Rattle.base_turns.proofs.Kept.{Ends}
+use Rattle.num_convert.specs.Number.{c0}
+use Rattle.num_convert.specs.Convert.{hundredthsToF32}
+use Rattle.map_tiles.specs.Map.{isMap}
+use Rattle.map_tiles.specs.declared.tiles.Sides.{Sides}
+use Rattle.game_tuning.specs.Tuning.{tuningAt, tuningOf}
+use Rattle.game_tuning.specs.declared.Tuning.{Tuning}
 use Rattle.character.specs.Character.{spawn}
 use Rattle.character.specs.Tick.{slotAt, nowhere}
 use Rattle.character.specs.declared.Slot.{Slot}
-use Rattle.physics.proofs.Slots.{set-every, replicate-every}
+use Rattle.character_laws.proofs.Slots.{set-every, replicate-every}
 use Rattle.world.specs.World.{emptySlot, freshTunings, fresh, playerCollision, withSlot}
 use Rattle.world.specs.Step.{Moving, tickAll, moveAll, moveTurn, movingFrom, stepRefused, stepAnswer, stepOn, step}
 use Rattle.world.specs.Demand3.{left, leftIn, leftFrom, recordAt, FaithfulTo}

@@ -9,25 +9,25 @@ use mathlib.Core.Path.{_≡_, refl, sym, ap, _∙_, subst}
 use lib.Dec.{eqb}
 use lib.ListN.{length, set, length-set}
 use borrow.Author.Tests.{eqb-false}
-use Rattle.turns.specs.Turns.{run}
-use Rattle.turns.proofs.Kept.{Ends, run-kept}
-use Rattle.tiles.specs.declared.Sides.{Sides}
-use Rattle.tuning.specs.declared.Tuning.{Tuning}
-use Rattle.snap_obj.specs.declared.CharacterCore.{CharacterCore}
-use Rattle.snap_obj.specs.declared.PlayerInput.{PlayerInput}
+use Rattle.base_turns.specs.Turns.{run}
+use Rattle.base_turns.proofs.Kept.{Ends, run-kept}
+use Rattle.map_tiles.specs.declared.tiles.Sides.{Sides}
+use Rattle.game_tuning.specs.declared.Tuning.{Tuning}
+use Rattle.game_records.specs.declared.CharacterCore.{CharacterCore}
+use Rattle.game_records.specs.declared.PlayerInput.{PlayerInput}
 use Rattle.character.specs.declared.Character.{Character}
 use Rattle.character.specs.declared.Slot.{Slot}
 use Rattle.character.specs.declared.tick.Ticked.{Ticked}
 use Rattle.character.specs.declared.walk.Moved.{Moved}
 use Rattle.character.specs.declared.walk.Moved.the-variants as moved
 use Rattle.character.specs.Tick.{slotAt, nowhere, withCharacter, tickAt}
-use Rattle.records.specs.Records.{toNet, fromNet, quantize}
-use Rattle.records.specs.Representable.{Representable}
-use Rattle.records.specs.declared.Net.{Net}
-use Rattle.records.specs.declared.Net.the-variants as net
-use Rattle.records.proofs.FromNet.{quantized-representable}
-use Rattle.physics.proofs.Slots.{set-every, set-others}
-use Rattle.physics.proofs.Others.{tick-others, tick-absent, tick-length}
+use Rattle.character.specs.Records.{toNet, fromNet, quantize}
+use Rattle.character_laws.specs.Representable.{Representable}
+use Rattle.character.specs.declared.records.Net.{Net}
+use Rattle.character.specs.declared.records.Net.the-variants as net
+use Rattle.character_laws.proofs.FromNet.{quantized-representable}
+use Rattle.character_laws.proofs.Slots.{set-every, set-others}
+use Rattle.character_laws.proofs.Others.{tick-others, tick-absent, tick-length}
 use Rattle.world.specs.Step.{Moving, tickTurn, tickAll, ofNet, recordOf, publish, moveIn, moveTurn, movingFrom, moveAll}
 
 -- the last of the indices below i + 1, or one before it

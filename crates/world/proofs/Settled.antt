@@ -6,20 +6,20 @@ use mathlib.Core.Path.{_≡_, refl, sym, ap, _∙_}
 use lib.Dec.{ltb}
 use lib.IntN.{ℤ}
 use lib.ListN.{length-set, length-replicate, getD-replicate}
-use Rattle.turns.specs.Turns.{Turn, more, stop, next}
-use Rattle.turns.proofs.Kept.{Ends}
-use Rattle.tiles.specs.Map.{isMap}
-use Rattle.tiles.specs.declared.Sides.{Sides}
-use Rattle.tuning.specs.Tuning.{tuningOf}
-use Rattle.tuning.specs.declared.Tuning.{Tuning}
-use Rattle.call.specs.declared.Call.{Call}
-use Rattle.call.specs.declared.Call.the-variants.{Join, Leave, Input, Step, Tune}
+use Rattle.base_turns.specs.Turns.{Turn, more, stop, next}
+use Rattle.base_turns.proofs.Kept.{Ends}
+use Rattle.map_tiles.specs.Map.{isMap}
+use Rattle.map_tiles.specs.declared.tiles.Sides.{Sides}
+use Rattle.game_tuning.specs.Tuning.{tuningOf}
+use Rattle.game_tuning.specs.declared.Tuning.{Tuning}
+use Rattle.world.specs.declared.call.Call.{Call}
+use Rattle.world.specs.declared.call.Call.the-variants.{Join, Leave, Input, Step, Tune}
 use Rattle.character.specs.Character.{spawn}
 use Rattle.character.specs.Tick.{slotAt, nowhere}
 use Rattle.character.specs.declared.Slot.{Slot}
-use Rattle.records.specs.Representable.{Representable}
-use Rattle.records.proofs.FromNet.{spawn-representable}
-use Rattle.physics.proofs.Slots.{set-every}
+use Rattle.character_laws.specs.Representable.{Representable}
+use Rattle.character_laws.proofs.FromNet.{spawn-representable}
+use Rattle.character_laws.proofs.Slots.{set-every}
 use Rattle.world.specs.World.{emptySlot, freshTunings, fresh, tuningCount, withSlot, withTuning}
 use Rattle.world.specs.Calls.{placeOf, pointOf, tune}
 use Rattle.world.specs.Step.{Moving, tickAll, moveAll, stepAnswer, stepOn, step}

@@ -8,21 +8,21 @@ use lib.Ieee.{Float, binary32, fits}
 use lib.IntN.{ℤ}
 use lib.ListN.{set}
 use lib.Ieee.Fits.{ofInt-fits, div-fits}
-use Rattle.turns.proofs.Kept.{Ends, run-kept}
-use Rattle.float.specs.Convert.{c256, i32ToF32, from256ths}
-use Rattle.vector.specs.declared.vec2.{vec2}
-use Rattle.snap_obj.specs.declared.PlayerInput.{PlayerInput}
-use Rattle.tiles.specs.declared.Sides.{Sides}
-use Rattle.tuning.specs.Tuning.{tuningOf}
-use Rattle.boxes.specs.Box.{Clear, characterBox}
+use Rattle.base_turns.proofs.Kept.{Ends, run-kept}
+use Rattle.num_convert.specs.Convert.{c256, i32ToF32, from256ths}
+use Rattle.num_vec2.specs.declared.vec2.{vec2}
+use Rattle.game_records.specs.declared.PlayerInput.{PlayerInput}
+use Rattle.map_tiles.specs.declared.tiles.Sides.{Sides}
+use Rattle.game_tuning.specs.Tuning.{tuningOf}
+use Rattle.map_tiles.specs.Box.{Clear, characterBox}
 use Rattle.character.specs.declared.Character.{Character}
 use Rattle.character.specs.declared.Slot.{Slot}
 use Rattle.character.specs.declared.tick.Ticked.{Ticked}
 use Rattle.character.specs.Tick.{slotAt, nowhere, withCharacter, tickAt}
-use Rattle.records.specs.Representable.{Pair, Representable}
-use Rattle.physics.proofs.Slots.{set-every}
-use Rattle.physics.proofs.Others.{SameButVel, tick-others, tick-pos}
-use Rattle.physics.proofs.FitsTick.{FitsPair, tick-fits}
+use Rattle.character_laws.specs.Representable.{Pair, Representable}
+use Rattle.character_laws.proofs.Slots.{set-every}
+use Rattle.character_laws.proofs.Others.{SameButVel, tick-others, tick-pos}
+use Rattle.character_laws.proofs.FitsTick.{FitsPair, tick-fits}
 use Rattle.world.specs.Step.{tickTurn, tickAll}
 use Rattle.world.proofs.Seats.{by-test}
 

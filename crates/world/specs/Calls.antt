@@ -4,13 +4,13 @@ use mathlib.Core.Bool.{Bool, true, cond, _&&_}
 use mathlib.Core.List.{List}
 use lib.Dec.{leb, ltb}
 use lib.IntN.{ℤ, pos, negsuc, natAbs}
-use Rattle.float.specs.Convert.{i32ToF32}
-use Rattle.vector.specs.Vec2.{vnew}
-use Rattle.vector.specs.declared.vec2.{vec2}
-use Rattle.tiles.specs.Map.{isMap}
-use Rattle.tiles.specs.declared.Sides.{Sides}
-use Rattle.boxes.specs.Box.{checkBox, characterBox}
-use Rattle.snap_obj.specs.declared.PlayerInput.{PlayerInput}
+use Rattle.num_convert.specs.Convert.{i32ToF32}
+use Rattle.num_vec2.specs.Vec2.{vnew}
+use Rattle.num_vec2.specs.declared.vec2.{vec2}
+use Rattle.map_tiles.specs.Map.{isMap}
+use Rattle.map_tiles.specs.declared.tiles.Sides.{Sides}
+use Rattle.map_tiles.specs.Box.{checkBox, characterBox}
+use Rattle.game_records.specs.declared.PlayerInput.{PlayerInput}
 use Rattle.character.specs.Character.{spawn}
 use Rattle.character.specs.Tick.{slotAt}
 use Rattle.world.specs.World.{noInput, emptySlot, tuningCount, withSlot, withTuning}

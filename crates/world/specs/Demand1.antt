@@ -2,8 +2,8 @@
 use Prim.Native.Nat.{ℕ}
 use mathlib.Core.List.{List}
 use mathlib.Core.Path.{_≡_}
-use Rattle.tiles.specs.declared.Sides.{Sides}
-use Rattle.call.specs.declared.Call.{Call}
+use Rattle.map_tiles.specs.declared.tiles.Sides.{Sides}
+use Rattle.world.specs.declared.call.Call.{Call}
 use Rattle.world.specs.Demand3.{answer}
 use Rattle.world.specs.declared.World.{World}
 

@@ -7,25 +7,25 @@ use lib.Dec.{eqb}
 use lib.IntN.{ℤ, pos}
 use lib.Ieee.{binary32, add, sub}
 use lib.ListN.{getD}
-use Rattle.turns.specs.Turns.{Turn, more, stop, next, run}
-use Rattle.vector.specs.Vec2.{vnew}
-use Rattle.vector.specs.declared.vec2.{vec2}
-use Rattle.corners.specs.Tile.{c14}
-use Rattle.tiles.specs.Map.{checkPoint, solid}
-use Rattle.tiles.specs.declared.Sides.{Sides}
-use Rattle.tuning.specs.Tuning.{tuningOf}
-use Rattle.tuning.specs.declared.Tuning.{Tuning}
-use Rattle.snap_obj.specs.declared.CharacterCore.{CharacterCore}
-use Rattle.snap_obj.specs.declared.PlayerInput.{PlayerInput}
-use Rattle.call.specs.declared.Call.{Call}
-use Rattle.call.specs.declared.Call.the-variants.{Join, Leave, Input, Step, Tune}
+use Rattle.base_turns.specs.Turns.{Turn, more, stop, next, run}
+use Rattle.num_vec2.specs.Vec2.{vnew}
+use Rattle.num_vec2.specs.declared.vec2.{vec2}
+use Rattle.map_corners.specs.Tile.{c14}
+use Rattle.map_tiles.specs.Map.{checkPoint, solid}
+use Rattle.map_tiles.specs.declared.tiles.Sides.{Sides}
+use Rattle.game_tuning.specs.Tuning.{tuningOf}
+use Rattle.game_tuning.specs.declared.Tuning.{Tuning}
+use Rattle.game_records.specs.declared.CharacterCore.{CharacterCore}
+use Rattle.game_records.specs.declared.PlayerInput.{PlayerInput}
+use Rattle.world.specs.declared.call.Call.{Call}
+use Rattle.world.specs.declared.call.Call.the-variants.{Join, Leave, Input, Step, Tune}
 use Rattle.character.specs.Tick.{slotAt}
 use Rattle.character.specs.declared.Slot.{Slot}
 use Rattle.character.specs.declared.walk.Moved.{Moved}
 use Rattle.character.specs.declared.walk.Moved.the-variants as moved
-use Rattle.records.specs.Faithful.{Faithful}
-use Rattle.records.specs.Records.{quantize}
-use Rattle.records.specs.declared.Quantized.the-variants as quantized
+use Rattle.character_laws.specs.Faithful.{Faithful}
+use Rattle.character.specs.Records.{quantize}
+use Rattle.character.specs.declared.records.Quantized.the-variants as quantized
 use Rattle.world.specs.World.{tuningCount, playerCollision, fresh}
 use Rattle.world.specs.Calls as calls
 use Rattle.world.specs.Step.{Moving, unpublished, tickAll, moveIn, moveTurn, movingFrom}

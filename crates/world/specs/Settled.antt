@@ -4,10 +4,10 @@ use mathlib.Core.Bool.{true, false}
 use mathlib.Core.List.{List}
 use mathlib.Core.Path.{_≡_}
 use lib.ListN.{length}
-use Rattle.tiles.specs.declared.Sides.{Sides}
-use Rattle.call.specs.declared.Call.{Call}
+use Rattle.map_tiles.specs.declared.tiles.Sides.{Sides}
+use Rattle.world.specs.declared.call.Call.{Call}
 use Rattle.character.specs.Tick.{slotAt}
-use Rattle.records.specs.Representable.{Representable}
+use Rattle.character_laws.specs.Representable.{Representable}
 use Rattle.world.specs.World.{emptySlot, tuningCount, fresh}
 use Rattle.world.specs.Demand3.{after}
 use Rattle.world.specs.declared.World.{World}

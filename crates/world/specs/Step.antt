@@ -5,12 +5,12 @@ use mathlib.Core.List.{List}
 use lib.Dec.{eqb}
 use lib.IntN.{pos}
 use lib.ListN.{set, replicate}
-use Rattle.turns.specs.Turns.{Turn, more, stop, next, run}
-use Rattle.tiles.specs.Map.{isMap}
-use Rattle.tiles.specs.declared.Sides.{Sides}
-use Rattle.tuning.specs.Tuning.{tuningOf}
-use Rattle.tuning.specs.declared.Tuning.{Tuning}
-use Rattle.snap_obj.specs.declared.CharacterCore.{CharacterCore}
+use Rattle.base_turns.specs.Turns.{Turn, more, stop, next, run}
+use Rattle.map_tiles.specs.Map.{isMap}
+use Rattle.map_tiles.specs.declared.tiles.Sides.{Sides}
+use Rattle.game_tuning.specs.Tuning.{tuningOf}
+use Rattle.game_tuning.specs.declared.Tuning.{Tuning}
+use Rattle.game_records.specs.declared.CharacterCore.{CharacterCore}
 use Rattle.character.specs.Tick.{slotAt, withCharacter, tickAt}
 use Rattle.character.specs.Walk.{moveAt, moveNumber}
 use Rattle.character.specs.declared.Character.{Character}
@@ -18,9 +18,9 @@ use Rattle.character.specs.declared.Slot.{Slot}
 use Rattle.character.specs.declared.tick.Ticked.{Ticked}
 use Rattle.character.specs.declared.walk.Moved.{Moved}
 use Rattle.character.specs.declared.walk.Moved.the-variants as moved
-use Rattle.records.specs.Records.{toNet, fromNet, netNumber}
-use Rattle.records.specs.declared.Net.{Net}
-use Rattle.records.specs.declared.Net.the-variants as net
+use Rattle.character.specs.Records.{toNet, fromNet, netNumber}
+use Rattle.character.specs.declared.records.Net.{Net}
+use Rattle.character.specs.declared.records.Net.the-variants as net
 use Rattle.world.specs.declared.Published.{Published}
 use Rattle.world.specs.declared.Recorded.{Recorded}
 use Rattle.world.specs.declared.Recorded.the-variants.{Refused, Core}

@@ -4,9 +4,9 @@ use mathlib.Core.Bool.{false}
 use mathlib.Core.List.{List, [], _∷_}
 use lib.IntN.{ℤ, pos}
 use lib.ListN.{set, replicate}
-use Rattle.number.specs.Number.{c0}
-use Rattle.vector.specs.Vec2.{vnew}
-use Rattle.snap_obj.specs.declared.PlayerInput.{PlayerInput}
+use Rattle.num_convert.specs.Number.{c0}
+use Rattle.num_vec2.specs.Vec2.{vnew}
+use Rattle.game_records.specs.declared.PlayerInput.{PlayerInput}
 use Rattle.character.specs.Character.{spawn}
 use Rattle.character.specs.declared.Slot.{Slot}
 use Rattle.world.specs.declared.World.{World}

@@ -1,8 +1,11 @@
 // The world of document 01: the slots and the tunings, what its calls answer, and the demand on all of them. Types only; the rules stand in specs/.
+mod call;
+
+pub use call::Call;
 use character::SEATS;
 use character::Slot;
-use snap_obj::CharacterCore;
-use tuning::TUNINGS;
+use game_records::CharacterCore;
+use game_tuning::TUNINGS;
 
 pub struct World {
     pub slots: [Slot; SEATS],

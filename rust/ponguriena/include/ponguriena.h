@@ -1,7 +1,7 @@
 /* The C interface of Ponguriena: the character physics of Teeworlds 0.6.
  *
- * For the world link target/staticlib/libexports.a, which `rt staticlib exports`
- * writes; for the walks, the aim and the floats below it libexports_parts.a.
+ * For the world link target/staticlib/libponguriena.a, which `rt staticlib ponguriena`
+ * writes; for the walks, the aim and the floats below it libponguriena_parts.a.
  *
  * A call that may be refused answers 0 where it did its work, and else the number
  * of the refusal; then it has written nothing. No numbers stop a call. A pointer

@@ -1,6 +1,6 @@
-//! Safe Rust functions over the static libraries of two Rattle crates. Of `exports`:
+//! Safe Rust functions over the static libraries of two Rattle crates. Of `ponguriena`:
 //! the [`World`] of characters with its calls, and the same calls on lent numbers
-//! ([`buffers`]). Of `exports_parts` what they are made of: walks over a [`Map`], the
+//! ([`buffers`]). Of `ponguriena_parts` what they are made of: walks over a [`Map`], the
 //! aim angle, the velocity ramp, the root and the conversions. `include/ponguriena.h` is for C.
 
 // Nothing checks the declarations in these modules against the Rattle source: a

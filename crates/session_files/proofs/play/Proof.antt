@@ -8,12 +8,12 @@ use native.Mathlib.Omega.{arith}
 use lib.ListN.{length, take}
 use borrow.Author.Needs.{needs}
 use Rattle.character.specs.Tick.{seats}
-use Rattle.tiles.specs.declared.Sides.{Sides}
-use Rattle.sessions.specs.Session.{mostLine, another, LinesRan}
-use Rattle.session_lines.specs.declared.Session.{Session}
-use Rattle.session_output.specs.Played.{Played, none, then}
-use Rattle.session_output.proofs.Ends.{play-ends}
-use Rattle.session_output.proofs.Within.{start-within, lines-within}
+use Rattle.map_tiles.specs.declared.tiles.Sides.{Sides}
+use Rattle.session_run.specs.Session.{mostLine, another, LinesRan}
+use Rattle.session_run.specs.declared.session_lines.Session.{Session}
+use Rattle.session_laws.specs.Played.{Played, none, then}
+use Rattle.session_laws.proofs.Ends.{play-ends}
+use Rattle.session_laws.proofs.Within.{start-within, lines-within}
 use Rattle.session_files.proofs.play.Statement.{statement}
 use Rattle.session_files.proofs.play.Tie as tie
 

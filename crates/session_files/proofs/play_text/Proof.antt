@@ -5,10 +5,10 @@ use lib.ListN.{take}
 use mathlib.Core.List.{List}
 use native.Mathlib.Omega.{arith}
 use borrow.Author.Needs.{needs}
-use Rattle.sessions.specs.Start.{Began}
-use Rattle.sessions.specs.declared.start.Begun.{Begun}
-use Rattle.session_output.specs.Played.{Started}
-use Rattle.session_output.proofs.Within.{count-within}
+use Rattle.session_run.specs.Start.{Began}
+use Rattle.session_run.specs.declared.start.Begun.{Begun}
+use Rattle.session_laws.specs.Played.{Started}
+use Rattle.session_laws.proofs.Within.{count-within}
 use Rattle.session_files.proofs.play_text.Statement.{statement}
 use Rattle.session_files.proofs.play_text.Tie as tie
 

@@ -5,7 +5,7 @@ use native.Mathlib.Omega.{arith}
 use lib.ListN.{take}
 use borrow.Author.Needs.{needs}
 use Rattle.character.specs.Tick.{seats}
-use Rattle.session_output.specs.Played.{TextPlayed}
+use Rattle.session_laws.specs.Played.{TextPlayed}
 use Rattle.session_files.proofs.read_and_play.Statement.{statement}
 use Rattle.session_files.proofs.read_and_play.Tie as tie
 

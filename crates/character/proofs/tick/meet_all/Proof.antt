@@ -1,4 +1,4 @@
--- `character::meet_all` meets its contract. Assumes nothing.
+-- `character::tick::meet_all` meets its contract. Assumes nothing.
 use mathlib.Core.Bool.{true, false}
 use mathlib.Core.List.{List}
 use mathlib.Core.Logic.{⊎-elim}
@@ -11,14 +11,14 @@ use borrow.Author.Tests.{eq-eqb, ne-eqb}
 use Rattle.character.specs.Tick.{seats, slotAt, withVel, withCharacter, meetTurn, meetAll}
 use Rattle.character.specs.declared.Slot.{Slot}
 use Rattle.character.specs.declared.tick.Met.{Met}
-use Rattle.hook.specs.Hook.{idOf}
-use Rattle.hook.specs.declared.Hook.{Hook}
-use Rattle.meeting.specs.Meeting.{meet}
-use Rattle.meeting.specs.declared.Velocities.{Velocities}
-use Rattle.tuning.specs.declared.Tuning.{Tuning}
-use Rattle.turns.proofs.Loop.{Left, always, fold-first, turn-on, fold-end}
-use Rattle.turns.specs.Turns.{fold, more}
-use Rattle.vector.specs.declared.vec2.{vec2}
+use Rattle.character_hook.specs.Hook.{idOf}
+use Rattle.character_hook.specs.declared.hook.Hook.{Hook}
+use Rattle.character_motion.specs.Meeting.{meet}
+use Rattle.character_motion.specs.declared.meeting.Velocities.{Velocities}
+use Rattle.game_tuning.specs.declared.Tuning.{Tuning}
+use Rattle.base_turns.proofs.Loop.{Left, always, fold-first, turn-on, fold-end}
+use Rattle.base_turns.specs.Turns.{fold, more}
+use Rattle.num_vec2.specs.declared.vec2.{vec2}
 use Rattle.character.proofs.tick.meet_all.Statement.{statement}
 use Rattle.character.proofs.tick.meet_all.Tie as tie
 

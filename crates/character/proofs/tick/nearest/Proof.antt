@@ -1,4 +1,4 @@
--- `character::nearest` meets its contract. Assumes nothing.
+-- `character::tick::nearest` meets its contract. Assumes nothing.
 use mathlib.Core.Bool.{true, false}
 use mathlib.Core.List.{List}
 use mathlib.Core.Logic.{⊎-elim}
@@ -9,12 +9,12 @@ use borrow.Author.Needs.{needs}
 use borrow.Author.Tests.{eq-eqb, ne-eqb}
 use Rattle.character.specs.Tick.{seats, slotAt, nearestTurn, nearest}
 use Rattle.character.specs.declared.Slot.{Slot}
-use Rattle.hook.specs.Hook.{idOf}
-use Rattle.hooking.specs.Hooking.{nearer}
-use Rattle.hooking.specs.declared.Nearest.{Nearest}
-use Rattle.turns.proofs.Loop.{Left, always, fold-first, turn-on, fold-end}
-use Rattle.turns.specs.Turns.{fold, more}
-use Rattle.vector.specs.declared.vec2.{vec2}
+use Rattle.character_hook.specs.Hook.{idOf}
+use Rattle.character_hook.specs.Hooking.{nearer}
+use Rattle.character_hook.specs.declared.hooking.Nearest.{Nearest}
+use Rattle.base_turns.proofs.Loop.{Left, always, fold-first, turn-on, fold-end}
+use Rattle.base_turns.specs.Turns.{fold, more}
+use Rattle.num_vec2.specs.declared.vec2.{vec2}
 use Rattle.character.proofs.tick.nearest.Statement.{statement}
 use Rattle.character.proofs.tick.nearest.Tie as tie
 

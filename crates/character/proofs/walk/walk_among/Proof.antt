@@ -1,4 +1,4 @@
--- `character::walk_among` meets its contract. Assumes nothing.
+-- `character::walk::walk_among` meets its contract. Assumes nothing.
 use mathlib.Core.List.{List}
 use mathlib.Core.Path.{_≡_, refl, sym, ap, _∙_}
 use Prim.Native.Nat.{ℕ, _-_, _^_}
@@ -10,11 +10,11 @@ use borrow.Author.Needs.{needs}
 use Rattle.character.specs.Tick.{seats}
 use Rattle.character.specs.declared.Slot.{Slot}
 use Rattle.character.specs.Walk.{slotTurn, walkTurn, orTo, walkAmong}
-use Rattle.float.specs.Convert.{i32ToF32}
-use Rattle.turns.proofs.Loop.{Left, turn-first, turn-on, turn-off, turn-end}
-use Rattle.turns.specs.Turns.{more, stop, run}
-use Rattle.vector.specs.Vec2.{vmix}
-use Rattle.vector.specs.declared.vec2.{vec2}
+use Rattle.num_convert.specs.Convert.{i32ToF32}
+use Rattle.base_turns.proofs.Loop.{Left, turn-first, turn-on, turn-off, turn-end}
+use Rattle.base_turns.specs.Turns.{more, stop, run}
+use Rattle.num_vec2.specs.Vec2.{vmix}
+use Rattle.num_vec2.specs.declared.vec2.{vec2}
 use Rattle.character.proofs.walk.walk_among.Statement.{statement}
 use Rattle.character.proofs.walk.walk_among.Tie as tie
 

@@ -1,0 +1,5 @@
+pub mod Whole
+pub mod Parts
+pub mod Apart
+pub mod Every
+pub mod Rules

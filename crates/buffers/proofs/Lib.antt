@@ -1,3 +1,0 @@
-pub mod Answers
-pub mod Follows
-pub mod Reached

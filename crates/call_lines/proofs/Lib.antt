@@ -1,3 +1,0 @@
-pub mod Calls
-mod Codes
-pub mod Every

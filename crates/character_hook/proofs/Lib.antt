@@ -1,0 +1,5 @@
+pub mod Variants
+pub mod States
+pub mod Unchanged
+pub mod Cases
+pub mod TooFar

@@ -1,0 +1,51 @@
+-- `character_hook::flying::flown` meets its contract. Assumes nothing.
+use borrow.Author.Needs.{needs}
+use Rattle.character_hook.proofs.TooFar.{not-too-far}
+use Rattle.character_hook.specs.Flying.{flown}
+use Rattle.character_hook.proofs.Variants.{not-flying}
+use Rattle.character_hook.proofs.flying.flown.Statement.{statement}
+use Rattle.character_hook.proofs.flying.flown.Tie as tie
+
+enum-known-hook : tie.Need-enum-known-hook
+enum-known-hook c = search needs
+
+retract-requires : tie.Need-retract-requires
+retract-requires c κs = search needs
+
+returns : tie.Need-returns
+unfolding flown
+returns c = rw (not-flying _ _ _ (c .before .match .keys2), ← c .retract .ensures)
+
+fly-requires : tie.Need-fly-requires
+fly-requires c κs = search needs
+
+walk-line-requires : tie.Need-walk-line-requires
+walk-line-requires c κs = search needs
+
+enum-told : tie.Need-enum-told
+enum-told c = search needs
+
+returns-2 : tie.Need-returns-2
+unfolding flown
+returns-2 c = simp (c .before .before .before .before .before .before .hook .given .1, ← c .before .before .before .before .fly .ensures, ← c .before .before .walk-line .ensures, c .enum-told .given .1)
+
+strike-requires : tie.Need-strike-requires
+strike-requires c κs = search needs
+
+returns-3 : tie.Need-returns-3
+unfolding flown
+returns-3 c = simp (c .before .before .before .before .before .before .hook .given .1, ← c .before .before .before .before .fly .ensures, ← c .before .before .walk-line .ensures, not-too-far (c .before .before .walk-line .result) (c .before .match2 .keys2), ← c .strike .ensures)
+
+pub flown-spec : {M : Type 1} → statement M
+flown-spec =
+    tie.close
+    (tie.spec
+    enum-known-hook
+    retract-requires
+    returns
+    fly-requires
+    walk-line-requires
+    enum-told
+    returns-2
+    strike-requires
+    returns-3)

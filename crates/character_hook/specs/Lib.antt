@@ -1,0 +1,4 @@
+pub mod Hook
+pub mod Hooking
+pub mod Dragging
+pub mod Flying

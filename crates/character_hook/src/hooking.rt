@@ -1,0 +1,134 @@
+// What becomes of a hook in a tick, and whom it meets on its way.
+use crate::hook::CharacterId;
+use crate::hook::Hook;
+use game_tuning::Tuning;
+use map_tiles::Tile;
+use map_walks::LineCheck;
+use num_convert::CHARACTER_SIZE;
+use num_vec2::vec2;
+ghost use mathlib.Core.Path.{_≡_};
+ghost use Rattle.character_hook.specs.Hooking.{fired, fire, fly, strike, closer, nearer, grab, retract, hold};
+
+// For how many ticks a hook holds somebody: 1.2 s with 50 ticks a second.
+pub const MAX_HOOK_GRAB_TIME: u32 = 60;
+
+// Where a hook flies to, and what it is there.
+pub struct Flight {
+    pub to: vec2,
+    pub hook: Hook,
+}
+
+// A pressed button fires an idle hook, a released one takes any hook back.
+pub fn fire(hook: Hook, pressed: bool, pos: vec2, target_dir: vec2) -> Hook
+    ensures { λ r. ⌜ r ≡ fire hook pressed pos «target_dir» ⌝ }
+{
+    if pressed {
+        return fired(hook, pos, target_dir);
+    }
+    Hook::Idle
+}
+
+fn fired(hook: Hook, pos: vec2, target_dir: vec2) -> Hook
+    ensures { λ r. ⌜ r ≡ fired hook pos «target_dir» ⌝ }
+{
+    let Hook::Idle = hook else {
+        return hook;
+    };
+    Hook::Flying(pos.add(target_dir.mul(CHARACTER_SIZE).mul(1.5)), target_dir)
+}
+
+// The flight of a tick, which ends at the hook's length from the character.
+pub fn fly(pos: vec2, dir: vec2, character: vec2, tuning: Tuning) -> Flight
+    ensures { λ r. ⌜ r ≡ fly pos dir character tuning ⌝ }
+{
+    let new_pos = pos.add(dir.mul(tuning.hook_fire_speed));
+    if vec2::distance(new_pos, character) > tuning.hook_length {
+        let end = character.add(new_pos.sub(character).normalize().mul(tuning.hook_length));
+        return Flight {
+            to: end,
+            hook: Hook::Retracting0(end),
+        };
+    }
+    Flight {
+        to: new_pos,
+        hook: Hook::Flying(new_pos, dir),
+    }
+}
+
+// What the tiles on the way make of it, also where it has reached its length.
+pub fn strike(hook: Hook, check: LineCheck) -> Hook
+    ensures { λ r. ⌜ r ≡ strike hook check ⌝ }
+{
+    let LineCheck::At(p, tile) = check else {
+        return hook;
+    };
+    match tile {
+        Tile::Open => hook,
+        Tile::Normal => Hook::Attached(p),
+        Tile::Unhookable => Hook::Retracting0(p),
+    }
+}
+
+// Who is met first on the flight so far, and at which distance.
+pub enum Nearest {
+    Nobody,
+    At(f32, CharacterId),
+}
+
+// The nearest after the character cid at `other` is looked at: of those beside the way, the first of the least distance.
+pub fn nearer(best: Nearest, cid: CharacterId, other: vec2, from: vec2, to: vec2) -> Nearest
+    ensures { λ r. ⌜ r ≡ nearer best cid other from to ⌝ }
+{
+    let closest = other.closest_point_on_line(from, to);
+    if vec2::distance(other, closest) < CHARACTER_SIZE {
+        return closer(best, cid, vec2::distance(from, other));
+    }
+    best
+}
+
+fn closer(best: Nearest, cid: CharacterId, distance: f32) -> Nearest
+    ensures { λ r. ⌜ r ≡ closer best cid distance ⌝ }
+{
+    if let Nearest::At(min_distance, _) = best {
+        if distance < min_distance {
+            return Nearest::At(distance, cid);
+        }
+        return best;
+    }
+    Nearest::At(distance, cid)
+}
+
+// Whoever is met is grabbed.
+pub fn grab(hook: Hook, nearest: Nearest) -> Hook
+    ensures { λ r. ⌜ r ≡ grab hook nearest ⌝ }
+{
+    let Nearest::At(_, cid) = nearest else {
+        return hook;
+    };
+    Hook::Grabbed(cid, 0)
+}
+
+// A hook that comes back does so in three ticks.
+pub fn retract(hook: Hook) -> Hook
+    ensures { λ r. ⌜ r ≡ retract hook ⌝ }
+{
+    match hook {
+        Hook::Retracting0(pos) => Hook::Retracting1(pos),
+        Hook::Retracting1(pos) => Hook::Retracting2(pos),
+        Hook::Retracting2(_) => Hook::Retracted,
+        _ => hook,
+    }
+}
+
+// One more tick of holding somebody, the one in which it began included. The largest tick can't be counted up: it is beyond the time.
+pub fn hold(hook: Hook) -> Hook
+    ensures { λ r. ⌜ r ≡ hold hook ⌝ }
+{
+    let Hook::Grabbed(hooked, tick) = hook else {
+        return hook;
+    };
+    if tick >= MAX_HOOK_GRAB_TIME {
+        return Hook::Retracted;
+    }
+    Hook::Grabbed(hooked, tick + 1)
+}

@@ -1,0 +1,10 @@
+pub mod Back
+pub mod FromNet
+pub mod Faithful
+pub mod Cases
+pub mod Slots
+pub mod Alone
+pub mod Others
+pub mod Moved
+pub mod FitsTick
+pub mod FitsMove

@@ -1,0 +1,4 @@
+pub mod Slowed
+pub mod Far
+pub mod FarPush
+pub mod Unramped

@@ -1,0 +1,4 @@
+pub mod Controls
+pub mod Touching
+pub mod Meeting
+pub mod Walking

@@ -1,0 +1,136 @@
+// What two characters do to each other's velocity in a tick.
+use character_hook::CharacterId;
+use character_hook::Hook;
+use game_tuning::Tuning;
+use num_convert::CHARACTER_SIZE;
+use num_convert::saturated_add;
+use num_vec2::vec2;
+ghost use mathlib.Core.Path.{_≡_};
+ghost use Rattle.num_vec2.specs.Vec2.{vdistance};
+ghost use Rattle.character_motion.specs.Meeting.{additionalVel, pushed, push, pull, dragged, held, meet};
+
+// The velocities of a character and of another that it meets.
+pub struct Velocities {
+    pub me: vec2,
+    pub other: vec2,
+}
+
+// How much of the push is added to a velocity, by how it goes towards the other.
+fn additional_vel(vel: vec2, dir_to_self: vec2) -> f32
+    ensures { λ r. ⌜ r ≡ additionalVel vel «dir_to_self» ⌝ }
+{
+    if vel.length() > 0.0001 {
+        return 1.0 - (vec2::dot(vel.normalize(), dir_to_self) + 1.0) / 2.0;
+    }
+    0.5
+}
+
+// The velocity of a character that collides with another.
+fn pushed(pos: vec2, vel: vec2, other: vec2, distance: f32) -> vec2
+    ensures { λ r. ⌜ r ≡ pushed pos vel other distance ⌝ }
+{
+    let dir_to_self = pos.sub(other).normalize();
+    let arbitrary_factor = CHARACTER_SIZE * 1.45 - distance;
+    let additional_vel = additional_vel(vel, dir_to_self);
+    let push = dir_to_self
+        .mul(arbitrary_factor)
+        .mul(additional_vel)
+        .mul(0.75);
+    vel.add(push).mul(0.85)
+}
+
+// The same, where the other is near and not in the same place.
+fn push(pos: vec2, vel: vec2, other: vec2, distance: f32, player_collision: f32) -> vec2
+    ensures { λ r. ⌜ r ≡ push pos vel other distance «player_collision» ⌝ }
+{
+    if player_collision != 0.0 {
+        if distance < 35.0 {
+            if distance > 0.0 {
+                return pushed(pos, vel, other, distance);
+            }
+        }
+    }
+    vel
+}
+
+// The same, where the distance is still to be found.
+fn collide(pos: vec2, vel: vec2, other: vec2, player_collision: f32) -> vec2
+    ensures { λ r. ⌜ r ≡ push pos vel other (vdistance pos other) «player_collision» ⌝ }
+{
+    let way = other.sub(pos);
+    let square = vec2::dot(way, way);
+    // Most are far: a comparison spares the root.
+    if 1225.0 <= square {
+        return vel;
+    }
+    push(pos, vel, other, num_root::root(square), player_collision)
+}
+
+// A velocity that a hook pulls along dir, up to the speed.
+pub fn pull(vel: vec2, accel: f32, dir: vec2, factor: f32, speed: f32) -> vec2
+    ensures { λ r. ⌜ r ≡ pull vel accel dir factor speed ⌝ }
+{
+    vec2::new(
+        saturated_add(-speed, speed, vel.x, accel * dir.x * factor),
+        saturated_add(-speed, speed, vel.y, accel * dir.y * factor),
+    )
+}
+
+// What a hook does to both, the one that holds and the one that is held.
+fn dragged(
+    pos: vec2,
+    other_pos: vec2,
+    before: Velocities,
+    distance: f32,
+    tuning: Tuning,
+) -> Velocities
+    ensures { λ r. ⌜ r ≡ dragged pos «other_pos» before distance tuning ⌝ }
+{
+    let dir = pos.sub(other_pos).normalize();
+    let accel = tuning.hook_drag_accel * distance / tuning.hook_length;
+    let drag_speed = tuning.hook_drag_speed;
+    let other = pull(before.other, accel, dir, 1.5, drag_speed);
+    let me = pull(before.me, -accel, dir, 0.25, drag_speed);
+    Velocities {
+        me: me,
+        other: other,
+    }
+}
+
+// The same, where players can be hooked and the other is not too near.
+fn held(pos: vec2, other_pos: vec2, before: Velocities, distance: f32, tuning: Tuning) -> Velocities
+    ensures { λ r. ⌜ r ≡ held pos «other_pos» before distance tuning ⌝ }
+{
+    if tuning.player_hooking != 0.0 {
+        if distance > 42.0 {
+            return dragged(pos, other_pos, before, distance, tuning);
+        }
+    }
+    before
+}
+
+// A tick's meeting with the character cid: a collision, then the drag of a hook that holds it.
+pub fn meet(
+    pos: vec2,
+    vel: vec2,
+    hook: Hook,
+    other_pos: vec2,
+    other_vel: vec2,
+    cid: CharacterId,
+    tuning: Tuning,
+) -> Velocities
+    ensures { λ r. ⌜ r ≡ meet pos vel hook «other_pos» «other_vel» cid tuning ⌝ }
+{
+    let velocities = Velocities {
+        me: collide(pos, vel, other_pos, tuning.player_collision),
+        other: other_vel,
+    };
+    let Hook::Grabbed(hooked, _) = hook else {
+        return velocities;
+    };
+    if hooked.0 == cid.0 {
+        let distance = vec2::distance(pos, other_pos);
+        return held(pos, other_pos, velocities, distance, tuning);
+    }
+    velocities
+}

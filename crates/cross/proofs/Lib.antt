@@ -1,3 +1,0 @@
-pub mod Whole
-pub mod Parts
-pub mod Apart

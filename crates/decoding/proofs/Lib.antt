@@ -1,3 +1,0 @@
-pub mod Seats
-pub mod Encoded
-pub mod Any

@@ -1,0 +1,35 @@
+-- The tunings of a world as floats. Definitions only.
+use Prim.Native.Nat.{ℕ}
+use mathlib.Core.List.{List}
+use lib.ListN.{getD}
+use lib.IntN.{ℤ, pos}
+use lib.Ieee.{Float}
+use Rattle.game_tuning.specs.declared.Tuning.{Tuning}
+use Rattle.num_convert.specs.Convert.{hundredthsToF32}
+
+-- the float of the tuning with the index i
+unfoldable pub tuningAt : List ℤ → ℕ → Float
+tuningAt ts i = hundredthsToF32 (getD ts i (pos 0))
+
+-- in document 01's order
+unfoldable pub tuningOf : List ℤ → Tuning
+tuningOf ts = record {
+  «ground_control_speed» = tuningAt ts 0;
+  «ground_control_accel» = tuningAt ts 1;
+  «ground_friction» = tuningAt ts 2;
+  «ground_jump_impulse» = tuningAt ts 3;
+  «air_jump_impulse» = tuningAt ts 4;
+  «air_control_speed» = tuningAt ts 5;
+  «air_control_accel» = tuningAt ts 6;
+  «air_friction» = tuningAt ts 7;
+  «hook_length» = tuningAt ts 8;
+  «hook_fire_speed» = tuningAt ts 9;
+  «hook_drag_accel» = tuningAt ts 10;
+  «hook_drag_speed» = tuningAt ts 11;
+  gravity = tuningAt ts 12;
+  «velramp_start» = tuningAt ts 13;
+  «velramp_range» = tuningAt ts 14;
+  «velramp_curvature» = tuningAt ts 15;
+  «player_collision» = tuningAt ts 16;
+  «player_hooking» = tuningAt ts 17;
+}

@@ -1,4 +1,0 @@
-mod Rows
-mod Heads
-pub mod Maps
-pub mod Every

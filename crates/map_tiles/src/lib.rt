@@ -1,0 +1,12 @@
+// The tile map: the tile of a point, and a box on the map.
+mod boxes;
+mod point;
+mod tiles;
+
+pub use boxes::check_box;
+pub use point::Tile;
+pub use point::check_point;
+pub use tiles::MOST_TURNS;
+pub use tiles::Sides;
+pub use tiles::count;
+pub use tiles::is_map;

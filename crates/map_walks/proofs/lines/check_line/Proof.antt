@@ -1,0 +1,24 @@
+-- `map_walks::lines::check_line` meets its contract. Assumes nothing.
+use mathlib.Core.Path.{sym, _∙_, subst}
+use lib.Dec.{T}
+use Rattle.map_walks.specs.Line.{checkLine}
+use borrow.Author.Needs.{needs}
+use Rattle.map_walks.proofs.lines.check_line.Statement.{statement}
+use Rattle.map_walks.proofs.lines.check_line.Tie as tie
+
+is-map-requires : tie.Need-is-map-requires
+is-map-requires c κs = search needs
+
+walk-line-requires : tie.Need-walk-line-requires
+walk-line-requires c κs = subst T (sym (c .if1 .taken) ∙ c .before .is-map .ensures) tt
+
+returns : tie.Need-returns
+unfolding checkLine
+returns c = simp (← c .before .before .is-map .ensures, c .before .if1 .taken, ← c .walk-line .ensures)
+
+returns-2 : tie.Need-returns-2
+unfolding checkLine
+returns-2 c = simp (← c .before .is-map .ensures, c .if1 .left)
+
+pub check-line-spec : {M : Type 1} → statement M
+check-line-spec = tie.close (tie.spec is-map-requires walk-line-requires returns returns-2)

@@ -1,0 +1,57 @@
+-- `check_line` of lib.rs. Definitions only.
+use Prim.Native.Nat.{ℕ}
+use mathlib.Core.Bool.{cond}
+use mathlib.Core.List.{List}
+use lib.Dec.{leb}
+use lib.IntN.{pos}
+use lib.Ieee.{Float, binary32, add, div}
+use Rattle.num_convert.specs.Whole.{truncToI32}
+use Rattle.num_convert.specs.Convert.{i32ToF32}
+use Rattle.num_convert.specs.Number.{c1}
+use Rattle.num_vec2.specs.Vec2.{vdistance, vmix}
+use Rattle.num_vec2.specs.declared.vec2.{vec2}
+use Rattle.base_turns.specs.Turns.{Turn, more, stop, run}
+use Rattle.map_tiles.specs.Map.{isMap, mostTurns, count, checkPoint}
+use Rattle.map_tiles.specs.declared.tiles.Sides.{Sides}
+use Rattle.map_tiles.specs.declared.point.Tile.{Tile}
+use Rattle.map_tiles.specs.declared.point.Tile.the-variants.{Open, Normal, Unhookable}
+use Rattle.map_walks.specs.declared.lines.LineCheck.{LineCheck}
+use Rattle.map_walks.specs.declared.lines.LineCheck.the-variants.{BadMap, TooFar, Nothing, At}
+
+-- the turns of a line of length dist: trunc(dist + 1)
+unfoldable pub lineTurns : Float → ℕ
+lineTurns dist = count (truncToI32 (add binary32 dist c1))
+
+-- a point that is open goes on; one that is not ends the walk, with its tile
+abbrev pub orHit : vec2 → Tile → Turn (Unit {0}) LineCheck
+orHit p Open = more tt
+orHit p Normal = stop (At p Normal)
+orHit p Unhookable = stop (At p Unhookable)
+
+-- the point i / dist of the way, dist and not the number of turns being what the Rust divides by
+unfoldable pub lineTurn : Sides → List ℕ → vec2 → vec2 → Float → ℕ → Unit {0} → Turn (Unit {0}) LineCheck
+lineTurn s ts from to dist i u = let p = vmix from to (div binary32 (i32ToF32 (pos i)) dist) in orHit p (checkPoint s ts p)
+
+abbrev pub orNothing : Turn (Unit {0}) LineCheck → LineCheck
+orNothing (more u) = Nothing
+orNothing (stop h) = h
+
+unfoldable pub lineHit : Sides → List ℕ → vec2 → vec2 → Float → ℕ → LineCheck
+lineHit s ts from to dist n = orNothing (run (lineTurn s ts from to dist) n 0 tt)
+
+-- the walk on a map that is one: 9 where it is too far
+unfoldable pub walkLine : Sides → List ℕ → vec2 → vec2 → LineCheck
+walkLine s ts from to =
+    let dist = vdistance from to in
+    cond (leb (lineTurns dist) mostTurns) (lineHit s ts from to dist (lineTurns dist)) TooFar
+
+-- refused with 1 where the map is none, before the walk is measured
+unfoldable pub checkLine : Sides → List ℕ → vec2 → vec2 → LineCheck
+checkLine s ts from to = cond (isMap s ts) (walkLine s ts from to) BadMap
+
+-- document 01's number of an answer
+abbrev pub lineNumber : LineCheck → ℕ
+lineNumber BadMap = 1
+lineNumber TooFar = 9
+lineNumber Nothing = 0
+lineNumber (At p t) = 0

@@ -1,0 +1,11 @@
+// The walks on a map: of a line, and of a box.
+mod lines;
+mod moves;
+
+pub use lines::LineCheck;
+pub use lines::check_line;
+pub use lines::walk_line;
+pub use moves::Body;
+pub use moves::BoxMove;
+pub use moves::move_box;
+pub use moves::walk_box;

@@ -1,0 +1,11 @@
+pub mod Cut
+pub mod Ranges
+pub mod Wholes
+pub mod Scaled
+pub mod Again
+pub mod FromI32
+pub mod Nearby
+pub mod FloatCases
+pub mod Back
+pub mod Signed
+pub mod NumberCases

@@ -1,0 +1,19 @@
+-- `num_convert::number::clamp` meets its contract. Assumes nothing.
+use Rattle.num_convert.specs.Number.{clamp}
+use Rattle.num_convert.proofs.number.clamp.Statement.{statement}
+use Rattle.num_convert.proofs.number.clamp.Tie as tie
+
+returns : tie.Need-returns
+unfolding clamp
+returns c = simp (c .if1 .taken)
+
+returns-2 : tie.Need-returns-2
+unfolding clamp
+returns-2 c = simp (c .before .if1 .left, c .if2 .taken)
+
+returns-3 : tie.Need-returns-3
+unfolding clamp
+returns-3 c = simp (c .before .if1 .left, c .if2 .left)
+
+pub clamp-spec : {M : Type 1} → statement M
+clamp-spec = tie.close (tie.spec returns returns-2 returns-3)

@@ -1,6 +1,0 @@
-pub mod Slots
-pub mod Alone
-pub mod Others
-pub mod Moved
-pub mod FitsTick
-pub mod FitsMove

@@ -1,0 +1,105 @@
+// The C interface of the calls on a world that is kept as the numbers of a lent buffer. Their answers are a refusal's number, or 0.
+use game_records::PlayerInput;
+use map_tiles::Sides;
+ghost use mathlib.Core.Path.{_≡_};
+ghost use Rattle.character.specs.Tick.{seats};
+ghost use Rattle.world.specs.World.{fresh};
+ghost use Rattle.world.specs.Calls.{accepted, join, leave, input, tune};
+ghost use Rattle.world.specs.Demand3.{inputOf};
+ghost use Rattle.game_records.specs.Numbers.{coreCount, inputCount};
+ghost use Rattle.world_buffers.specs.Buffers.{callIn, stepIn};
+ghost use Rattle.world_buffers.specs.Readers.{readIn, recordOf, tuningIn};
+ghost use Rattle.world_buffers.specs.Readers as readers;
+ghost use Rattle.map_tiles.specs.Map.{sidesOf};
+
+#[no_mangle]
+pub extern "C" fn ponguriena_fresh(world: &mut [i32]) -> u32
+    ensures { λ r. ⌜ callIn (λ _. accepted (fresh seats)) (now (world .entry)) ≡ record { number = r; world = now (world .exit) } ⌝ }
+{
+    world_buffers::fresh_in(world)
+}
+
+#[no_mangle]
+pub extern "C" fn ponguriena_join(
+    world: &mut [i32],
+    width: u32,
+    height: u32,
+    tiles: &[u8],
+    id: i32,
+    x: i32,
+    y: i32,
+) -> u32
+    ensures { λ r. ⌜ callIn (λ w. join seats w (sidesOf width height) (now (tiles .entry)) id x y) (now (world .entry)) ≡ record { number = r; world = now (world .exit) } ⌝ }
+{
+    world_buffers::join_in(world, Sides { width, height }, tiles, id, x, y)
+}
+
+#[no_mangle]
+pub extern "C" fn ponguriena_leave(world: &mut [i32], id: i32) -> u32
+    ensures { λ r. ⌜ callIn (λ w. leave seats w id) (now (world .entry)) ≡ record { number = r; world = now (world .exit) } ⌝ }
+{
+    world_buffers::leave_in(world, id)
+}
+
+#[no_mangle]
+pub extern "C" fn ponguriena_input(
+    world: &mut [i32],
+    id: i32,
+    direction: i32,
+    target_x: i32,
+    target_y: i32,
+    jump: i32,
+    hook: i32,
+) -> u32
+    ensures { λ r. ⌜ callIn (λ w. input seats w id (inputOf direction «target_x» «target_y» jump hook)) (now (world .entry)) ≡ record { number = r; world = now (world .exit) } ⌝ }
+{
+    let values = PlayerInput {
+        direction,
+        target_x,
+        target_y,
+        jump,
+        hook,
+    };
+    world_buffers::input_in(world, id, values)
+}
+
+#[no_mangle]
+pub extern "C" fn ponguriena_tune(world: &mut [i32], index: i32, value: i32) -> u32
+    ensures { λ r. ⌜ callIn (λ w. tune w index value) (now (world .entry)) ≡ record { number = r; world = now (world .exit) } ⌝ }
+{
+    world_buffers::tune_in(world, index, value)
+}
+
+#[no_mangle]
+pub extern "C" fn ponguriena_step(
+    world: &mut [i32],
+    width: u32,
+    height: u32,
+    tiles: &[u8],
+    records: &mut [i32],
+) -> u32
+    ensures { λ r. ⌜ stepIn (sidesOf width height) (now (tiles .entry)) (now (world .entry)) (now (records .entry)) ≡ record { number = r; world = now (world .exit); records = now (records .exit) } ⌝ }
+{
+    world_buffers::step_in(world, Sides { width, height }, tiles, records)
+}
+
+#[no_mangle]
+pub extern "C" fn ponguriena_record(world: &[i32], id: i32, record: &mut [i32]) -> u32
+    ensures { λ r. ⌜ readIn coreCount recordOf (now (world .entry)) id (now («record» .entry)) ≡ record { number = r; numbers = now («record» .exit) } ⌝ }
+{
+    world_buffers::record_in(world, id, record)
+}
+
+#[no_mangle]
+pub extern "C" fn ponguriena_player_input(world: &[i32], id: i32, input: &mut [i32]) -> u32
+    ensures { λ r. ⌜ readIn inputCount readers.inputOf (now (world .entry)) id (now (input .entry)) ≡ record { number = r; numbers = now (input .exit) } ⌝ }
+{
+    world_buffers::player_input_in(world, id, input)
+}
+
+#[no_mangle]
+pub extern "C" fn ponguriena_tuning(world: &[i32], index: i32, value: &mut i32) -> u32
+    ensures { λ r. ⌜ tuningIn (now (world .entry)) index (now (value .entry)) ≡ record { number = r; value = now (value .exit) } ⌝ }
+{
+    world_buffers::tuning_in(world, index, value)
+}

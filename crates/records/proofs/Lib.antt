@@ -1,4 +1,0 @@
-pub mod Back
-pub mod FromNet
-pub mod Faithful
-pub mod Cases

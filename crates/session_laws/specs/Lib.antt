@@ -1,0 +1,3 @@
+pub mod Session
+pub mod Output
+pub mod Played

@@ -1,4 +1,0 @@
-pub mod SoFar
-pub mod Whole
-pub mod Ends
-pub mod Within

@@ -1,1 +1,0 @@
-// What a session writes in all, as a function of what its text stands for. No code.

@@ -1,4 +1,0 @@
-pub mod Reading
-pub mod Unique
-pub mod Every
-pub mod Example

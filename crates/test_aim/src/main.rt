@@ -1,0 +1,90 @@
+// Compares the tables of the angle rule with entries from another source, and runs recorded answers of the angle, the power and the
+// ramp. It prints the lines that are answered otherwise, and tells how many agree. A line is 0 for an entry, 1 for an angle, 2 for a
+// power or 3 for a ramp, and 5 patterns; tools/angle_entries prints those of entries, rust/record the others.
+use libc::STDIN_FILENO;
+use libc::STDOUT_FILENO;
+use num_convert::cast_signed;
+use num_convert::hundredths_to_f32;
+use test_common::float_of;
+use test_common::is_float;
+use test_common::is_int;
+use test_common::nth;
+
+// The length of a line, and where the patterns begin in it.
+const LINE: usize = 47;
+
+const PATTERNS: usize = 2;
+
+struct Counts {
+    lines: usize,
+    good: usize,
+}
+
+fn main() {
+    let counts = count_all();
+    io::print_decimal(STDOUT_FILENO, counts.good as u64);
+    io::write_all(STDOUT_FILENO, b" of ");
+    io::print_decimal(STDOUT_FILENO, counts.lines as u64);
+    io::write_all(STDOUT_FILENO, b" agree\n");
+}
+
+// A proved loop has to end, so this one takes at most 65,536 lines.
+fn count_all() -> Counts {
+    let mut lines: usize = 0;
+    let mut good: usize = 0;
+    while lines < 65536 {
+        let mut line = [0u8; LINE];
+        if io::read_full(STDIN_FILENO, &mut line) < LINE {
+            break;
+        }
+        lines += 1;
+        if line_agrees(&line) {
+            good += 1;
+        } else {
+            io::write_all(STDOUT_FILENO, &line);
+        }
+    }
+    Counts { lines, good }
+}
+
+fn line_agrees(line: &[u8]) -> bool {
+    if line.len() < LINE {
+        return false;
+    }
+    let patterns = &line[PATTERNS..];
+    match line[0] {
+        b'0' => entry_agrees(nth(patterns, 0), nth(patterns, 1), nth(patterns, 2)),
+        b'1' => angle_agrees(nth(patterns, 0), nth(patterns, 1), nth(patterns, 2)),
+        b'2' => power_agrees(nth(patterns, 0), nth(patterns, 1), nth(patterns, 2)),
+        _ => ramp_agrees(patterns),
+    }
+}
+
+fn entry_agrees(n: u32, cosine: u32, sine: u32) -> bool {
+    if 804 < n {
+        return false;
+    }
+    let i = n as usize;
+    let cosines = aim_tables::cosines();
+    let sines = aim_tables::sines();
+    is_int(cosines[i], cosine) && is_int(sines[i], sine)
+}
+
+fn angle_agrees(x: u32, y: u32, answer: u32) -> bool {
+    is_int(aim_angle::net_angle(cast_signed(x), cast_signed(y)), answer)
+}
+
+fn power_agrees(c: u32, e: u32, answer: u32) -> bool {
+    is_float(num_ramp::powf(float_of(c), float_of(e)), answer)
+}
+
+fn ramp_agrees(patterns: &[u8]) -> bool {
+    let value = float_of(nth(patterns, 0));
+    let start = hundredths_to_f32(cast_signed(nth(patterns, 1)));
+    let range = hundredths_to_f32(cast_signed(nth(patterns, 2)));
+    let curvature = hundredths_to_f32(cast_signed(nth(patterns, 3)));
+    is_float(
+        num_ramp::velocity_ramp(value, start, range, curvature),
+        nth(patterns, 4),
+    )
+}

@@ -1,0 +1,4 @@
+pub mod Counts
+pub mod Patterns
+pub mod Words
+pub mod States

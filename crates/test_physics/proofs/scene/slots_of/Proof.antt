@@ -1,0 +1,57 @@
+-- `test_physics::scene::slots_of` is safe and ends. Assumes nothing.
+use mathlib.Core.Path.{_≡_}
+use Prim.Native.Nat.{_-_, _≤_}
+use native.Mathlib.Omega.{arith}
+use borrow.Author.Needs.{needs}
+use lib.ListN.{length, length-set}
+use Rattle.test_physics.proofs.scene.slots_of.Statement.{statement}
+use Rattle.test_physics.proofs.scene.slots_of.Tie as tie
+
+abbrev Inv-loop : tie.InvT-loop
+Inv-loop words slots₀ j₀ slots j = (j ≤ 16) × (length slots ≡ 16)
+
+abbrev μ-loop : tie.MeasureT-loop
+μ-loop words slots₀ j₀ slots j = 16 - j
+
+slot-of-requires : tie.Need-slot-of-requires Inv-loop μ-loop
+slot-of-requires c κs = omega arith
+
+loop-holds : tie.Need-loop-holds Inv-loop μ-loop
+loop-holds c = search needs
+
+slot-of-requires-2 : tie.Need-slot-of-requires-2 Inv-loop μ-loop
+slot-of-requires-2 c κs = omega arith
+
+mul-slots : tie.Need-mul-slots Inv-loop μ-loop
+mul-slots c = search needs
+
+array-set-from-slots : tie.Need-array-set-from-slots Inv-loop μ-loop
+array-set-from-slots c = search needs
+
+add-j : tie.Need-add-j Inv-loop μ-loop
+add-j c = omega arith
+
+loop-less : tie.Need-loop-less Inv-loop μ-loop
+loop-less c = omega arith
+
+loop-again : tie.Need-loop-again Inv-loop μ-loop
+loop-again c = (omega arith, simp length-set (c .before .before .loop .inv .1))
+
+returns : tie.Need-returns Inv-loop μ-loop
+returns c = tt
+
+pub slots-of-spec : {M : Type 1} → statement M
+slots-of-spec =
+    tie.close
+    (tie.spec
+    Inv-loop
+    μ-loop
+    slot-of-requires
+    loop-holds
+    slot-of-requires-2
+    mul-slots
+    array-set-from-slots
+    add-j
+    loop-less
+    loop-again
+    returns)

@@ -1,0 +1,73 @@
+// The lines that the session program writes, put into a buffer.
+use crate::line::put_bytes;
+use crate::line::put_line;
+use base_rows::copy;
+use game_records::CharacterCore;
+use game_records::core_numbers;
+ghost use Prim.Native.Nat.{_+_, _≤_};
+ghost use lib.ListN.{length};
+ghost use Rattle.text_writing.specs.Output.{heading, recordBytes, answerBytes};
+ghost use Rattle.text_writing.specs.Put.{Put};
+
+// A line has at most eighteen values of eleven bytes, with a byte after each.
+pub const MOST_LINE: usize = 216;
+
+// Puts the line of names into buf from `at` on, and answers the place past it.
+pub fn put_heading(buf: &mut [u8], at: usize) -> usize
+    requires { ⌜ at + 216 ≤ length (now buf) ⌝ }
+    ensures { λ r. ⌜ Put (now (buf .entry)) at heading (now (buf .exit)) r ⌝ }
+{
+    put_bytes(
+        buf,
+        at,
+        b"call answer id tick x y vel_x vel_y angle direction jumped hooked_player hook_state hook_tick hook_x hook_y hook_dx hook_dy\n",
+    )
+}
+
+// Puts the line of a record into buf from `at` on, and answers the place past it.
+pub fn put_record(
+    buf: &mut [u8],
+    at: usize,
+    call: i32,
+    answer: i32,
+    id: i32,
+    core: CharacterCore,
+) -> usize
+    requires { ⌜ at + 216 ≤ length (now buf) ⌝ }
+    ensures { λ r. ⌜ Put (now (buf .entry)) at (recordBytes call answer id core) (now (buf .exit)) r ⌝ }
+{
+    let numbers = core_numbers(core);
+    let mut row = [id; 18];
+    row[0] = call;
+    row[1] = answer;
+    copy(&mut row, 3, &numbers);
+    put_line(buf, at, &row)
+}
+
+// Puts the line of an answer without a record into buf from `at` on, and answers the place past it.
+pub fn put_answer(buf: &mut [u8], at: usize, call: i32, answer: i32) -> usize
+    requires { ⌜ at + 216 ≤ length (now buf) ⌝ }
+    ensures { λ r. ⌜ Put (now (buf .entry)) at (answerBytes call answer) (now (buf .exit)) r ⌝ }
+{
+    let row = [
+        call,
+        answer,
+        -1,
+        0,
+        0,
+        0,
+        0,
+        0,
+        0,
+        0,
+        0,
+        0,
+        0,
+        0,
+        0,
+        0,
+        0,
+        0,
+    ];
+    put_line(buf, at, &row)
+}

@@ -1,0 +1,4 @@
+pub mod Answers
+pub mod Follows
+pub mod Reached
+pub mod Readings

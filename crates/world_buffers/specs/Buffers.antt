@@ -1,0 +1,54 @@
+-- Calls on a world that is kept as the numbers of a buffer: what each answers, and what it leaves in the buffers. Definitions only.
+use Prim.Native.Nat.{ℕ}
+use mathlib.Core.Bool.{Bool, cond, _&&_}
+use mathlib.Core.List.{List}
+use lib.Dec.{eqb}
+use lib.IntN.{ℤ}
+use lib.ListN.{length}
+use Rattle.map_tiles.specs.declared.tiles.Sides.{Sides}
+use Rattle.character.specs.Tick.{seats}
+use Rattle.world.specs.Step.{step}
+use Rattle.world.specs.declared.Answer.{Answer}
+use Rattle.world.specs.declared.Stepped.{Stepped}
+use Rattle.world.specs.declared.World.{World}
+use Rattle.world_numbers.specs.Encoding.{worldCount, recordsCount, encoding, recordsEncoding}
+use Rattle.world_numbers.specs.Decoding.{decoding}
+
+-- the refusal of a buffer that has not as many numbers as it must
+abbrev pub badLength : ℕ
+badLength = 17
+
+-- whether a buffer has n numbers
+abbrev pub has : ℕ → List ℤ → Bool
+has n l = eqb (length l) n
+
+-- ---- calls that change a world
+
+-- a call's number, and the numbers of the world that it leaves
+pub record Left : Type 0 where
+  pub number : ℕ
+  pub world : List ℤ
+
+-- an accepted call leaves the next world, a refused one every number as it was
+unfoldable pub keep : List ℤ → Answer → Left
+keep l a = record { number = a .number; world = cond (eqb (a .number) 0) (encoding (a .world)) l }
+
+-- a call on the world that the numbers stand for
+unfoldable pub callIn : (World → Answer) → List ℤ → Left
+callIn call l = cond (has worldCount l) (keep l (call (decoding seats l))) (record { number = badLength; world = l })
+
+-- ---- step
+
+-- its number, and the numbers of the world and of the records that it leaves
+pub record LeftByStep : Type 0 where
+  pub number : ℕ
+  pub world : List ℤ
+  pub records : List ℤ
+
+-- an accepted step leaves the next world and the records, a refused one every number as it was
+unfoldable pub keepStep : List ℤ → List ℤ → Stepped → LeftByStep
+keepStep l rs a = record { number = a .number; world = cond (eqb (a .number) 0) (encoding (a .world)) l; records = cond (eqb (a .number) 0) (recordsEncoding (a .records)) rs }
+
+-- a step of the world that the numbers l stand for, whose records go to rs
+unfoldable pub stepIn : Sides → List ℕ → List ℤ → List ℤ → LeftByStep
+stepIn s ts l rs = cond (has worldCount l && has recordsCount rs) (keepStep l rs (step seats (decoding seats l) s ts)) (record { number = badLength; world = l; records = rs })

@@ -1,0 +1,63 @@
+// The calls of a world that need no map: leave, input and tune.
+use crate::seats::accepted;
+use crate::seats::empty_slot;
+use crate::seats::place_of;
+use crate::seats::refused;
+use crate::seats::with_slot;
+use character::SEATS;
+use game_records::PlayerInput;
+use game_tuning::TUNINGS;
+use world::Answer;
+use world::World;
+ghost use mathlib.Core.Path.{_≡_};
+ghost use Prim.Native.Nat.{_<_};
+ghost use Rattle.character.specs.Tick.{seats};
+ghost use Rattle.world.specs.World.{withTuning};
+ghost use Rattle.world.specs.Calls.{leave, input, tune};
+
+pub fn leave(world: World, id: i32) -> Answer
+    ensures { λ r. ⌜ r ≡ leave seats world id ⌝ }
+{
+    let at = place_of(SEATS, id);
+    if at < SEATS {
+        let slot = world.slots[at];
+        if slot.present {
+            return accepted(with_slot(world, at, empty_slot()));
+        }
+        return refused(world, 8);
+    }
+    refused(world, 2)
+}
+
+pub fn input(world: World, id: i32, values: PlayerInput) -> Answer
+    ensures { λ r. ⌜ r ≡ input seats world id values ⌝ }
+{
+    let at = place_of(SEATS, id);
+    if at < SEATS {
+        let mut slot = world.slots[at];
+        if slot.present {
+            slot.input = values;
+            return accepted(with_slot(world, at, slot));
+        }
+        return refused(world, 8);
+    }
+    refused(world, 2)
+}
+
+pub fn tune(world: World, index: i32, value: i32) -> Answer
+    ensures { λ r. ⌜ r ≡ tune world index value ⌝ }
+{
+    let at = place_of(TUNINGS, index);
+    if at < TUNINGS {
+        return accepted(with_tuning(world, at, value));
+    }
+    refused(world, 3)
+}
+
+fn with_tuning(mut world: World, at: usize, value: i32) -> World
+    requires { ⌜ at < 18 ⌝ }
+    ensures { λ r. ⌜ r ≡ withTuning world at value ⌝ }
+{
+    world.tunings[at] = value;
+    world
+}

@@ -1,0 +1,66 @@
+// Join: somebody takes a seat.
+use crate::seats::accepted;
+use crate::seats::no_input;
+use crate::seats::place_of;
+use crate::seats::refused;
+use crate::seats::with_slot;
+use character::Character;
+use character::SEATS;
+use character::Slot;
+use map_tiles::Sides;
+use map_tiles::check_box;
+use map_tiles::is_map;
+use num_convert::CHARACTER_SIZE;
+use num_convert::i32_to_f32;
+use num_vec2::vec2;
+use world::Answer;
+use world::World;
+ghost use mathlib.Core.Path.{_≡_};
+ghost use lib.Dec.{T};
+ghost use Prim.Native.Nat.{_<_};
+ghost use Rattle.map_tiles.specs.Map.{isMap};
+ghost use Rattle.character.specs.Tick.{seats};
+ghost use Rattle.world.specs.Calls.{inReach, joinAt, join};
+
+fn in_reach(z: i32) -> bool
+    ensures { λ r. ⌜ r ≡ inReach z ⌝ }
+{
+    -100000 <= z && z <= 100000
+}
+
+pub fn join(world: World, sides: Sides, tiles: &[u8], id: i32, x: i32, y: i32) -> Answer
+    ensures { λ r. ⌜ r ≡ join seats world sides (now (tiles .entry)) id x y ⌝ }
+{
+    if is_map(sides, tiles) {
+        let at = place_of(SEATS, id);
+        if at < SEATS {
+            if in_reach(x) && in_reach(y) {
+                let pos = vec2::new(i32_to_f32(x), i32_to_f32(y));
+                return join_at(world, sides, tiles, at, pos);
+            }
+            return refused(world, 4);
+        }
+        return refused(world, 2);
+    }
+    refused(world, 1)
+}
+
+fn join_at(world: World, sides: Sides, tiles: &[u8], at: usize, pos: vec2) -> Answer
+    requires { ⌜ T (isMap sides (now tiles)) × (at < seats) ⌝ }
+    ensures { λ r. ⌜ r ≡ joinAt world sides (now (tiles .entry)) at pos ⌝ }
+{
+    let box_ = vec2::new(CHARACTER_SIZE, CHARACTER_SIZE);
+    if check_box(sides, tiles, pos, box_) {
+        return refused(world, 5);
+    }
+    let slot = world.slots[at];
+    if slot.present {
+        return refused(world, 7);
+    }
+    let joined = Slot {
+        present: true,
+        character: Character::spawn(pos),
+        input: no_input(),
+    };
+    accepted(with_slot(world, at, joined))
+}

@@ -1,0 +1,72 @@
+-- Whatever numbers a buffer holds, they stand for a world as calls reach one, which so comes back from its own. Assumes nothing.
+use Prim.Native.Nat.{ℕ, zero, suc, _+_, _*_, _<_}
+use mathlib.Core.Bool.{Bool, true, false, cond, true≢false}
+use mathlib.Core.List.{List}
+use mathlib.Core.Path.{_≡_, refl, sym, ap, _∙_, subst}
+use native.Mathlib.Omega.{arith}
+use lib.Dec.{lit<}
+use lib.IntN.{ℤ, pos, negsuc}
+use lib.ListN.{length, drop, length-take}
+use lib.Seq.{getD-drop}
+use Rattle.num_convert.specs.Casts.{IsI32}
+use Rattle.character.specs.Tick.{slotAt}
+use Rattle.character.specs.declared.Slot.{Slot}
+use Rattle.character.specs.Records.{fromNet}
+use Rattle.character_laws.specs.Representable.{Representable}
+use Rattle.character_laws.proofs.FromNet.{from-net-representable}
+use Rattle.world.specs.World.{emptySlot}
+use Rattle.world.specs.Settled.{Settled}
+use Rattle.world_numbers.specs.Decoding.{numberAt, isPresent, fromZero, readable, seatCore, seatInput, seatOf, seatsOf, decoding, AnyComesBack}
+use Rattle.world_numbers.proofs.Encoded.{Kept, decoding-encoding}
+use Rattle.world_numbers.proofs.Seats.{seat-is}
+
+abbrev AllI32 : List ℤ → Type 0
+AllI32 l = (k : ℕ) → IsI32 (numberAt l k)
+
+drop-i32 : (j : ℕ) (l : List ℤ) → AllI32 l → AllI32 (drop j l)
+drop-i32 j l h = λ k. subst IsI32 (sym (getD-drop j l k (pos 0))) (h (j + k))
+
+from-zero-in : (z : ℤ) → IsI32 z → IsI32 (fromZero z)
+unfolding fromZero
+from-zero-in (pos k) h = h
+from-zero-in (negsuc k) h = lit< tt
+
+not-below-zero : (z : ℤ) (k : ℕ) → fromZero z ≡ negsuc k → ⊥
+unfolding fromZero
+not-below-zero (pos n) k e = let z : _≡_ {A = ℕ} 0 1 = cc in omega arith
+not-below-zero (negsuc n) k e = let z : _≡_ {A = ℕ} 0 1 = cc in omega arith
+
+-- the record in a seat's numbers makes a representable character: nobody is held below zero
+seat-representable : (l : List ℤ) → AllI32 l → Representable (fromNet (readable (seatCore l)))
+unfolding readable seatCore
+seat-representable l h =
+    from-net-representable (readable (seatCore l))
+    (record { x = h 2; y = h 3; vel-x = h 4; vel-y = h 5; angle = h 6; hooked-player = h 9; hook-tick = from-zero-in (numberAt l 11) (h 11); hook-x = h 12; hook-y = h 13; hook-dx = h 14; hook-dy = h 15 })
+    (λ e. not-below-zero (numberAt l 11) (e .less) (e .ticks))
+
+seat-kept : (l : List ℤ) → AllI32 l → Kept (seatOf l)
+unfolding seatOf emptySlot
+seat-kept l h = go (isPresent (numberAt l 0))
+  where
+    go : (b : Bool) → Kept (cond b (record { present = true; character = fromNet (readable (seatCore l)); input = seatInput l }) emptySlot)
+    go true = record { somebody = λ e. seat-representable l h; nobody = λ e. absurd (true≢false e) }
+    go false = record { somebody = λ e. absurd (true≢false (sym e)); nobody = λ e. refl }
+
+seats-long : (n : ℕ) (l : List ℤ) → length (seatsOf n l) ≡ n
+unfolding seatsOf
+seats-long zero l = refl
+seats-long (suc n) l = ap suc (seats-long n (drop 21 l))
+
+pub decoding-settled : (n : ℕ) (l : List ℤ) → length l ≡ 18 + 21 * n → AllI32 l → Settled n (decoding n l)
+unfolding decoding
+decoding-settled n l e h =
+    let kept : (k : ℕ) → k < n → Kept (slotAt (decoding n l .slots) k) = λ k q. subst Kept (sym (seat-is n k l q)) (seat-kept (drop (18 + 21 * k) l) (drop-i32 (18 + 21 * k) l h)) in
+    record {
+      seats = seats-long n (drop 18 l);
+      tunings = length-take 18 l ∙ omega arith;
+      representable = λ k q. kept k q .somebody;
+      empty = λ k q. kept k q .nobody;
+    }
+
+pub any-comes-back : (n : ℕ) → AnyComesBack n
+any-comes-back n l e h = decoding-encoding n (decoding n l) (decoding-settled n l e h)

@@ -1,0 +1,4 @@
+pub mod Rows
+pub mod Seats
+pub mod Encoded
+pub mod Any

@@ -1,0 +1,51 @@
+-- `world_numbers::decoding::seat_at` meets its contract. Assumes nothing.
+use Prim.Native.Nat.{_+_, _*_, _-_}
+use mathlib.Core.Path.{ap, _∙_}
+use native.Mathlib.Omega.{arith}
+use lib.ListN.{length, drop, length-drop}
+use lib.Seq.{take-all}
+use Rattle.world_numbers.specs.Decoding.{seatOf}
+use borrow.Author.Needs.{needs}
+use Rattle.world_numbers.proofs.decoding.seat_at.Statement.{statement}
+use Rattle.world_numbers.proofs.decoding.seat_at.Tie as tie
+
+mul-at : tie.Need-mul-at
+mul-at c = search needs
+
+add-at : tie.Need-add-at
+add-at c = search needs
+
+mul-seat-of : tie.Need-mul-seat-of
+mul-seat-of c = search needs
+
+sub-seat-of : tie.Need-sub-seat-of
+sub-seat-of c = search needs
+
+part-seat-of-start : tie.Need-part-seat-of-start
+part-seat-of-start c = search needs
+
+part-seat-of-end : tie.Need-part-seat-of-end
+part-seat-of-end c = search needs
+
+seat-of-requires : tie.Need-seat-of-requires
+seat-of-requires c κs = search needs
+
+returns : tie.Need-returns
+returns c =
+    let a = c .before .before .args in
+    let k = 18 + 21 * a .id in
+    let ns = a .numbers .now in
+    c .seat-of .ensures ∙ ap seatOf (take-all (length ns - k) (drop k ns) (omega (arith, length-drop k ns)))
+
+pub seat-at-spec : {M : Type 1} → statement M
+seat-at-spec =
+    tie.close
+    (tie.spec
+    mul-at
+    add-at
+    mul-seat-of
+    sub-seat-of
+    part-seat-of-start
+    part-seat-of-end
+    seat-of-requires
+    returns)

@@ -1,0 +1,35 @@
+-- `world_numbers::decoding::tunings_of` meets its contract. Assumes nothing.
+use mathlib.Core.Path.{sym, _∙_}
+use native.Mathlib.Omega.{arith}
+use lib.ListN.{take}
+use lib.Seq.{take-all, length-take-le}
+use Rattle.base_rows.proofs.Pastes.{first-row}
+use borrow.Author.Needs.{needs}
+use Rattle.world_numbers.proofs.decoding.tunings_of.Statement.{statement}
+use Rattle.world_numbers.proofs.decoding.tunings_of.Tie as tie
+
+slice-aggregate-copy : tie.Need-slice-aggregate-copy
+slice-aggregate-copy c = search needs
+
+sub-copy : tie.Need-sub-copy
+sub-copy c = search needs
+
+part-copy-start : tie.Need-part-copy-start
+part-copy-start c = search needs
+
+part-copy-end : tie.Need-part-copy-end
+part-copy-end c = search needs
+
+copy-requires : tie.Need-copy-requires
+copy-requires c κs = search needs
+
+returns : tie.Need-returns
+returns c =
+    let k = c .before .copy in
+    let ns = c .before .before .before .before .args .numbers .now in
+    sym (take-all 18 (k .last .0) (omega (arith, k .kept .0))) ∙ first-row 18 _ (k .last .0) (take 18 ns) (length-take-le 18 ns (omega arith)) (k .ensures)
+
+pub tunings-of-spec : {M : Type 1} → statement M
+tunings-of-spec =
+    tie.close
+    (tie.spec slice-aggregate-copy sub-copy part-copy-start part-copy-end copy-requires returns)

@@ -1,0 +1,88 @@
+-- A list of numbers as a world of n seats: the way back from `encoding` (world_numbers/specs/Encoding.antt). Definitions only.
+use Prim.Native.Nat.{ℕ, zero, suc, _+_, _*_}
+use mathlib.Core.Bool.{Bool, true, false, cond}
+use mathlib.Core.List.{List, [], _∷_}
+use mathlib.Core.Path.{_≡_}
+use lib.IntN.{ℤ, pos, negsuc}
+use lib.ListN.{length, take, drop, getD}
+use Rattle.num_convert.specs.Casts.{IsI32}
+use Rattle.map_tiles.specs.declared.tiles.Sides.{Sides}
+use Rattle.world.specs.declared.call.Call.{Call}
+use Rattle.game_records.specs.declared.CharacterCore.{CharacterCore}
+use Rattle.game_records.specs.declared.PlayerInput.{PlayerInput}
+use Rattle.character.specs.declared.Slot.{Slot}
+use Rattle.character.specs.Records.{fromNet}
+use Rattle.world.specs.World.{tuningCount, emptySlot, fresh}
+use Rattle.world.specs.Demand3.{after}
+use Rattle.world.specs.declared.World.{World}
+use Rattle.world_numbers.specs.Encoding.{seatCount, encoding}
+
+-- the k-th number, 0 past the end
+abbrev pub numberAt : List ℤ → ℕ → ℤ
+numberAt l k = getD l k (pos 0)
+
+-- whether a seat's first number says that somebody is there
+unfoldable pub isPresent : ℤ → Bool
+isPresent (pos zero) = false
+isPresent (pos (suc k)) = true
+isPresent (negsuc k) = true
+
+-- what is below zero reads as 0
+unfoldable pub fromZero : ℤ → ℤ
+fromZero (pos k) = pos k
+fromZero (negsuc k) = pos 0
+
+-- n with another hook tick
+abbrev pub withTicks : CharacterCore → ℤ → CharacterCore
+withTicks n t = record { tick = n .tick; x = n .x; y = n .y; «vel_x» = n .«vel_x»; «vel_y» = n .«vel_y»; angle = n .angle; direction = n .direction; jumped = n .jumped; «hooked_player» = n .«hooked_player»; «hook_state» = n .«hook_state»; «hook_tick» = record { 0 = t }; «hook_x» = n .«hook_x»; «hook_y» = n .«hook_y»; «hook_dx» = n .«hook_dx»; «hook_dy» = n .«hook_dy» }
+
+-- a hook tick below zero reads as 0: else somebody could be held for so many ticks that no record holds them
+unfoldable pub readable : CharacterCore → CharacterCore
+readable n = withTicks n (fromZero (n .«hook_tick» .0))
+
+-- the record in the numbers of a seat, after its presence
+unfoldable pub seatCore : List ℤ → CharacterCore
+seatCore l = record {
+  tick = numberAt l 1;
+  x = numberAt l 2;
+  y = numberAt l 3;
+  «vel_x» = numberAt l 4;
+  «vel_y» = numberAt l 5;
+  angle = numberAt l 6;
+  direction = numberAt l 7;
+  jumped = numberAt l 8;
+  «hooked_player» = numberAt l 9;
+  «hook_state» = numberAt l 10;
+  «hook_tick» = record { 0 = numberAt l 11 };
+  «hook_x» = numberAt l 12;
+  «hook_y» = numberAt l 13;
+  «hook_dx» = numberAt l 14;
+  «hook_dy» = numberAt l 15;
+}
+
+-- the input after the record
+unfoldable pub seatInput : List ℤ → PlayerInput
+seatInput l = record { direction = numberAt l 16; «target_x» = numberAt l 17; «target_y» = numberAt l 18; jump = numberAt l 19; hook = numberAt l 20 }
+
+-- the seat whose numbers l starts with; where nobody is there the rest of them says nothing
+unfoldable pub seatOf : List ℤ → Slot
+seatOf l = cond (isPresent (numberAt l 0)) (record { present = true; character = fromNet (readable (seatCore l)); input = seatInput l }) emptySlot
+
+-- n seats, one after the other
+unfoldable pub seatsOf : ℕ → List ℤ → List Slot
+seatsOf zero l = []
+seatsOf (suc n) l = seatOf l ∷ seatsOf n (drop seatCount l)
+
+-- the tunings, then n seats
+unfoldable pub decoding : ℕ → List ℤ → World
+decoding n l = record { slots = seatsOf n (drop tuningCount l); tunings = take tuningCount l }
+
+-- ---- both in turn
+
+-- a world that calls can reach, whatever the map, comes back from its numbers
+abbrev pub ComesBack : ℕ → Type 0
+ComesBack n = (s : Sides) (ts : List ℕ) (cs : List Call) → decoding n (encoding (after n s ts (fresh n) cs)) ≡ after n s ts (fresh n) cs
+
+-- so does the world that any numbers stand for, whoever wrote them
+abbrev pub AnyComesBack : ℕ → Type 0
+AnyComesBack n = (l : List ℤ) → length l ≡ tuningCount + seatCount * n → ((k : ℕ) → IsI32 (numberAt l k)) → decoding n (encoding (decoding n l)) ≡ decoding n l

@@ -1,0 +1,66 @@
+-- A world as a list of numbers, and the records of a step as one. Definitions only; the way back is `decoding` (world_numbers/specs/Decoding.antt).
+use Prim.Native.Nat.{ℕ, _+_, _*_}
+use mathlib.Core.Bool.{Bool, cond}
+use mathlib.Core.List.{List, [], _∷_, _++_}
+use lib.IntN.{ℤ, pos}
+use Rattle.game_records.specs.declared.CharacterCore.{CharacterCore}
+use Rattle.game_records.specs.Numbers.{coreCount, inputCount, coreNumbers, inputNumbers}
+use Rattle.character.specs.Tick.{seats}
+use Rattle.character.specs.declared.Slot.{Slot}
+use Rattle.character.specs.Records.{toNet}
+use Rattle.character.specs.declared.records.Net.{Net}
+use Rattle.character.specs.declared.records.Net.the-variants as net
+use Rattle.world.specs.World.{tuningCount}
+use Rattle.world.specs.Step.{noCore}
+use Rattle.world.specs.declared.Published.{Published}
+use Rattle.world.specs.declared.World.{World}
+
+-- ---- how many numbers there are
+
+-- of a seat among the records of a step: its presence and its record
+abbrev pub recordCount : ℕ
+recordCount = 1 + coreCount
+
+-- of a seat in a world: the same and its input
+abbrev pub seatCount : ℕ
+seatCount = recordCount + inputCount
+
+-- in a world
+abbrev pub worldCount : ℕ
+worldCount = tuningCount + seatCount * seats
+
+-- in the records of a step
+abbrev pub recordsCount : ℕ
+recordsCount = recordCount * seats
+
+-- ---- which they are
+
+-- f of each, one after the other
+unfoldable pub each : {A : Type 0} → (A → List ℤ) → List A → List ℤ
+each f [] = []
+each f (x ∷ xs) = f x ++ each f xs
+
+-- 1 for somebody, 0 for nobody
+abbrev pub presence : Bool → ℤ
+presence b = cond b (pos 1) (pos 0)
+
+-- the record that `to_net` answers; an empty one where it refuses, which no world does that calls reach or numbers stand for (world_numbers/proofs/Any.antt)
+abbrev pub coreIn : Net → CharacterCore
+coreIn net.TickTooLarge = noCore
+coreIn (net.Core core) = core
+
+-- a seat's presence and record
+unfoldable pub recordNumbers : Published → List ℤ
+recordNumbers p = presence (p .present) ∷ coreNumbers (p .core)
+
+-- a seat's presence, record and input
+unfoldable pub seatNumbers : Slot → List ℤ
+seatNumbers s = presence (s .present) ∷ (coreNumbers (coreIn (toNet (s .character))) ++ inputNumbers (s .input))
+
+-- the tunings, then every seat
+unfoldable pub encoding : World → List ℤ
+encoding w = w .tunings ++ each seatNumbers (w .slots)
+
+-- the records of a step, seat by seat
+unfoldable pub recordsEncoding : List Published → List ℤ
+recordsEncoding rs = each recordNumbers rs

@@ -1,0 +1,134 @@
+// A world out of the numbers of a buffer.
+use crate::encoding::SEAT;
+use base_rows::copy;
+use character::SEATS;
+use character::Slot;
+use character::from_net;
+use game_records::CharacterCore;
+use game_records::PlayerInput;
+use game_records::Tick;
+use game_tuning::TUNINGS;
+use world::World;
+use world_calls::empty_slot;
+ghost use mathlib.Core.Path.{_≡_};
+ghost use Prim.Native.Nat.{_+_, _*_, _≤_, _<_};
+ghost use lib.ListN.{length, take, drop};
+ghost use Rattle.character.specs.Tick.{seats};
+ghost use Rattle.world.specs.World.{tuningCount};
+ghost use Rattle.world_numbers.specs.Encoding.{seatCount, worldCount};
+ghost use Rattle.world_numbers.specs.Decoding.{fromZero, isPresent, readable, seatCore, seatInput, seatOf, seatsOf, decoding};
+
+fn is_present(z: i32) -> bool
+    ensures { λ r. ⌜ r ≡ isPresent z ⌝ }
+{
+    z != 0
+}
+
+fn from_zero(z: i32) -> i32
+    ensures { λ r. ⌜ r ≡ fromZero z ⌝ }
+{
+    if z < 0 { 0 } else { z }
+}
+
+// A hook tick below zero would be held for more ticks than a record holds.
+fn readable(mut core: CharacterCore) -> CharacterCore
+    ensures { λ r. ⌜ r ≡ readable core ⌝ }
+{
+    let ticks = core.hook_tick;
+    let read = Tick(from_zero(ticks.0));
+    core.hook_tick = read;
+    core
+}
+
+// The record of the seat whose numbers a slice starts with.
+fn core_of(seat: &[i32]) -> CharacterCore
+    requires { ⌜ seatCount ≤ length (now seat) ⌝ }
+    ensures { λ r. ⌜ r ≡ seatCore (now (seat .entry)) ⌝ }
+{
+    CharacterCore {
+        tick: seat[1],
+        x: seat[2],
+        y: seat[3],
+        vel_x: seat[4],
+        vel_y: seat[5],
+        angle: seat[6],
+        direction: seat[7],
+        jumped: seat[8],
+        hooked_player: seat[9],
+        hook_state: seat[10],
+        hook_tick: Tick(seat[11]),
+        hook_x: seat[12],
+        hook_y: seat[13],
+        hook_dx: seat[14],
+        hook_dy: seat[15],
+    }
+}
+
+// Its input.
+fn input_of(seat: &[i32]) -> PlayerInput
+    requires { ⌜ seatCount ≤ length (now seat) ⌝ }
+    ensures { λ r. ⌜ r ≡ seatInput (now (seat .entry)) ⌝ }
+{
+    PlayerInput {
+        direction: seat[16],
+        target_x: seat[17],
+        target_y: seat[18],
+        jump: seat[19],
+        hook: seat[20],
+    }
+}
+
+// The seat whose numbers a slice starts with.
+fn seat_of(seat: &[i32]) -> Slot
+    requires { ⌜ seatCount ≤ length (now seat) ⌝ }
+    ensures { λ r. ⌜ r ≡ seatOf (now (seat .entry)) ⌝ }
+{
+    if is_present(seat[0]) {
+        Slot {
+            present: true,
+            character: from_net(readable(core_of(seat))),
+            input: input_of(seat),
+        }
+    } else {
+        empty_slot()
+    }
+}
+
+// The seat with the id `id` of a world's numbers.
+pub fn seat_at(numbers: &[i32], id: usize) -> Slot
+    requires { ⌜ (length (now numbers) ≡ worldCount) × (id < seats) ⌝ }
+    ensures { λ r. ⌜ r ≡ seatOf (drop (tuningCount + seatCount * id) (now (numbers .entry))) ⌝ }
+{
+    let at = TUNINGS + SEAT * id;
+    seat_of(&numbers[at..])
+}
+
+fn seats_of(numbers: &[i32]) -> [Slot; SEATS]
+    requires { ⌜ length (now numbers) ≡ worldCount ⌝ }
+    ensures { λ r. ⌜ r ≡ seatsOf seats (drop tuningCount (now (numbers .entry))) ⌝ }
+{
+    let mut slots = [empty_slot(); SEATS];
+    for id in 0..SEATS {
+        slots[id] = seat_at(numbers, id);
+    }
+    slots
+}
+
+fn tunings_of(numbers: &[i32]) -> [i32; TUNINGS]
+    requires { ⌜ length (now numbers) ≡ worldCount ⌝ }
+    ensures { λ r. ⌜ r ≡ take tuningCount (now (numbers .entry)) ⌝ }
+{
+    let mut tunings = [0i32; TUNINGS];
+    copy(&mut tunings, 0, &numbers[0..TUNINGS]);
+    tunings
+}
+
+pub fn decode(numbers: &[i32]) -> World
+    requires { ⌜ length (now numbers) ≡ worldCount ⌝ }
+    ensures { λ r. ⌜ r ≡ decoding seats (now (numbers .entry)) ⌝ }
+{
+    World {
+        slots: seats_of(numbers),
+        tunings: tunings_of(numbers),
+    }
+}

@@ -1,0 +1,13 @@
+// A world as the numbers of a buffer, and back.
+mod decoding;
+mod encoding;
+
+pub use decoding::decode;
+pub use decoding::seat_at;
+pub use encoding::RECORD;
+pub use encoding::RECORDS;
+pub use encoding::SEAT;
+pub use encoding::WORLD;
+pub use encoding::encode;
+pub use encoding::encode_records;
+pub use encoding::seat_numbers;

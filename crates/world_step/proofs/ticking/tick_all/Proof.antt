@@ -1,0 +1,104 @@
+-- `world_step::ticking::tick_all` meets its contract. Assumes nothing.
+use mathlib.Core.Bool.{true, false}
+use mathlib.Core.List.{List}
+use mathlib.Core.Logic.{⊎-elim}
+use mathlib.Core.Path.{_≡_, sym, ap}
+use Prim.Native.Nat.{ℕ, _-_}
+use native.Mathlib.Omega.{arith}
+use borrow.Author.Needs.{needs}
+use borrow.Author.Tests.{eq-eqb, ne-eqb}
+use Rattle.base_turns.proofs.Loop.{Left, turn-first, turn-on, turn-off, turn-end}
+use Rattle.base_turns.specs.Turns.{more, stop}
+use Rattle.map_tiles.specs.declared.tiles.Sides.{Sides}
+use Rattle.game_tuning.specs.declared.Tuning.{Tuning}
+use Rattle.character.specs.Tick.{seats, slotAt, tickAt}
+use Rattle.character.specs.declared.Slot.{Slot}
+use Rattle.character.specs.declared.tick.Ticked.{Ticked}
+use Rattle.world.specs.Step.{putBack, tickTurn, tickAll}
+use Rattle.world_step.specs.Ticks.{ticksOf}
+use Rattle.world_step.proofs.ticking.tick_all.Statement.{statement}
+use Rattle.world_step.proofs.ticking.tick_all.Tie as tie
+
+-- a turn, on plain values: a tick; a tick that is refused; nobody
+module _ (s : Sides) (ts : List ℕ) (t : Tuning) (j : ℕ) (ss : List Slot) where
+  ticks : (k : Ticked) (us : List Slot) → slotAt ss j .present ≡ true → k ≡ tickAt seats (slotAt ss j .character) j ss s ts (slotAt ss j .input) t → k .number ≡ 0 → us ≡ putBack (k .slots) j (k .me) → tickTurn seats s ts t j ss ≡ more us
+  ticks k us p e z q = simp (p, ← e, eq-eqb (k .number) 0 z, q)
+
+  refuses : (k : Ticked) → slotAt ss j .present ≡ true → k ≡ tickAt seats (slotAt ss j .character) j ss s ts (slotAt ss j .input) t → (k .number ≡ 0 → ⊥) → tickTurn seats s ts t j ss ≡ stop (k .number)
+  refuses k p e z = simp (p, ← e, ne-eqb (k .number) 0 z)
+
+  nobody : (us : List Slot) → slotAt ss j .present ≡ false → us ≡ ss → tickTurn seats s ts t j ss ≡ more us
+  nobody us p q = simp (p, q)
+
+abbrev Inv-loop : tie.InvT-loop
+Inv-loop slots sides tiles tuning all₀ id₀ all id = Left (tickTurn seats sides tiles tuning) seats id all (tickAll seats all₀ sides tiles tuning)
+
+abbrev μ-loop : tie.MeasureT-loop
+μ-loop slots sides tiles tuning all₀ id₀ all id = seats - id
+
+loop-holds : tie.Need-loop-holds Inv-loop μ-loop
+unfolding tickAll
+loop-holds c = turn-first
+
+mul-slot : tie.Need-mul-slot Inv-loop μ-loop
+mul-slot c = search needs
+
+array-copy-out-slot : tie.Need-array-copy-out-slot Inv-loop μ-loop
+array-copy-out-slot c = omega arith
+
+tick-at-requires : tie.Need-tick-at-requires Inv-loop μ-loop
+tick-at-requires c κs = (c .before .before .before .before .before .before .pre, c .before .before .before .loop-test .taken)
+
+returns : tie.Need-returns Inv-loop μ-loop
+returns c =
+    let a = c .before .before .before .before .before .before .before .before .before .args in
+    let l = c .before .before .before .before .before .before .before .loop in
+    sym (ap (ticksOf (a .slots)) (turn-off (l .inv) (c .before .before .before .before .before .before .loop-test .taken) (refuses (a .sides) (a .tiles .now) (a .tuning) (l .id) (l .all) (c .before .before .tick-at .result) (c .before .before .before .before .if1 .taken) (c .before .before .tick-at .ensures) (c .if2 .taken))))
+
+mul-changed : tie.Need-mul-changed Inv-loop μ-loop
+mul-changed c = search needs
+
+array-copy-out-changed : tie.Need-array-copy-out-changed Inv-loop μ-loop
+array-copy-out-changed c = omega (arith, c .before .before .before .before .before .before .before .loop-test .taken)
+
+mul-all : tie.Need-mul-all Inv-loop μ-loop
+mul-all c = search needs
+
+array-set-from-all : tie.Need-array-set-from-all Inv-loop μ-loop
+array-set-from-all c = omega (arith, c .before .before .before .before .before .before .before .before .before .loop-test .taken)
+
+add-id : tie.Need-add-id Inv-loop μ-loop
+add-id c = omega arith
+
+loop-less : tie.Need-loop-less Inv-loop μ-loop
+loop-less c = omega arith
+
+loop-again : tie.Need-loop-again Inv-loop μ-loop
+loop-again c =
+    let a = c .before .before .before .before .before .args in
+    let l = c .before .before .before .loop in
+    turn-on (l .inv) (c .before .before .loop-test .taken)
+    (⊎-elim (λ w. ticks (a .sides) (a .tiles .now) (a .tuning) (l .id) (l .all) (w .2 .result) _ (w .0 .taken) (w .2 .ensures) (w .4 .left) (w .8)) (λ w. nobody (a .sides) (a .tiles .now) (a .tuning) (l .id) (l .all) _ (w .0 .left) (w .1)) (c .if1 .came))
+
+returns-2 : tie.Need-returns-2 Inv-loop μ-loop
+returns-2 c = sym (ap (ticksOf (c .before .before .before .args .slots)) (turn-end (c .before .loop .inv) (c .loop-test .left)))
+
+pub tick-all-spec : {M : Type 1} → statement M
+tick-all-spec =
+    tie.close
+    (tie.spec
+    Inv-loop
+    μ-loop
+    loop-holds
+    mul-slot
+    array-copy-out-slot
+    tick-at-requires
+    returns
+    mul-changed
+    array-copy-out-changed
+    mul-all
+    array-set-from-all
+    add-id
+    loop-less
+    loop-again
+    returns-2)

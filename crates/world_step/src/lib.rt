@@ -1,0 +1,9 @@
+// Step: all tick, then all move and are quantized; and any of the five calls on a world.
+mod calling;
+mod moving;
+mod steps;
+mod ticking;
+
+pub use calling::run_call;
+pub use moving::unpublished;
+pub use steps::step;

@@ -1,0 +1,115 @@
+// The second half of a step: by rising id each moves and is quantized.
+use character::Moved;
+use character::Net;
+use character::SEATS;
+use character::Slot;
+use character::from_net;
+use character::to_net;
+use game_records::CharacterCore;
+use game_records::Tick;
+use game_tuning::Tuning;
+use map_tiles::Sides;
+use world::Published;
+use world::Recorded;
+ghost use mathlib.Core.Path.{_≡_};
+ghost use lib.Dec.{T};
+ghost use Rattle.map_tiles.specs.Map.{isMap};
+ghost use Rattle.character.specs.Tick.{seats};
+ghost use Rattle.world.specs.Step.{unpublished, ofNet, recordOf, movingFrom, moveAll};
+ghost use Rattle.world_step.specs.Moves.{movesOf};
+
+// The slots and the records after all moves; where one is refused, its number.
+pub struct Moves {
+    pub done: bool,
+    pub number: u32,
+    pub slots: [Slot; SEATS],
+    pub records: [Published; SEATS],
+}
+
+pub fn unpublished() -> Published
+    ensures { λ r. ⌜ r ≡ unpublished ⌝ }
+{
+    Published {
+        present: false,
+        core: CharacterCore {
+            tick: 0,
+            x: 0,
+            y: 0,
+            vel_x: 0,
+            vel_y: 0,
+            angle: 0,
+            direction: 0,
+            jumped: 0,
+            hooked_player: 0,
+            hook_state: 0,
+            hook_tick: Tick(0),
+            hook_x: 0,
+            hook_y: 0,
+            hook_dx: 0,
+            hook_dy: 0,
+        },
+    }
+}
+
+// By rising id each moves and is quantized.
+pub fn move_all(slots: [Slot; SEATS], sides: Sides, tiles: &[u8], tuning: Tuning) -> Moves
+    requires { ⌜ T (isMap sides (now tiles)) ⌝ }
+    ensures { λ r. ⌜ r ≡ movesOf (movingFrom seats slots) (moveAll seats slots sides (now (tiles .entry)) tuning) ⌝ }
+{
+    let none = [unpublished(); SEATS];
+    let mut all = slots;
+    let mut records = none;
+    for j in 0..SEATS {
+        let slot = all[j];
+        if slot.present {
+            let me = slot.character;
+            match record_of(me.move_at(j, all, sides, tiles, tuning)) {
+                Recorded::Refused(number) => {
+                    return Moves {
+                        done: false,
+                        number,
+                        slots,
+                        records: none,
+                    };
+                }
+                Recorded::Core(core) => {
+                    let mut changed = slot;
+                    changed.character = from_net(core);
+                    all[j] = changed;
+                    let record = Published {
+                        present: true,
+                        core,
+                    };
+                    records[j] = record;
+                }
+            }
+        }
+    }
+    Moves {
+        done: true,
+        number: 0,
+        slots: all,
+        records,
+    }
+}
+
+// The record of what a move left, or the number that refuses it.
+fn record_of(moved: Moved) -> Recorded
+    ensures { λ r. ⌜ r ≡ recordOf moved ⌝ }
+{
+    match moved {
+        Moved::BadMap => Recorded::Refused(1),
+        Moved::BadId => Recorded::Refused(2),
+        Moved::TooFar => Recorded::Refused(9),
+        Moved::To(left) => of_net(to_net(left)),
+    }
+}
+
+fn of_net(net: Net) -> Recorded
+    ensures { λ r. ⌜ r ≡ ofNet net ⌝ }
+{
+    match net {
+        Net::TickTooLarge => Recorded::Refused(10),
+        Net::Core(core) => Recorded::Core(core),
+    }
+}

@@ -1,0 +1,50 @@
+// The first half of a step: every present id by rising id ticks.
+use character::SEATS;
+use character::Slot;
+use game_tuning::Tuning;
+use map_tiles::Sides;
+ghost use mathlib.Core.Path.{_≡_};
+ghost use lib.Dec.{T};
+ghost use Rattle.map_tiles.specs.Map.{isMap};
+ghost use Rattle.character.specs.Tick.{seats};
+ghost use Rattle.world.specs.Step.{tickAll};
+ghost use Rattle.world_step.specs.Ticks.{ticksOf};
+
+// The slots after all ticks; where one is refused, its number, and the slots as they were.
+pub struct Ticks {
+    pub done: bool,
+    pub number: u32,
+    pub slots: [Slot; SEATS],
+}
+
+// Every present id by rising id ticks.
+pub fn tick_all(slots: [Slot; SEATS], sides: Sides, tiles: &[u8], tuning: Tuning) -> Ticks
+    requires { ⌜ T (isMap sides (now tiles)) ⌝ }
+    ensures { λ r. ⌜ r ≡ ticksOf slots (tickAll seats slots sides (now (tiles .entry)) tuning) ⌝ }
+{
+    let mut all = slots;
+    for id in 0..SEATS {
+        let slot = all[id];
+        if slot.present {
+            let me = slot.character;
+            let ticked = me.tick_at(id, all, sides, tiles, slot.input, tuning);
+            if ticked.number != 0 {
+                return Ticks {
+                    done: false,
+                    number: ticked.number,
+                    slots,
+                };
+            }
+            all = ticked.slots;
+            let mut changed = all[id];
+            let after = ticked.me;
+            changed.character = after;
+            all[id] = changed;
+        }
+    }
+    Ticks {
+        done: true,
+        number: 0,
+        slots: all,
+    }
+}
