@@ -5,7 +5,7 @@ ghost use mathlib.Core.Path.{_≡_};
 ghost use Rattle.character.specs.Tick.{seats};
 ghost use Rattle.world.specs.World.{fresh};
 ghost use Rattle.world.specs.Calls.{accepted, join, leave, input, tune};
-ghost use Rattle.world.specs.Demand3.{inputOf};
+ghost use Rattle.world.specs.Run.{inputOf};
 ghost use Rattle.game_records.specs.Numbers.{coreCount, inputCount};
 ghost use Rattle.world_buffers.specs.Buffers.{callIn, stepIn};
 ghost use Rattle.world_buffers.specs.Readers.{readIn, recordOf, tuningIn};

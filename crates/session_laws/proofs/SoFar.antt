@@ -14,15 +14,15 @@ use Rattle.text_writing.specs.Put.{put, Put}
 use Rattle.text_writing.proofs.Puts.{put-none}
 use Rattle.text_writing.proofs.Sizes.{put-after}
 use Rattle.world.specs.World.{fresh}
-use Rattle.world_step.specs.Calling.{ran}
-use Rattle.text_writing.specs.Answers.{ranBytes}
+use Rattle.world.specs.Run.{ran, toldBy}
+use Rattle.text_writing.specs.Answers.{toldBytes}
 use Rattle.session_laws.specs.Session.{End, ended, fault, Text, session, StandsFor, Passed}
 use Rattle.session_laws.proofs.Reading.{passed-call, passed-end, passed-fault}
 use Rattle.session_run.specs.Line.{LineRan}
 use Rattle.session_run.specs.Session.{LinesRan}
 use Rattle.session_run.specs.declared.session_lines.Session.{Session}
 use Rattle.session_run.specs.declared.session_lines.Turned.{Turned}
-use Rattle.session_laws.specs.Output.{callsLines, faultLine, endLines, output}
+use Rattle.session_laws.specs.Output.{toldLines, callsLines, faultLine, endLines, output}
 use Rattle.session_laws.specs.Played.{Played}
 
 -- bytes that were put at the start of a buffer stand there
@@ -47,7 +47,7 @@ module _ {n : ℕ} {text : List ℕ} {s : Sides} {ts : List ℕ} where
 
   -- a line more
   after-line : {b : Session} {out d e : List ℕ} {at : ℕ} {r : Turned} → SoFar n text s ts b out → b .done ≡ false → LineRan n text s ts b d at r e → (w : List ℕ) × Put d at w e (r .next) × SoFar n text s ts (r .session) (out ++ w)
-  unfolding callsLines
+  unfolding toldLines
   after-line (over t done stands is) live l = absurd (true≢false (sym done ∙ live))
   after-line {b} {out} {d} {at = at} (going cs _ p due a) _ (LineRan.end past is same) =
       let q = ap (λ (t : Turned). t .next) is in
@@ -55,7 +55,7 @@ module _ {n : ℕ} {text : List ℕ} {s : Sides} {ts : List ℕ} where
   after-line {b} {out} (going cs _ p due a) _ (LineRan.fault before none is written) =
       (faultLine (b .call), written, at-end out (b .call) cs fault (ap (λ (t : Turned). t .session .done) is) (passed-fault p before refl none) due (a []))
   after-line {b} {out} (going cs _ p due a) _ (LineRan.call c past before there is written) =
-      let w : List ℕ = ranBytes n (pos (b .call)) (ran n s ts (b .world) c) in
+      let w : List ℕ = toldBytes n (pos (b .call)) (toldBy (ran n s ts (b .world) c)) in
       let others : List Call → List ℕ = callsLines n s ts (ran n s ts (b .world) c .world) (b .call + 1) in
       let more : (ds : List Call) → callsLines n s ts (fresh n) 1 ((cs ++ (c ∷ [])) ++ ds) ≡ (out ++ w) ++ others ds = λ ds. ap (callsLines n s ts (fresh n) 1) (append-assoc cs (c ∷ []) ds) ∙ a (c ∷ ds) ∙ sym (append-assoc out w (others ds)) in
       (w, written, subst (λ (t : Turned). SoFar n text s ts (t .session) (out ++ w)) (sym is) (going (cs ++ (c ∷ [])) refl (passed-call p c past refl there) (omega (arith, length-append cs (c ∷ []))) more))

@@ -16,7 +16,7 @@ use Rattle.session_run.specs.Start.{Began}
 use Rattle.session_run.specs.declared.session_lines.Session.{Session}
 use Rattle.session_run.specs.declared.session_lines.Turned.{Turned}
 use Rattle.session_run.specs.declared.start.Begun.{Begun}
-use Rattle.session_laws.specs.Output.{callsLines, faultLine, output}
+use Rattle.session_laws.specs.Output.{toldLines, faultLine, output}
 use Rattle.session_laws.specs.Played.{Started, WholeOutput}
 use Rattle.session_laws.proofs.SoFar.{put-first, SoFar, going, over, after-turns}
 
@@ -26,7 +26,7 @@ Put0 w e next = (d : List ℕ) × Put d 0 w e next
 
 -- a session that starts has written the heading, and nothing more unless its map is at fault
 pub after-start : {n : ℕ} {text ts d : List ℕ} {r : Begun} {e : List ℕ} → Began n text ts d r e → (w : List ℕ) × Put d 0 (heading ++ w) e (r .first .next) × SoFar n text (r .sides) (take (r .count) ts) (r .first .session) w
-unfolding callsLines output
+unfolding toldLines output
 after-start {text = text} {ts} (Began.fault m k none p q is) =
     (faultLine 1, put-after (omega arith) p q, over noMap (ap (λ (b : Begun). b .first .session .done) is) (no-map text ts refl none) refl)
 after-start {n} {text} {ts} (Began.map w h next there p is) =

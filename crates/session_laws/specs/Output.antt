@@ -8,14 +8,18 @@ use Rattle.world.specs.declared.call.Call.{Call}
 use Rattle.text_writing.specs.Output.{heading, answerBytes}
 use Rattle.world.specs.World.{fresh}
 use Rattle.world.specs.declared.World.{World}
-use Rattle.world_step.specs.Calling.{ran}
-use Rattle.text_writing.specs.Answers.{ranBytes}
+use Rattle.world.specs.Run.{Told, told}
+use Rattle.text_writing.specs.Answers.{toldBytes}
 use Rattle.session_laws.specs.Session.{End, ended, fault, Text, noMap, session, dueCall}
 
--- the lines of calls that are run one after another on one map, from the world w on; the first call has the number k
-unfoldable pub callsLines : ℕ → Sides → List ℕ → World → ℕ → List Call → List ℕ
-callsLines n s ts w k [] = []
-callsLines n s ts w k (c ∷ cs) = ranBytes n (pos k) (ran n s ts w c) ++ callsLines n s ts (ran n s ts w c .world) (k + 1) cs
+-- the lines of what calls told, one after another; the first call has the number k
+unfoldable pub toldLines : ℕ → ℕ → List Told → List ℕ
+toldLines n k [] = []
+toldLines n k (t ∷ ts) = toldBytes n (pos k) t ++ toldLines n (k + 1) ts
+
+-- the lines of calls that are run on one map, from the world w on
+abbrev pub callsLines : ℕ → Sides → List ℕ → World → ℕ → List Call → List ℕ
+callsLines n s ts w k cs = toldLines n k (told n s ts w cs)
 
 -- the line of text at fault, where the call with the number k is due
 abbrev pub faultLine : ℕ → List ℕ

@@ -12,8 +12,8 @@ use Rattle.text_reading.specs.declared.call_lines.CallLine.the-variants as line
 use Rattle.text_writing.specs.Output.{answerBytes}
 use Rattle.text_writing.specs.Put.{Put}
 use Rattle.world.specs.declared.World.{World}
-use Rattle.world_step.specs.Calling.{ran}
-use Rattle.text_writing.specs.Answers.{ranBytes}
+use Rattle.world.specs.Run.{ran, toldBy}
+use Rattle.text_writing.specs.Answers.{toldBytes}
 use Rattle.session_run.specs.declared.session_lines.Session.{Session}
 use Rattle.session_run.specs.declared.session_lines.Turned.{Turned}
 
@@ -31,4 +31,4 @@ pub data LineRan (n : ℕ) (text : List ℕ) (s : Sides) (ts : List ℕ) (b : Se
   -- no call stands there: text at fault, with the number of the call that is due
   fault : b .place < length text → CallAt text (b .place) line.Fault → r ≡ endedAt (b .call) (b .place) (b .world) (r .next) → Put d at (answerBytes (pos (b .call)) (pos (lineNumber line.Fault))) e (r .next) → LineRan n text s ts b d at r e
   -- a call: it is run, and its answer is written
-  call : (c : Call) (past : ℕ) → b .place < length text → CallAt text (b .place) (line.Read c past) → r ≡ goesOn (b .call + 1) past (ran n s ts (b .world) c .world) (r .next) → Put d at (ranBytes n (pos (b .call)) (ran n s ts (b .world) c)) e (r .next) → LineRan n text s ts b d at r e
+  call : (c : Call) (past : ℕ) → b .place < length text → CallAt text (b .place) (line.Read c past) → r ≡ goesOn (b .call + 1) past (ran n s ts (b .world) c .world) (r .next) → Put d at (toldBytes n (pos (b .call)) (toldBy (ran n s ts (b .world) c))) e (r .next) → LineRan n text s ts b d at r e

@@ -4,7 +4,7 @@ use map_tiles::Sides;
 use text_reading::CallLine;
 use text_reading::next_call;
 use text_writing::put_answer;
-use text_writing::put_ran;
+use text_writing::put_told;
 use world::World;
 use world_step::run_call;
 ghost use mathlib.Core.Path.{_≡_};
@@ -52,7 +52,7 @@ pub fn run_line(
         }
         CallLine::Read(line, past) => {
             let ran = run_call(world, sides, tiles, line);
-            let next = put_ran(buf, at, call as i32, ran);
+            let next = put_told(buf, at, call as i32, ran);
             let after = ran.world;
             goes_on(call + 1, past, after, next)
         }

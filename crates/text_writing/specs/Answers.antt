@@ -9,7 +9,7 @@ use Rattle.base_turns.specs.Turns.{fold}
 use Rattle.num_convert.specs.Casts.{castSigned}
 use Rattle.world.specs.Demand3.{recordAt}
 use Rattle.world.specs.declared.Published.{Published}
-use Rattle.world.specs.declared.Stepped.{Stepped}
+use Rattle.world.specs.Run.{Told}
 use Rattle.text_writing.specs.Output.{recordBytes, answerBytes}
 
 -- the line of the record of the seat k is put after the lines w, if there is one
@@ -21,5 +21,5 @@ unfoldable pub recordLines : ℕ → ℤ → List Published → List ℕ
 recordLines n call rs = fold (lineTurn call rs) n 0 []
 
 -- where there is no record, a line with the answer alone
-unfoldable pub ranBytes : ℕ → ℤ → Stepped → List ℕ
-ranBytes n call r = let lines = recordLines n call (r .records) in cond (eqb (length lines) 0) (answerBytes call (castSigned (r .number))) lines
+unfoldable pub toldBytes : ℕ → ℤ → Told → List ℕ
+toldBytes n call r = let lines = recordLines n call (r .records) in cond (eqb (length lines) 0) (answerBytes call (castSigned (r .number))) lines

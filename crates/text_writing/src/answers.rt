@@ -9,12 +9,13 @@ ghost use Prim.Native.Nat.{_+_, _*_, _≤_};
 ghost use lib.ListN.{length};
 ghost use Rattle.character.specs.Tick.{seats};
 ghost use Rattle.text_writing.specs.Put.{Put};
-ghost use Rattle.text_writing.specs.Answers.{recordLines, ranBytes};
+ghost use Rattle.world.specs.Run.{toldBy};
+ghost use Rattle.text_writing.specs.Answers.{recordLines, toldBytes};
 
 // Puts the lines of a call's answer into buf from `at` on, and answers the place past them.
-pub fn put_ran(buf: &mut [u8], at: usize, call: i32, ran: Stepped) -> usize
+pub fn put_told(buf: &mut [u8], at: usize, call: i32, ran: Stepped) -> usize
     requires { ⌜ at + 216 * seats ≤ length (now buf) ⌝ }
-    ensures { λ r. ⌜ Put (now (buf .entry)) at (ranBytes seats call ran) (now (buf .exit)) r ⌝ }
+    ensures { λ r. ⌜ Put (now (buf .entry)) at (toldBytes seats call (toldBy ran)) (now (buf .exit)) r ⌝ }
 {
     let records = ran.records;
     let end = put_records(buf, at, call, records);

@@ -4,7 +4,7 @@ mod line;
 mod output_lines;
 mod value;
 
-pub use answers::put_ran;
+pub use answers::put_told;
 pub use output_lines::MOST_LINE;
 pub use output_lines::put_answer;
 pub use output_lines::put_heading;

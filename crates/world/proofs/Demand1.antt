@@ -13,7 +13,7 @@ use Rattle.world.specs.declared.call.Call.the-variants.{Join, Leave, Inp
 use Rattle.world.specs.World.{tuningCount, withTuning}
 use Rattle.world.specs.Calls.{refused, accepted, placeOf, tune}
 use Rattle.world.specs.Demand1.{Demand1}
-use Rattle.world.specs.Demand3.{inputOf}
+use Rattle.world.specs.Run.{inputOf}
 use Rattle.world.specs.Step.{Moving, tickAll, moveAll, stepRefused, stepAnswer, stepOn, step}
 use Rattle.world.specs.declared.Answer.{Answer}
 use Rattle.world.specs.declared.World.{World}

@@ -23,7 +23,8 @@ use Rattle.character_laws.proofs.Slots.{set-others, replicate-every}
 use Rattle.world.specs.World.{emptySlot, fresh, tuningCount, playerCollision, withSlot, withTuning}
 use Rattle.world.specs.Calls.{refused, accepted, placeOf, pointOf}
 use Rattle.world.specs.Calls as calls
-use Rattle.world.specs.Demand3.{inputOf, answer, after, collisionAfter, CollisionOff, presentAfter, present, CornersClear, StepFaithful, StepsFaithful, Demand3}
+use Rattle.world.specs.Run.{inputOf, ran, after}
+use Rattle.world.specs.Demand3.{collisionAfter, CollisionOff, presentAfter, present, CornersClear, StepFaithful, StepsFaithful, Demand3}
 use Rattle.world.specs.Settled.{Settled}
 use Rattle.world.specs.declared.Answer.{Answer}
 use Rattle.world.specs.declared.World.{World}
@@ -69,9 +70,9 @@ module _ (n : ℕ) (s : Sides) (ts : List ℕ) where
   -- ---- each call
   -- what a call leaves of a world that is reached with player collision z
   record Next (z : ℤ) (w : World) (c : Call) : Type 0 where
-    reached : Reached n s ts (collisionAfter z c) (answer n s ts w c .world)
-    same : (k : ℕ) → slotAt (answer n s ts w c .world .slots) k .present ≡ presentAfter n k (slotAt (w .slots) k .present) (answer n s ts w c .number) c
-    told : c ≡ Step → answer n s ts w c .number ≡ 0 → StepFaithful n w s ts
+    reached : Reached n s ts (collisionAfter z c) (ran n s ts w c .world)
+    same : (k : ℕ) → slotAt (ran n s ts w c .world .slots) k .present ≡ presentAfter n k (slotAt (w .slots) k .present) (ran n s ts w c) c
+    told : c ≡ Step → ran n s ts w c .number ≡ 0 → StepFaithful n w s ts (λ k. slotAt (w .slots) k .present)
 
   joined-stands : (w : World) (id x y : ℤ) → Joins n w s ts id x y → Standing s ts (joined (pointOf x y))
   unfolding spawn
@@ -80,7 +81,7 @@ module _ (n : ℕ) (s : Sides) (ts : List ℕ) where
   join-next : (z : ℤ) (w : World) (id x y : ℤ) → Settled n w → Reached n s ts z w → Next z w (Join id x y)
   join-next z w id x y g h =
       let j = placeOf n id in
-      let a = answer n s ts w (Join id x y) in
+      let a = calls.join n w s ts id x y in
       let o = join-outcome n w s ts id x y in
       record {
         reached = slot-reached z w j (joined (pointOf x y)) a o h (joined-stands w id x y);
@@ -92,7 +93,7 @@ module _ (n : ℕ) (s : Sides) (ts : List ℕ) where
   unfolding emptySlot
   leave-next z w id g h =
       let j = placeOf n id in
-      let a = answer n s ts w (Leave id) in
+      let a = calls.leave n w id in
       let o = leave-outcome n w id in
       record {
         reached = slot-reached z w j emptySlot a o h (λ f. empty-standing n s ts);
@@ -111,8 +112,8 @@ module _ (n : ℕ) (s : Sides) (ts : List ℕ) where
       let i = inputOf a b c d e in
       let x : Slot = record { present = true; character = slotAt (w .slots) j .character; input = i } in
       record {
-        reached = slot-reached z w j x (answer n s ts w (Input id a b c d e)) (input-outcome n w id i) h (λ f. record { clear = λ q. h .stands j .clear (f .there); pos-fits = λ q. h .stands j .pos-fits (f .there); vel-fits = h .stands j .vel-fits });
-        same = stays (answer n s ts w (Input id a b c d e)) (input-outcome n w id i);
+        reached = slot-reached z w j x (calls.input n w id i) (input-outcome n w id i) h (λ f. record { clear = λ q. h .stands j .clear (f .there); pos-fits = λ q. h .stands j .pos-fits (f .there); vel-fits = h .stands j .vel-fits });
+        same = stays (calls.input n w id i) (input-outcome n w id i);
         told = λ q. absurd (not-step (Input id a b c d e) refl q);
       }
     where
@@ -151,7 +152,7 @@ module _ (n : ℕ) (s : Sides) (ts : List ℕ) where
   step-next z w h e =
       let x = steps n s ts w (subst (λ (v : ℤ). Reached n s ts v w) e h) in
       record {
-        reached = subst (λ (v : ℤ). Reached n s ts v (answer n s ts w Step .world)) (sym e) (x .reached);
+        reached = subst (λ (v : ℤ). Reached n s ts v (ran n s ts w Step .world)) (sym e) (x .reached);
         same = x .same;
         told = λ i q. record { published = x .published q; faithful = x .faithful q };
       }
@@ -164,22 +165,29 @@ module _ (n : ℕ) (s : Sides) (ts : List ℕ) where
   next z w Step g h o = step-next z w h (o refl)
 
   -- ---- every list of calls
+  -- who is there, as the slots say it and as the calls do
+  abbrev Agrees : World → (ℕ → Bool) → Type 0
+  Agrees w there = (k : ℕ) → slotAt (w .slots) k .present ≡ there k
+
+  faithful-told : (w : World) (there : ℕ → Bool) → Agrees w there → StepFaithful n w s ts (λ k. slotAt (w .slots) k .present) → StepFaithful n w s ts there
+  faithful-told w there h f = record { published = λ j l. f .published j l ∙ h j; faithful = λ j l q. f .faithful j l (h j ∙ q) }
+
   record Upto (w : World) (cs : List Call) : Type 0 where
     collision : ℤ
     reached : Reached n s ts collision (after n s ts w cs)
     same : (k : ℕ) → slotAt (after n s ts w cs .slots) k .present ≡ present n s ts k (slotAt (w .slots) k .present) w cs
-    told : StepsFaithful n s ts w cs
+    told : (there : ℕ → Bool) → Agrees w there → StepsFaithful n s ts there w cs
 
   upto : (cs : List Call) (z : ℤ) (w : World) → Settled n w → Reached n s ts z w → CollisionOff z cs → Upto w cs
-  upto [] z w g h o = record { collision = z; reached = h; same = λ k. refl; told = tt }
+  upto [] z w g h o = record { collision = z; reached = h; same = λ k. refl; told = λ there h. tt }
   upto (c ∷ cs) z w g h o =
       let x = next z w c g h (o .0) in
-      let r = upto cs (collisionAfter z c) (answer n s ts w c .world) (answer-settled n s ts w c g) (x .reached) (o .1) in
+      let r = upto cs (collisionAfter z c) (ran n s ts w c .world) (answer-settled n s ts w c g) (x .reached) (o .1) in
       record {
         collision = r .collision;
         reached = r .reached;
-        same = λ k. r .same k ∙ ap (λ (b : Bool). present n s ts k b (answer n s ts w c .world) cs) (x .same k);
-        told = (x .told, r .told);
+        same = λ k. r .same k ∙ ap (λ (b : Bool). present n s ts k b (ran n s ts w c .world) cs) (x .same k);
+        told = λ there q. (λ i e. faithful-told w there q (x .told i e), r .told (λ k. presentAfter n k (there k) (ran n s ts w c) c) (λ k. x .same k ∙ ap (λ (b : Bool). presentAfter n k b (ran n s ts w c) c) (q k)));
       }
 
   -- nobody is in a fresh world
@@ -204,7 +212,7 @@ demand3 n s ts cs o =
     record {
       clear = λ k l p. corners-clear s ts (slotAt (after n s ts (fresh n) cs .slots) k .character .pos) (u .reached .stands k .clear (there u k p));
       back = λ k l p. representable-back (slotAt (after n s ts (fresh n) cs .slots) k .character) (after-settled n s ts cs .representable k l (there u k p));
-      steps = u .told;
+      steps = u .told (λ k. false) (fresh-absent n s ts);
     }
   where
     there : Upto n s ts (fresh n) cs → (k : ℕ) → present n s ts k false (fresh n) cs ≡ true → slotAt (after n s ts (fresh n) cs .slots) k .present ≡ true

@@ -23,7 +23,7 @@ use Rattle.character_laws.proofs.Slots.{set-every}
 use Rattle.world.specs.World.{emptySlot, freshTunings, fresh, tuningCount, withSlot, withTuning}
 use Rattle.world.specs.Calls.{placeOf, pointOf, tune}
 use Rattle.world.specs.Step.{Moving, tickAll, moveAll, stepAnswer, stepOn, step}
-use Rattle.world.specs.Demand3.{inputOf, answer, after}
+use Rattle.world.specs.Run.{inputOf, ran, after}
 use Rattle.world.specs.Settled.{Settled, AfterSettled}
 use Rattle.world.specs.declared.Answer.{Answer}
 use Rattle.world.specs.declared.Stepped.{Stepped}
@@ -93,7 +93,7 @@ module _ (n : ℕ) where
 
   -- ---- every call, and every list of them
   module _ (s : Sides) (ts : List ℕ) where
-    pub answer-settled : (w : World) (c : Call) → Settled n w → Settled n (answer n s ts w c .world)
+    pub answer-settled : (w : World) (c : Call) → Settled n w → Settled n (ran n s ts w c .world)
     unfolding emptySlot
     answer-settled w (Join id x y) h = slot-settled w (placeOf n id) (joined (pointOf x y)) _ (join-outcome n w s ts id x y) h (λ f. (λ e. joined-representable n w s ts id x y f, λ e. absurd (true≢false e)))
     answer-settled w (Leave id) h = slot-settled w (placeOf n id) emptySlot _ (leave-outcome n w id) h (λ f. (λ e. absurd (true≢false (sym e)), λ e. refl))
@@ -103,7 +103,7 @@ module _ (n : ℕ) where
 
     list-settled : (cs : List Call) (w : World) → Settled n w → Settled n (after n s ts w cs)
     list-settled [] w h = h
-    list-settled (c ∷ cs) w h = list-settled cs (answer n s ts w c .world) (answer-settled w c h)
+    list-settled (c ∷ cs) w h = list-settled cs (ran n s ts w c .world) (answer-settled w c h)
 
 pub after-settled : (n : ℕ) → AfterSettled n
 after-settled n s ts cs = list-settled n s ts cs (fresh n) (fresh-settled n)

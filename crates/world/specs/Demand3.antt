@@ -16,7 +16,6 @@ use Rattle.map_tiles.specs.declared.tiles.Sides.{Sides}
 use Rattle.game_tuning.specs.Tuning.{tuningOf}
 use Rattle.game_tuning.specs.declared.Tuning.{Tuning}
 use Rattle.game_records.specs.declared.CharacterCore.{CharacterCore}
-use Rattle.game_records.specs.declared.PlayerInput.{PlayerInput}
 use Rattle.world.specs.declared.call.Call.{Call}
 use Rattle.world.specs.declared.call.Call.the-variants.{Join, Leave, Input, Step, Tune}
 use Rattle.character.specs.Tick.{slotAt}
@@ -30,28 +29,10 @@ use Rattle.world.specs.World.{tuningCount, playerCollision, fresh}
 use Rattle.world.specs.Calls as calls
 use Rattle.world.specs.Step.{Moving, unpublished, tickAll, moveIn, moveTurn, movingFrom}
 use Rattle.world.specs.Step as world
-use Rattle.world.specs.declared.Answer.{Answer}
+use Rattle.world.specs.Run.{ran, after}
 use Rattle.world.specs.declared.Published.{Published}
+use Rattle.world.specs.declared.Stepped.{Stepped}
 use Rattle.world.specs.declared.World.{World}
-
--- ---- every list of calls
-
--- the input of an input call
-abbrev pub inputOf : ℤ → ℤ → ℤ → ℤ → ℤ → PlayerInput
-inputOf direction x y jump hook = record { direction = direction; «target_x» = x; «target_y» = y; jump = jump; hook = hook }
-
--- a call's number and the world that it leaves, whatever its arguments
-abbrev pub answer : ℕ → Sides → List ℕ → World → Call → Answer
-answer n s ts w (Join id x y) = calls.join n w s ts id x y
-answer n s ts w (Leave id) = calls.leave n w id
-answer n s ts w (Input id d x y j h) = calls.input n w id (inputOf d x y j h)
-answer n s ts w (Tune index z) = calls.tune w index z
-answer n s ts w Step = record { number = world.step n w s ts .number; world = world.step n w s ts .world }
-
--- each call gets the world that the one before it left
-abbrev pub after : ℕ → Sides → List ℕ → World → List Call → World
-after n s ts w [] = w
-after n s ts w (c ∷ cs) = after n s ts (answer n s ts w c .world) cs
 
 -- ---- player collision zero whenever step is called
 
@@ -69,17 +50,17 @@ CollisionOff z (c ∷ cs) = (c ≡ Step → z ≡ pos 0) × CollisionOff (collis
 
 -- ---- each character present
 
--- whether k is joined by an accepted join, with no accepted leave of that id since
-abbrev pub presentAfter : ℕ → ℕ → Bool → ℕ → Call → Bool
-presentAfter n k b number (Join id x y) = cond (eqb (calls.placeOf n id) k && eqb number 0) true b
-presentAfter n k b number (Leave id) = cond (eqb (calls.placeOf n id) k && eqb number 0) false b
-presentAfter n k b number (Input id d x y j h) = b
-presentAfter n k b number (Tune index z) = b
-presentAfter n k b number Step = b
+-- whether k is joined by an accepted join, with no accepted leave of that id since: b before a call that answered a
+abbrev pub presentAfter : ℕ → ℕ → Bool → Stepped → Call → Bool
+presentAfter n k b a (Join id x y) = cond (eqb (calls.placeOf n id) k && eqb (a .number) 0) true b
+presentAfter n k b a (Leave id) = cond (eqb (calls.placeOf n id) k && eqb (a .number) 0) false b
+presentAfter n k b a (Input id d x y j h) = b
+presentAfter n k b a (Tune index z) = b
+presentAfter n k b a Step = b
 
 abbrev pub present : ℕ → Sides → List ℕ → ℕ → Bool → World → List Call → Bool
 present n s ts k b w [] = b
-present n s ts k b w (c ∷ cs) = present n s ts k (presentAfter n k b (answer n s ts w c .number) c) (answer n s ts w c .world) cs
+present n s ts k b w (c ∷ cs) = present n s ts k (presentAfter n k b (ran n s ts w c) c) (ran n s ts w c .world) cs
 
 -- its position plus or minus 14 in each coordinate, in f32: none of the four is on a solid tile
 pub record CornersClear (s : Sides) (ts : List ℕ) (p : vec2) : Type 0 where
@@ -112,14 +93,15 @@ FaithfulTo core (moved.To c) = Faithful core (c .pos) (c .vel)
 abbrev pub recordAt : List Published → ℕ → Published
 recordAt rs j = getD rs j unpublished
 
--- one record for each id present when the step is called
-pub record StepFaithful (n : ℕ) (w : World) (s : Sides) (ts : List ℕ) : Type 0 where
-  pub published : (j : ℕ) → j < n → recordAt (world.step n w s ts .records) j .present ≡ slotAt (w .slots) j .present
-  pub faithful : (j : ℕ) → j < n → slotAt (w .slots) j .present ≡ true → FaithfulTo (recordAt (world.step n w s ts .records) j .core) (left n w s ts j)
+-- one record for each id that is there when the step is called
+pub record StepFaithful (n : ℕ) (w : World) (s : Sides) (ts : List ℕ) (there : ℕ → Bool) : Type 0 where
+  pub published : (j : ℕ) → j < n → recordAt (world.step n w s ts .records) j .present ≡ there j
+  pub faithful : (j : ℕ) → j < n → there j ≡ true → FaithfulTo (recordAt (world.step n w s ts .records) j .core) (left n w s ts j)
 
-abbrev pub StepsFaithful : ℕ → Sides → List ℕ → World → List Call → Type 0
-StepsFaithful n s ts w [] = Unit {0}
-StepsFaithful n s ts w (c ∷ cs) = (c ≡ Step → answer n s ts w c .number ≡ 0 → StepFaithful n w s ts) × StepsFaithful n s ts (answer n s ts w c .world) cs
+-- every accepted step of a list, where `there` says who is present before it
+abbrev pub StepsFaithful : ℕ → Sides → List ℕ → (ℕ → Bool) → World → List Call → Type 0
+StepsFaithful n s ts there w [] = Unit {0}
+StepsFaithful n s ts there w (c ∷ cs) = (c ≡ Step → ran n s ts w c .number ≡ 0 → StepFaithful n w s ts there) × StepsFaithful n s ts (λ k. presentAfter n k (there k) (ran n s ts w c) c) (ran n s ts w c .world) cs
 
 -- ---- the demand
 
@@ -127,7 +109,7 @@ StepsFaithful n s ts w (c ∷ cs) = (c ≡ Step → answer n s ts w c .number �
 pub record Kept (n : ℕ) (s : Sides) (ts : List ℕ) (cs : List Call) : Type 0 where
   pub clear : (k : ℕ) → k < n → present n s ts k false (fresh n) cs ≡ true → CornersClear s ts (slotAt (after n s ts (fresh n) cs .slots) k .character .pos)
   pub back : (k : ℕ) → k < n → present n s ts k false (fresh n) cs ≡ true → quantize (slotAt (after n s ts (fresh n) cs .slots) k .character) ≡ quantized.To (slotAt (after n s ts (fresh n) cs .slots) k .character)
-  pub steps : StepsFaithful n s ts (fresh n) cs
+  pub steps : StepsFaithful n s ts (λ k. false) (fresh n) cs
 
 -- every map and every list of calls from a fresh world of n slots, with player collision, 100 before any tune, zero whenever step is called
 abbrev pub Demand3 : ℕ → Type 0

@@ -9,7 +9,7 @@ use Rattle.world.specs.declared.call.Call.{Call}
 use Rattle.character.specs.Tick.{slotAt}
 use Rattle.character_laws.specs.Representable.{Representable}
 use Rattle.world.specs.World.{emptySlot, tuningCount, fresh}
-use Rattle.world.specs.Demand3.{after}
+use Rattle.world.specs.Run.{after}
 use Rattle.world.specs.declared.World.{World}
 
 -- n slots and all tunings; who is present is as a record gives it back, and where nobody is the slot is as every fresh one

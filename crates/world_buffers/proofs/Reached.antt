@@ -10,7 +10,7 @@ use Rattle.world.specs.declared.call.Call.the-variants.{Join, Leave, Input, Ste
 use Rattle.character.specs.Tick.{seats}
 use Rattle.world.specs.World.{fresh}
 use Rattle.world.specs.Calls.{join, leave, input, tune}
-use Rattle.world.specs.Demand3.{inputOf, answer, after}
+use Rattle.world.specs.Run.{inputOf, ran, after}
 use Rattle.world.specs.Settled.{Settled}
 use Rattle.world.specs.declared.World.{World}
 use Rattle.world.proofs.Demand1.{demand1}

@@ -10,7 +10,7 @@ use Rattle.world.specs.declared.call.Call.the-variants.{Join, Leave, Input, Ste
 use Rattle.character.specs.Tick.{seats}
 use Rattle.world.specs.World.{fresh}
 use Rattle.world.specs.Calls.{join, leave, input, tune}
-use Rattle.world.specs.Demand3.{inputOf, after}
+use Rattle.world.specs.Run.{inputOf, after}
 use Rattle.world_numbers.specs.Encoding.{recordsCount, encoding}
 use Rattle.world_buffers.specs.Buffers.{callIn, stepIn}
 

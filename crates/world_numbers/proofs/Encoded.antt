@@ -20,7 +20,7 @@ use Rattle.character_laws.proofs.Back.{from-core, to-core, representable-back}
 use Rattle.character.specs.declared.records.Net.{Net}
 use Rattle.character.specs.declared.records.Quantized.the-variants as quantized
 use Rattle.world.specs.World.{emptySlot, fresh}
-use Rattle.world.specs.Demand3.{after}
+use Rattle.world.specs.Run.{after}
 use Rattle.world.specs.Settled.{Settled}
 use Rattle.world.proofs.Settled.{after-settled}
 use Rattle.world.specs.declared.World.{World}

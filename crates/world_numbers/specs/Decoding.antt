@@ -13,7 +13,7 @@ use Rattle.game_records.specs.declared.PlayerInput.{PlayerInput}
 use Rattle.character.specs.declared.Slot.{Slot}
 use Rattle.character.specs.Records.{fromNet}
 use Rattle.world.specs.World.{tuningCount, emptySlot, fresh}
-use Rattle.world.specs.Demand3.{after}
+use Rattle.world.specs.Run.{after}
 use Rattle.world.specs.declared.World.{World}
 use Rattle.world_numbers.specs.Encoding.{seatCount, encoding}
 

@@ -1,3 +1,2 @@
 pub mod Ticks
 pub mod Moves
-pub mod Calling

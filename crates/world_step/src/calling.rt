@@ -13,7 +13,7 @@ use world_calls::leave;
 use world_calls::tune;
 ghost use mathlib.Core.Path.{_≡_};
 ghost use Rattle.character.specs.Tick.{seats};
-ghost use Rattle.world_step.specs.Calling.{withoutRecords, ran};
+ghost use Rattle.world.specs.Run.{withoutRecords, ran};
 
 pub fn run_call(world: World, sides: Sides, tiles: &[u8], call: Call) -> Stepped
     ensures { λ r. ⌜ r ≡ ran seats sides (now (tiles .entry)) world call ⌝ }

@@ -13,7 +13,8 @@ use Rattle.num_convert.proofs.Signed.{read}
 use Rattle.game_refusals.specs.Refusals.{badText}
 use Rattle.text_reading.specs.Calls.{CallAt}
 use Rattle.character.specs.Tick.{seats}
-use Rattle.text_writing.specs.Answers.{ranBytes}
+use Rattle.world.specs.Run.{toldBy}
+use Rattle.text_writing.specs.Answers.{toldBytes}
 use Rattle.session_run.specs.Line.{endedAt, goesOn, end, fault, call}
 use borrow.Author.Needs.{needs}
 use Rattle.session_run.proofs.session_lines.run_line.Statement.{statement}
@@ -52,11 +53,11 @@ enum-known-line c = search needs
 run-call-requires : tie.Need-run-call-requires
 run-call-requires c κs = search needs
 
-cast-put-ran : tie.Need-cast-put-ran
-cast-put-ran c = search needs
+cast-put-told : tie.Need-cast-put-told
+cast-put-told c = search needs
 
-put-ran-requires : tie.Need-put-ran-requires
-put-ran-requires c κs = search needs
+put-told-requires : tie.Need-put-told-requires
+put-told-requires c κs = search needs
 
 add-goes-on : tie.Need-add-goes-on
 add-goes-on c = search needs
@@ -86,12 +87,12 @@ returns-3 c =
     let s = a .args .session in
     let g = c .before .before .before .before .before .before .before .before .line .given in
     let r = c .before .before .before .before .before .before .run-call in
-    let put = c .before .before .before .before .put-ran in
+    let put = c .before .before .before .before .put-told in
     let next : c .goes-on .result .next ≡ put .result = ap (λ (t : Turned). t .next) (c .goes-on .ensures) in
     let number : toZ w32 (ofZ w32 (pos (s .call))) ≡ pos (s .call) = read (pos (s .call)) (small (s .call) (a .pre .1)) in
     call (g .0 .0) (g .0 .1 .0) (c .before .before .before .before .before .before .before .before .before .before .before .if1 .left) (subst (CallAt (a .args .text .now) (s .place)) (g .1) (c .before .before .before .before .before .before .before .before .before .before .next-call .ensures))
     (c .goes-on .ensures ∙ ap (λ (u : Stepped). goesOn (s .call + 1) (g .0 .1 .0) (u .world) (put .result)) (r .ensures) ∙ ap (goesOn (s .call + 1) (g .0 .1 .0) _) (sym next))
-    (put-as (ap₂ (ranBytes seats) number (r .ensures)) (sym next) (put .ensures))
+    (put-as (ap₂ (λ (z : ℤ) (u : Stepped). toldBytes seats z (toldBy u)) number (r .ensures)) (sym next) (put .ensures))
 
 pub run-line-spec : {M : Type 1} → statement M
 run-line-spec =
@@ -107,8 +108,8 @@ run-line-spec =
     ended-requires-2
     enum-known-line
     run-call-requires
-    cast-put-ran
-    put-ran-requires
+    cast-put-told
+    put-told-requires
     add-goes-on
     goes-on-requires
     same-length

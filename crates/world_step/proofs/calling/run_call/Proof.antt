@@ -1,6 +1,5 @@
 -- `world_step::calling::run_call` meets its contract. Assumes nothing.
 use Rattle.num_convert.proofs.Signed.{read}
-use Rattle.world_step.specs.Calling.{ran}
 use borrow.Author.Needs.{needs}
 use Rattle.world_step.proofs.calling.run_call.Statement.{statement}
 use Rattle.world_step.proofs.calling.run_call.Tie as tie
@@ -48,32 +47,27 @@ without-records-requires-4 : tie.Need-without-records-requires-4
 without-records-requires-4 c κs = search needs
 
 returns : tie.Need-returns
-unfolding ran
 returns c =
     let g = c .before .before .before .call .given in
     let k = c .before .before .known-told .given in
     simp (g .1, c .without-records .ensures, c .before .join .ensures, read (g .0 .0) (k .0 .1), read (g .0 .1 .0) (k .1 .0 .1), read (g .0 .1 .1 .0) (k .1 .1 .0 .1))
 
 returns-2 : tie.Need-returns-2
-unfolding ran
 returns-2 c =
     let g = c .before .before .before .call2 .given in
     let k = c .before .before .known-told2 .given in
     simp (g .1, c .without-records2 .ensures, c .before .leave .ensures, read (g .0 .0) (k .0 .1))
 
 returns-3 : tie.Need-returns-3
-unfolding ran
 returns-3 c =
     let g = c .before .before .before .call3 .given in
     let k = c .before .before .known-told3 .given in
     simp (g .1, c .without-records3 .ensures, c .before .input .ensures, read (g .0 .0) (k .0 .1), read (g .0 .1 .0) (k .1 .0 .1), read (g .0 .1 .1 .0) (k .1 .1 .0 .1), read (g .0 .1 .1 .1 .0) (k .1 .1 .1 .0 .1), read (g .0 .1 .1 .1 .1 .0) (k .1 .1 .1 .1 .0 .1), read (g .0 .1 .1 .1 .1 .1 .0) (k .1 .1 .1 .1 .1 .0 .1))
 
 returns-4 : tie.Need-returns-4
-unfolding ran
 returns-4 c = simp (c .before .enum-told .given .1, ← c .step .ensures)
 
 returns-5 : tie.Need-returns-5
-unfolding ran
 returns-5 c =
     let g = c .before .before .before .call4 .given in
     let k = c .before .before .known-told4 .given in

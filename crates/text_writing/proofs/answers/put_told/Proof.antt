@@ -1,4 +1,4 @@
--- `text_writing::answers::put_ran` meets its contract. Assumes nothing.
+-- `text_writing::answers::put_told` meets its contract. Assumes nothing.
 use mir.Facts.{toZ-ofZ}
 use Rattle.num_convert.proofs.Signed.{held}
 use mathlib.Core.Bool.{cond}
@@ -15,10 +15,10 @@ use Rattle.character.specs.Tick.{seats}
 use Rattle.text_writing.specs.Output.{answerBytes}
 use Rattle.text_writing.specs.Put.{Put}
 use Rattle.text_writing.proofs.Sizes.{put-as, put-after}
-use Rattle.text_writing.specs.Answers.{recordLines, ranBytes}
+use Rattle.text_writing.specs.Answers.{recordLines, toldBytes}
 use borrow.Author.Needs.{needs}
-use Rattle.text_writing.proofs.answers.put_ran.Statement.{statement}
-use Rattle.text_writing.proofs.answers.put_ran.Tie as tie
+use Rattle.text_writing.proofs.answers.put_told.Statement.{statement}
+use Rattle.text_writing.proofs.answers.put_told.Tie as tie
 
 -- no record: the place is as before, and the answer stands there
 none-told : {d e f : List ℕ} {at end next : ℕ} (l a : List ℕ) → at ≤ length d → end ≡ at → Put d at l e end → Put e at a f next → Put d at (cond (eqb (length l) 0) a l) f next
@@ -41,7 +41,7 @@ same-length : tie.Need-same-length
 same-length c = search needs
 
 returns : tie.Need-returns
-unfolding ranBytes
+unfolding toldBytes
 returns c =
     let a = c .before .before .before .before .before .before .before .before .before .before .before .before in
     let l : List ℕ = recordLines seats (a .args .call) (a .args .ran .records) in
@@ -53,13 +53,13 @@ same-length-2 : tie.Need-same-length-2
 same-length-2 c = search needs
 
 returns-2 : tie.Need-returns-2
-unfolding ranBytes
+unfolding toldBytes
 returns-2 c =
     let a = c .before .before .before .before .before .before .before in
     some-told (recordLines seats (a .args .call) (a .args .ran .records)) (answerBytes (a .args .call) (castSigned (a .args .ran .number))) (c .if1 .left) (put-as (ap (λ (z : ℤ). recordLines seats z (a .args .ran .records)) (toZ-ofZ (a .fits .call))) refl (c .before .before .before .put-records .ensures))
 
-pub put-ran-spec : {M : Type 1} → statement M
-put-ran-spec =
+pub put-told-spec : {M : Type 1} → statement M
+put-told-spec =
     tie.close
     (tie.spec
     put-records-requires
