@@ -1,6 +1,7 @@
 -- The proved cases of document 01 hold, jointly. Assumes nothing.
 use lib.Ieee.{ofInt, ofBits}
-use Rattle.num_convert.specs.Convert.{i32ToF32}
+use Rattle.num_convert.specs.Convert.{i32ToF32, quantize256ths}
+use Rattle.num_convert.specs.Convert as floats
 use Rattle.num_root.proofs.Cases.{least-root}
 use Rattle.num_convert.proofs.FloatCases as float
 use Rattle.map_corners.proofs.Cases as corners
@@ -8,7 +9,26 @@ use Rattle.num_convert.proofs.NumberCases as number
 use Rattle.character_hook.proofs.Cases as hooking
 use Rattle.aim_rule.proofs.Cases as angle
 use Rattle.map_walks.proofs.Cases.{at-the-first-tile}
-use Rattle.character_cases.specs.ProvedCases.{ProvedCases}
+use mathlib.Core.Path.{_≡_, refl, ap, ap₂, _∙_}
+use Rattle.num_vec2.specs.Vec2.{vnew}
+use Rattle.num_vec2.specs.declared.vec2.{vec2}
+use Rattle.character.specs.declared.Character.{Character}
+use Rattle.character.specs.Records.{coreOf, fromNet, back, quantize}
+use Rattle.character_laws.proofs.Back.{to-core}
+use Rattle.character_cases.specs.ProvedCases.{QuantizesTo, ProvedCases}
+
+-- what a character quantizes to
+quantizes : (c : Character) (P : Character → Type 0) → P (fromNet (coreOf c)) → QuantizesTo P c
+unfolding quantize
+quantizes c P p l = (fromNet (coreOf c), ap back (to-core c l), p)
+
+vel-quantized : (c : Character) → fromNet (coreOf c) .vel ≡ vnew (quantize256ths (c .vel .x)) (quantize256ths (c .vel .y))
+unfolding coreOf fromNet quantize256ths
+vel-quantized c = refl
+
+pos-quantized : (c : Character) → fromNet (coreOf c) .pos ≡ vnew (floats.quantize (c .pos .x)) (floats.quantize (c .pos .y))
+unfolding coreOf fromNet floats.quantize
+pos-quantized c = refl
 
 pub proved-cases : ProvedCases
 unfolding i32ToF32 ofInt ofBits
@@ -17,8 +37,10 @@ proved-cases = record {
   rounds = (float.cases .minus-half, float.cases .two-and-a-half, float.cases .below-half);
   largest-returns = float.cases .top;
   ties-quantize = (float.cases .tie-up, float.cases .tie-down);
+  character-ties-quantize = λ c e. quantizes c _ (vel-quantized c ∙ ap₂ vnew (ap quantize256ths (ap (λ (v : vec2). v .x) e) ∙ float.cases .tie-up) (ap quantize256ths (ap (λ (v : vec2). v .y) e) ∙ float.cases .tie-down));
   half-way = (float.cases .seventeen-and-a-half, corners.cases .before, corners.cases .after);
   not-a-number = float.cases .not-a-number;
+  character-not-a-number = λ c e. quantizes c _ (pos-quantized c ∙ ap₂ vnew (ap (λ (v : vec2). floats.quantize (v .x)) e ∙ float.cases .not-a-number) (ap (λ (v : vec2). floats.quantize (v .y)) e ∙ float.cases .not-a-number));
   saturates = (number.cases .stays, number.cases .falls);
   holds = λ c p d. (hooking.cases c p d .tick-59, hooking.cases c p d .tick-60);
   angles = (angle.cases .diagonal, angle.cases .left, angle.cases .up);

@@ -1,4 +1,5 @@
 -- 'Proved cases, as one joint fact' of document 01, over the definitions. Definitions only; proofs/Proved.antt proves it.
+use Prim.Native.Nat.{_≤_}
 use mathlib.Core.Bool.{true}
 use mathlib.Core.List.{[], _∷_}
 use mathlib.Core.Path.{_≡_}
@@ -18,6 +19,11 @@ use Rattle.character_hook.specs.declared.hook.CharacterId.{CharacterId}
 use Rattle.character_hook.specs.declared.hook.Hook.the-variants.{Retracted, Grabbed}
 use Rattle.character_hook.specs.Hooking.{fire, hold}
 use Rattle.aim_rule.specs.Angle.{netAngle}
+use Rattle.character_hook.specs.Hook.{tickOf}
+use Rattle.character.specs.declared.Character.{Character}
+use Rattle.character.specs.Records.{mostTick}
+use Rattle.character.specs.Records as characters
+use Rattle.character.specs.declared.records.Quantized.the-variants as quantized
 
 -- a whole number as f32, and 17.5
 abbrev pub n : ℤ → Float
@@ -30,6 +36,10 @@ seventeenAndAHalf = ofBits binary32 0x418c_0000
 abbrev pub start : vec2
 start = vnew (ofBits binary32 0x42c8_0000) (ofBits binary32 0x42c8_0000)
 
+-- c, whose hook tick a record holds, quantizes to a character of which P holds
+abbrev pub QuantizesTo : (Character → Type 0) → Character → Type 0
+QuantizesTo P c = tickOf (c .hook) ≤ mostTick → (d : Character) × (characters.quantize c ≡ quantized.To d) × P d
+
 pub record ProvedCases : Type 0 where
   -- (1) root of 0x00000001 is 0x1A3504F3
   pub root-of-the-least : toBits binary32 (root binary32 (ofBits binary32 0x0000_0001)) ≡ 0x1a35_04f3
@@ -39,10 +49,12 @@ pub record ProvedCases : Type 0 where
   pub largest-returns : roundToI32 (i32ToF32 (pos 2147483647)) ≡ pos 2147483647
   -- (4) velocities ±1/512 quantize to ±1/256
   pub ties-quantize : (quantize256ths (ofBits binary32 0x3b00_0000) ≡ ofBits binary32 0x3b80_0000) × (quantize256ths (ofBits binary32 0xbb00_0000) ≡ ofBits binary32 0xbb80_0000)
+  pub character-ties-quantize : (c : Character) → c .vel ≡ vnew (ofBits binary32 0x3b00_0000) (ofBits binary32 0xbb00_0000) → QuantizesTo (λ d. d .vel ≡ vnew (ofBits binary32 0x3b80_0000) (ofBits binary32 0xbb80_0000)) c
   -- (5) position 17.5 quantizes to 18; its right corner is in column 1 before and after, on a map of two columns
   pub half-way : (quantize seventeenAndAHalf ≡ ofBits binary32 0x4190_0000) × (tileAt 2 (add binary32 seventeenAndAHalf c14) ≡ 1) × (tileAt 2 (add binary32 (quantize seventeenAndAHalf) c14) ≡ 1)
   -- (6) position not-a-number quantizes to 0
   pub not-a-number : quantize nan ≡ ofBits binary32 0
+  pub character-not-a-number : (c : Character) → c .pos ≡ vnew nan nan → QuantizesTo (λ d. d .pos ≡ vnew (ofBits binary32 0) (ofBits binary32 0)) c
   -- (7) saturated_add(−5, 5, 7, 1) is 7; with −1 it is 5
   pub saturates : (saturatedAdd (n (negsuc 4)) (n (pos 5)) (n (pos 7)) (n (pos 1)) ≡ n (pos 7)) × (saturatedAdd (n (negsuc 4)) (n (pos 5)) (n (pos 7)) (n (negsuc 0)) ≡ n (pos 5))
   -- (8) with the hook input held, Grabbed tick 59 becomes 60; 60 becomes Retracted
