@@ -11,11 +11,12 @@ use Rattle.num_convert.specs.Number.{c0}
 use Rattle.num_vec2.specs.Vec2.{vnew}
 use Rattle.num_vec2.specs.declared.vec2.{vec2}
 use Rattle.game_input.specs.declared.direction.MoveDirection.the-variants.{Left}
-use Rattle.character_hook.specs.Hook.{idOf}
+use Rattle.character_hook.specs.Hook.{idOf, onGrabbed}
 use Rattle.character_hook.specs.declared.hook.CharacterId.{CharacterId}
 use Rattle.character_hook.specs.declared.hook.Hook.{Hook}
 use Rattle.character_hook.specs.declared.hook.Hook.the-variants.{Retracted}
 use Rattle.game_records.specs.declared.PlayerInput.{PlayerInput}
+use Rattle.game_refusals.specs.Refusals.{badMap, badId, tooFar}
 use Rattle.game_tuning.specs.Tuning.{tuningOf}
 use Rattle.game_tuning.specs.declared.Tuning.{Tuning}
 use Rattle.map_tiles.specs.Map.{isMap}
@@ -29,12 +30,16 @@ use Rattle.character_hook.specs.Dragging.{dragged}
 use Rattle.character_hook.specs.Flying.{flown}
 use Rattle.character_hook.specs.declared.flying.Way.{Way}
 use Rattle.character_hook.specs.declared.flying.Way.the-variants as way
-use Rattle.character_motion.specs.Meeting.{meet}
-use Rattle.character_motion.specs.declared.meeting.Velocities.{Velocities}
+use Rattle.character_motion.specs.Meeting.{meet, pullOn}
+use Rattle.character_motion.specs.declared.meeting.HookPull.{HookPull}
+use Rattle.character_motion.specs.declared.meeting.HookPull.the-variants as pull
 use Rattle.character.specs.declared.Character.{Character}
 use Rattle.character.specs.declared.Slot.{Slot}
+use Rattle.character.specs.declared.tick.AfterTick.{AfterTick}
 use Rattle.character.specs.declared.tick.Ticked.{Ticked}
-use Rattle.character.specs.declared.tick.Met.{Met}
+use Rattle.character.specs.declared.tick.Ticked.the-variants as answer
+use Rattle.character.specs.declared.tick.TickedAt.{TickedAt}
+use Rattle.character.specs.declared.tick.TickedAt.the-variants as at
 use Rattle.character.specs.declared.tick.HookFlight.{HookFlight}
 use Rattle.character.specs.declared.tick.HookFlight.the-variants.{TooFar, To}
 
@@ -92,38 +97,60 @@ caught n (way.Along from to h) id ss hooking = To (cond (ne hooking c0) (grab h 
 abbrev pub flight : ℕ → Hook → vec2 → ℕ → List Slot → Sides → List ℕ → Tuning → HookFlight
 flight n h p id ss s ts t = caught n (flown h p s ts t) id ss (t .«player_hooking»)
 
--- the slot j after the two have met
-abbrev pub metAt : List Slot → ℕ → Velocities → Met
-metAt ss j v = record { vel = v .me; slots = set ss j (withCharacter (slotAt ss j) (withVel (slotAt ss j .character) (v .other))) }
+-- the own velocity after the slot j, if it is another's and somebody is there
+abbrev pub meetTurn : List Slot → ℕ → vec2 → Hook → Tuning → ℕ → vec2 → vec2
+meetTurn ss id p h t j v = cond (eqb j id) v (cond (slotAt ss j .present) (meet p v h (slotAt ss j .character .pos) (idOf j) t) v)
 
-abbrev pub meetTurn : ℕ → vec2 → Hook → Tuning → ℕ → Met → Met
-meetTurn id p h t j m =
-    cond (eqb j id) m
-    (cond (slotAt (m .slots) j .present) (metAt (m .slots) j (meet p (m .vel) h (slotAt (m .slots) j .character .pos) (slotAt (m .slots) j .character .vel) (idOf j) t)) m)
+-- the own velocity after the others, by rising id
+unfoldable pub meetAll : ℕ → List Slot → ℕ → vec2 → vec2 → Hook → Tuning → vec2
+meetAll n ss id p v h t = fold (meetTurn ss id p h t) n 0 v
 
--- the others by rising id, each as it stands then
-unfoldable pub meetAll : ℕ → List Slot → ℕ → vec2 → vec2 → Hook → Tuning → Met
-meetAll n ss id p v h t = fold (meetTurn id p h t) n 0 (record { vel = v; slots = ss })
+-- the character cid is held: it is pulled, if it is another and there
+abbrev pub pullFrom : ℕ → List Slot → ℕ → vec2 → Tuning → CharacterId → ℕ → HookPull
+pullFrom n ss id p t cid ticks =
+    let other = slotAt ss (cid .0) in
+    cond (ltb (cid .0) n) (cond (eqb (cid .0) id) pull.Nobody (cond (other .present) (pullOn p cid (other .character .pos) (other .character .vel) t) pull.Nobody)) pull.Nobody
 
--- after the flight: the drag of an attached hook, the count of a held one, the others, and the clamp
-unfoldable pub hooked : ℕ → Character → Hook → ℕ → List Slot → Tuning → Ticked
+-- whom the hook pulls, and the velocity that it leaves them
+unfoldable pub pullOf : ℕ → List Slot → ℕ → vec2 → Hook → Tuning → HookPull
+pullOf n ss id p h t = onGrabbed (pullFrom n ss id p t) pull.Nobody h
+
+-- the slots with that velocity
+unfoldable pub afterPull : List Slot → HookPull → List Slot
+afterPull ss pull.Nobody = ss
+afterPull ss (pull.Of cid v) = set ss (cid .0) (withCharacter (slotAt ss (cid .0)) (withVel (slotAt ss (cid .0) .character) v))
+
+-- after the flight: the drag of an attached hook, the count of a held one, the others, the clamp, and whom the hook pulls
+unfoldable pub hooked : ℕ → Character → Hook → ℕ → List Slot → Tuning → AfterTick
 hooked n c h id ss t =
-    let met = meetAll n ss id (c .pos) (dragged h (c .pos) (c .vel) (c .«move_direction») t) (hold h) t in
-    record { number = 0; me = withVel (withHook c (hold h)) (clampSpeed (met .vel)); slots = met .slots }
+    let vel = meetAll n ss id (c .pos) (dragged h (c .pos) (c .vel) (c .«move_direction») t) (hold h) t in
+    record { me = withVel (withHook c (hold h)) (clampSpeed vel); pull = pullOf n ss id (c .pos) (hold h) t }
 
--- a hook that would fly too far refuses the tick, which leaves all as it was
-abbrev pub ticked : ℕ → Character → Character → ℕ → List Slot → Tuning → HookFlight → Ticked
-ticked n before c id ss t TooFar = record { number = 9; me = before; slots = ss }
-ticked n before c id ss t (To h) = hooked n c h id ss t
+-- a hook that would fly too far refuses the tick
+abbrev pub ticked : ℕ → Character → ℕ → List Slot → Tuning → HookFlight → TickedAt
+ticked n c id ss t TooFar = at.TooFar
+ticked n c id ss t (To h) = at.To (hooked n c h id ss t)
 
-unfoldable pub tickAt : ℕ → Character → ℕ → List Slot → Sides → List ℕ → PlayerInput → Tuning → Ticked
+unfoldable pub tickAt : ℕ → Character → ℕ → List Slot → Sides → List ℕ → PlayerInput → Tuning → TickedAt
 tickAt n c id ss s ts i t =
     let steered = steer c (grounded s ts (c .pos)) i t in
-    ticked n c steered id ss t (flight n (steered .hook) (c .pos) id ss s ts t)
+    ticked n steered id ss t (flight n (steered .hook) (c .pos) id ss s ts t)
+
+-- the same answer, as one of `tick`
+abbrev pub tickedOf : TickedAt → Ticked
+tickedOf at.TooFar = answer.TooFar
+tickedOf (at.To a) = answer.To a
 
 -- refused with 1 where the map is none, with 2 where the id has no slot
 unfoldable pub tick : ℕ → Character → CharacterId → List Slot → Sides → List ℕ → PlayerInput → List ℤ → Ticked
 tick n c id ss s ts i tunings =
     cond (isMap s ts)
-    (cond (ltb (id .0) n) (tickAt n c (id .0) ss s ts i (tuningOf tunings)) (record { number = 2; me = c; slots = ss }))
-    (record { number = 1; me = c; slots = ss })
+    (cond (ltb (id .0) n) (tickedOf (tickAt n c (id .0) ss s ts i (tuningOf tunings))) answer.BadId)
+    answer.BadMap
+
+-- document 01's number of an answer
+abbrev pub tickNumber : Ticked → ℕ
+tickNumber answer.BadMap = badMap
+tickNumber answer.BadId = badId
+tickNumber answer.TooFar = tooFar
+tickNumber (answer.To a) = 0

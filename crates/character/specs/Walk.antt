@@ -11,18 +11,21 @@ use Rattle.num_convert.specs.Convert.{i32ToF32}
 use Rattle.num_vec2.specs.Vec2.{vdistance, vmix}
 use Rattle.num_vec2.specs.declared.vec2.{vec2}
 use Rattle.character_hook.specs.declared.hook.CharacterId.{CharacterId}
+use Rattle.game_refusals.specs.Refusals.{badMap, badId, tooFar}
 use Rattle.map_tiles.specs.Map.{isMap, mostTurns}
 use Rattle.map_tiles.specs.declared.tiles.Sides.{Sides}
 use Rattle.game_tuning.specs.Tuning.{tuningOf}
 use Rattle.game_tuning.specs.declared.Tuning.{Tuning}
-use Rattle.map_walks.specs.declared.moves.BoxMove.{BoxMove}
-use Rattle.map_walks.specs.declared.moves.BoxMove.the-variants as box
+use Rattle.map_walks.specs.declared.moves.BoxWalk.{BoxWalk}
+use Rattle.map_walks.specs.declared.moves.BoxWalk.the-variants as box
 use Rattle.character_motion.specs.Touching.{touches}
 use Rattle.character_motion.specs.Walking.{rampedMove, playerTurns, restAt}
 use Rattle.character.specs.declared.Character.{Character}
 use Rattle.character.specs.declared.Slot.{Slot}
 use Rattle.character.specs.declared.walk.Moved.{Moved}
 use Rattle.character.specs.declared.walk.Moved.the-variants as moved
+use Rattle.character.specs.declared.walk.MovedAt.{MovedAt}
+use Rattle.character.specs.declared.walk.MovedAt.the-variants as at
 use Rattle.character.specs.declared.walk.PlayerWalk.{PlayerWalk}
 use Rattle.character.specs.declared.walk.PlayerWalk.the-variants as among
 use Rattle.character.specs.Tick.{slotAt}
@@ -61,26 +64,30 @@ playerWalk n ss id from to collision =
     (cond (leb (playerTurns distance) mostTurns) (among.At (walkAmong n ss id from to distance (playerTurns distance))) among.TooFar)
     (among.At to)
 
-abbrev pub rested : Character → vec2 → PlayerWalk → Moved
-rested c v among.TooFar = moved.TooFar
-rested c v (among.At p) = moved.To (movedTo c p v)
+abbrev pub rested : Character → vec2 → PlayerWalk → MovedAt
+rested c v among.TooFar = at.TooFar
+rested c v (among.At p) = at.To (movedTo c p v)
 
 -- after the box has moved: the others
-abbrev pub afterBox : ℕ → Character → ℕ → List Slot → Tuning → BoxMove → Moved
-afterBox n c id ss t box.BadMap = moved.TooFar
-afterBox n c id ss t box.TooFar = moved.TooFar
+abbrev pub afterBox : ℕ → Character → ℕ → List Slot → Tuning → BoxWalk → MovedAt
+afterBox n c id ss t box.TooFar = at.TooFar
 afterBox n c id ss t (box.To b) = rested c (b .vel) (playerWalk n ss id (c .pos) (b .pos) (t .«player_collision»))
 
-unfoldable pub moveAt : ℕ → Character → ℕ → List Slot → Sides → List ℕ → Tuning → Moved
+unfoldable pub moveAt : ℕ → Character → ℕ → List Slot → Sides → List ℕ → Tuning → MovedAt
 moveAt n c id ss s ts t = afterBox n c id ss t (rampedMove s ts (c .pos) (c .vel) t)
+
+-- the same answer, as one of `move_`
+abbrev pub movedOf : MovedAt → Moved
+movedOf at.TooFar = moved.TooFar
+movedOf (at.To c) = moved.To c
 
 -- refused with 1 where the map is none, with 2 where the id has no slot
 unfoldable pub move : ℕ → Character → CharacterId → List Slot → Sides → List ℕ → List ℤ → Moved
-move n c id ss s ts tunings = cond (isMap s ts) (cond (ltb (id .0) n) (moveAt n c (id .0) ss s ts (tuningOf tunings)) moved.BadId) moved.BadMap
+move n c id ss s ts tunings = cond (isMap s ts) (cond (ltb (id .0) n) (movedOf (moveAt n c (id .0) ss s ts (tuningOf tunings))) moved.BadId) moved.BadMap
 
 -- document 01's number of an answer
 abbrev pub moveNumber : Moved → ℕ
-moveNumber moved.BadMap = 1
-moveNumber moved.BadId = 2
-moveNumber moved.TooFar = 9
+moveNumber moved.BadMap = badMap
+moveNumber moved.BadId = badId
+moveNumber moved.TooFar = tooFar
 moveNumber (moved.To c) = 0

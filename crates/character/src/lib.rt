@@ -1,6 +1,7 @@
 // A character, and its tick and move among the others.
 mod from_record;
 mod records;
+mod slots;
 mod tick;
 mod to_record;
 mod walk;
@@ -14,9 +15,13 @@ use game_records::PlayerInput;
 use num_vec2::vec2;
 pub use records::Net;
 pub use records::Quantized;
+pub use slots::after_pull;
+pub use tick::AfterTick;
 pub use tick::Ticked;
+pub use tick::TickedAt;
 pub use to_record::to_net;
 pub use walk::Moved;
+pub use walk::MovedAt;
 ghost use mathlib.Core.Path.{_≡_};
 ghost use Rattle.character.specs.Character.{spawn};
 

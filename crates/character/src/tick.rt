@@ -12,6 +12,7 @@ use character_hook::flown;
 use character_hook::grab;
 use character_hook::hold;
 use character_hook::nearer;
+use character_motion::HookPull;
 use character_motion::JumpState;
 use character_motion::clamp_speed;
 use character_motion::control_of;
@@ -19,6 +20,7 @@ use character_motion::grounded;
 use character_motion::jump;
 use character_motion::landed;
 use character_motion::meet;
+use character_motion::pull_on;
 use character_motion::walk;
 use game_input::aim;
 use game_input::jumps;
@@ -34,25 +36,32 @@ ghost use mathlib.Core.Path.{_≡_};
 ghost use lib.Dec.{T};
 ghost use Prim.Native.Nat.{_<_};
 ghost use Rattle.map_tiles.specs.Map.{isMap};
-ghost use Rattle.character.specs.Tick.{seats, withHook, withVel, withCharacter, steer, nearest, caught, meetAll, hooked, tickAt, tick};
+ghost use Rattle.character.specs.Tick.{seats, withHook, steer, nearest, caught, meetAll, pullOf, hooked, tickAt, tick};
 
-// What `tick` answers: a refusal's number, and then everything as it was; or 0.
-pub struct Ticked {
-    pub number: u32,
+// What `tick` answers.
+pub enum Ticked {
+    BadMap,
+    BadId,
+    TooFar,
+    To(AfterTick),
+}
+
+// What it answers for a map that is one and an id that has a slot.
+pub enum TickedAt {
+    TooFar,
+    To(AfterTick),
+}
+
+// The character after its tick, and whom its hook pulls.
+pub struct AfterTick {
     pub me: Character,
-    pub slots: [Slot; SEATS],
+    pub pull: HookPull,
 }
 
 // What becomes of a hook.
 pub enum HookFlight {
     TooFar,
     To(Hook),
-}
-
-// The velocity of the character that ticks, and the slots, after it has met the others.
-pub struct Met {
-    pub vel: vec2,
-    pub slots: [Slot; SEATS],
 }
 
 impl Character {
@@ -70,19 +79,14 @@ impl Character {
         if is_map(sides, tiles) {
             let at = id.0 as usize;
             if at < SEATS {
-                return self.tick_at(at, slots, sides, tiles, input, tuning_of(tunings));
+                return match self.tick_at(at, slots, sides, tiles, input, tuning_of(tunings)) {
+                    TickedAt::TooFar => Ticked::TooFar,
+                    TickedAt::To(after) => Ticked::To(after),
+                };
             }
-            return Ticked {
-                number: 2,
-                me: self,
-                slots: slots,
-            };
+            return Ticked::BadId;
         }
-        Ticked {
-            number: 1,
-            me: self,
-            slots: slots,
-        }
+        Ticked::BadMap
     }
 
     // The same for a map that is one and an id that has a slot.
@@ -94,7 +98,7 @@ impl Character {
         tiles: &[u8],
         input: PlayerInput,
         tuning: Tuning,
-    ) -> Ticked
+    ) -> TickedAt
         requires { ⌜ T (isMap sides (now tiles)) × (id < seats) ⌝ }
         ensures { λ r. ⌜ r ≡ tickAt seats self id slots sides (now (tiles .entry)) input tuning ⌝ }
     {
@@ -108,17 +112,13 @@ impl Character {
             tuning.player_hooking,
         );
         let HookFlight::To(hook) = flight else {
-            return Ticked {
-                number: 9,
-                me: self,
-                slots: slots,
-            };
+            return TickedAt::TooFar;
         };
-        steered.hooked(hook, id, slots, tuning)
+        TickedAt::To(steered.hooked(hook, id, slots, tuning))
     }
 
     // After the flight: the drag of an attached hook, the count of a held one, the others, and the clamp.
-    fn hooked(mut self, hook: Hook, id: usize, slots: [Slot; SEATS], tuning: Tuning) -> Ticked
+    fn hooked(mut self, hook: Hook, id: usize, slots: [Slot; SEATS], tuning: Tuning) -> AfterTick
         ensures { λ r. ⌜ r ≡ hooked seats self hook id slots tuning ⌝ }
     {
         let pos = self.pos;
@@ -126,15 +126,11 @@ impl Character {
         let vel = dragged(hook, pos, self.vel, direction, tuning);
         let held = hold(hook);
         let met = meet_all(slots, id, pos, vel, held, tuning);
-        let others = met.slots;
-        let clamped = clamp_speed(met.vel);
+        let clamped = clamp_speed(met);
+        let pull = pull_of(slots, id, pos, held, tuning);
         self = self.with_hook(held);
         self.vel = clamped;
-        Ticked {
-            number: 0,
-            me: self,
-            slots: others,
-        }
+        AfterTick { me: self, pull }
     }
 
     // Direction and angle, gravity and jump, the hook's button, walking and friction.
@@ -182,18 +178,6 @@ impl Character {
     }
 }
 
-impl Slot {
-    // The slot with its character at another velocity.
-    fn with_vel(mut self, vel: vec2) -> Slot
-        ensures { λ r. ⌜ r ≡ withCharacter self (withVel (self .character) vel) ⌝ }
-    {
-        let mut character = self.character;
-        character.vel = vel;
-        self.character = character;
-        self
-    }
-}
-
 // Where players can be hooked, a hook that flew may grab somebody beside its way.
 fn caught(way: Way, id: usize, slots: [Slot; SEATS], player_hooking: f32) -> HookFlight
     ensures { λ r. ⌜ r ≡ caught seats way id slots «player_hooking» ⌝ }
@@ -227,15 +211,15 @@ fn nearest(slots: [Slot; SEATS], id: usize, from: vec2, to: vec2) -> Nearest
     best
 }
 
-// The others by rising id, each as it stands then.
+// The own velocity after the others, by rising id.
 fn meet_all(
-    mut slots: [Slot; SEATS],
+    slots: [Slot; SEATS],
     id: usize,
     pos: vec2,
     mut vel: vec2,
     hook: Hook,
     tuning: Tuning,
-) -> Met
+) -> vec2
     ensures { λ r. ⌜ r ≡ meetAll seats slots id pos vel hook tuning ⌝ }
 {
     for j in 0..SEATS {
@@ -243,22 +227,28 @@ fn meet_all(
             let slot = slots[j];
             if slot.present {
                 let cid = j as u32;
-                let met = meet(
-                    pos,
-                    vel,
-                    hook,
-                    slot.character.pos,
-                    slot.character.vel,
-                    CharacterId(cid),
-                    tuning,
-                );
-                vel = met.me;
-                slots[j] = slot.with_vel(met.other);
+                vel = meet(pos, vel, hook, slot.character.pos, CharacterId(cid), tuning);
             }
         }
     }
-    Met {
-        vel: vel,
-        slots: slots,
+    vel
+}
+
+// Whom the hook pulls, and the velocity that it leaves them.
+fn pull_of(slots: [Slot; SEATS], id: usize, pos: vec2, hook: Hook, tuning: Tuning) -> HookPull
+    ensures { λ r. ⌜ r ≡ pullOf seats slots id pos hook tuning ⌝ }
+{
+    let Hook::Grabbed(cid, _) = hook else {
+        return HookPull::Nobody;
+    };
+    let at = cid.0 as usize;
+    if at < SEATS {
+        if at != id {
+            let slot = slots[at];
+            if slot.present {
+                return pull_on(pos, cid, slot.character.pos, slot.character.vel, tuning);
+            }
+        }
     }
+    HookPull::Nobody
 }

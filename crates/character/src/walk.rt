@@ -13,7 +13,7 @@ use game_tuning::tuning_of;
 use map_tiles::MOST_TURNS;
 use map_tiles::Sides;
 use map_tiles::is_map;
-use map_walks::BoxMove;
+use map_walks::BoxWalk;
 use num_vec2::vec2;
 ghost use mathlib.Core.Path.{_≡_};
 ghost use lib.Dec.{T};
@@ -26,6 +26,12 @@ ghost use Rattle.character.specs.Walk.{isClose, walkAmong, playerWalk, m
 pub enum Moved {
     BadMap,
     BadId,
+    TooFar,
+    To(Character),
+}
+
+// What it answers for a map that is one and an id that has a slot.
+pub enum MovedAt {
     TooFar,
     To(Character),
 }
@@ -50,7 +56,10 @@ impl Character {
         if is_map(sides, tiles) {
             let at = id.0 as usize;
             if at < SEATS {
-                return self.move_at(at, slots, sides, tiles, tuning_of(tunings));
+                return match self.move_at(at, slots, sides, tiles, tuning_of(tunings)) {
+                    MovedAt::TooFar => Moved::TooFar,
+                    MovedAt::To(me) => Moved::To(me),
+                };
             }
             return Moved::BadId;
         }
@@ -65,24 +74,24 @@ impl Character {
         sides: Sides,
         tiles: &[u8],
         tuning: Tuning,
-    ) -> Moved
+    ) -> MovedAt
         requires { ⌜ T (isMap sides (now tiles)) × (id < seats) ⌝ }
         ensures { λ r. ⌜ r ≡ moveAt seats self id slots sides (now (tiles .entry)) tuning ⌝ }
     {
         let from = self.pos;
         let moved = ramped_move(sides, tiles, from, self.vel, tuning);
-        let BoxMove::To(body) = moved else {
-            return Moved::TooFar;
+        let BoxWalk::To(body) = moved else {
+            return MovedAt::TooFar;
         };
         let new_pos = body.pos;
         let new_vel = body.vel;
         let walked = player_walk(slots, id, from, new_pos, tuning.player_collision);
         let PlayerWalk::At(rest) = walked else {
-            return Moved::TooFar;
+            return MovedAt::TooFar;
         };
         self.pos = rest;
         self.vel = new_vel;
-        Moved::To(self)
+        MovedAt::To(self)
     }
 }
 

@@ -19,30 +19,28 @@ use Rattle.game_tuning.specs.declared.Tuning.{Tuning}
 use Rattle.map_tiles.specs.Box.{checkBox, characterBox}
 use Rattle.num_ramp.specs.Ramp.{velocityRamp}
 use Rattle.map_walks.specs.declared.moves.Body.{Body}
-use Rattle.map_walks.specs.declared.moves.BoxMove.{BoxMove}
-use Rattle.map_walks.specs.declared.moves.BoxMove.the-variants as box
+use Rattle.map_walks.specs.declared.moves.BoxWalk.{BoxWalk}
+use Rattle.map_walks.specs.declared.moves.BoxWalk.the-variants as box
 use Rattle.map_walks.specs.Move.{bodyOf, boxTurns, blocked, boxTurn, boxTurnsTaken, walkBox}
 use Rattle.character_motion.specs.Walking.{c50, unramped, rampedMove}
 use Rattle.character.specs.declared.Character.{Character}
 use Rattle.character.specs.declared.Slot.{Slot}
-use Rattle.character.specs.declared.walk.Moved.{Moved}
-use Rattle.character.specs.declared.walk.Moved.the-variants as moved
+use Rattle.character.specs.declared.walk.MovedAt.{MovedAt}
+use Rattle.character.specs.declared.walk.MovedAt.the-variants as moved
 use Rattle.character.specs.Walk.{moveAt}
-use Rattle.character_laws.proofs.FitsTick.{FitsPair, either, add-pair}
+use Rattle.character_laws.proofs.Choices.{either}
+use Rattle.character_laws.proofs.FitsTick.{FitsPair, add-pair}
 use Rattle.character_laws.proofs.Moved.{withBox, move-alone}
 
 abbrev FitsBody : Body → Type 0
 FitsBody b = FitsPair (b .pos) × FitsPair (b .vel)
 
 -- a refusal has no body to ask about
-abbrev FitsBox : BoxMove → Type 0
-FitsBox box.BadMap = Unit {0}
+abbrev FitsBox : BoxWalk → Type 0
 FitsBox box.TooFar = Unit {0}
 FitsBox (box.To b) = FitsBody b
 
-abbrev FitsMoved : Moved → Type 0
-FitsMoved moved.BadMap = Unit {0}
-FitsMoved moved.BadId = Unit {0}
+abbrev FitsMoved : MovedAt → Type 0
 FitsMoved moved.TooFar = Unit {0}
 FitsMoved (moved.To d) = FitsPair (d .pos) × FitsPair (d .vel)
 
@@ -76,8 +74,7 @@ module _ (s : Sides) (ts : List ℕ) (size : vec2) where
   walk-fits p v h k = let n = boxTurns (vlength v) in either FitsBox (leb n mostTurns) (turns-fits (record { pos = p; vel = v }) n (h, k)) tt
 
 -- the ramp taken back, and the character where the box is
-unramped-fits : (r : Float) (c : Character) (m : BoxMove) → FitsBox m → FitsMoved (withBox c (unramped r m))
-unramped-fits r c box.BadMap h = tt
+unramped-fits : (r : Float) (c : Character) (m : BoxWalk) → FitsBox m → FitsMoved (withBox c (unramped r m))
 unramped-fits r c box.TooFar h = tt
 unramped-fits r c (box.To b) h = (h .0, (mul-fits binary32 (b .vel .x) (div binary32 c1 r), h .1 .1))
 

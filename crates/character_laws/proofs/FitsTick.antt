@@ -1,8 +1,8 @@
 -- After a tick every velocity is a pair of f32 values, where every velocity was. Assumes nothing.
-use mathlib.Core.Bool.{Bool, true, false, cond}
+use mathlib.Core.Bool.{Bool, true, false}
 use mathlib.Core.List.{List}
 use Prim.Native.Nat.{ℕ}
-use lib.Dec.{T, eqb}
+use lib.Dec.{T, eqb, ltb}
 use lib.IntN.{ℤ, pos}
 use lib.ListN.{getD}
 use lib.Ieee.{Float, binary32, fits, neg, add, lt, ne}
@@ -14,10 +14,9 @@ use Rattle.num_vec2.specs.Vec2.{vadd, vmul, vlength, vnormalize, vdistance}
 use Rattle.num_vec2.specs.declared.vec2.{vec2}
 use Rattle.game_input.specs.declared.direction.MoveDirection.{MoveDirection}
 use Rattle.game_input.specs.declared.direction.MoveDirection.the-variants.{Left, None, Right}
-use Rattle.character_hook.specs.Hook.{idOf, onAttached, onGrabbed}
+use Rattle.character_hook.specs.Hook.{idOf}
 use Rattle.character_hook.specs.declared.hook.CharacterId.{CharacterId}
 use Rattle.character_hook.specs.declared.hook.Hook.{Hook}
-use Rattle.character_hook.specs.declared.hook.Hook.the-variants.{Retracted, Idle, Flying, Grabbed, Attached, Retracting0, Retracting1, Retracting2}
 use Rattle.game_records.specs.declared.PlayerInput.{PlayerInput}
 use Rattle.map_tiles.specs.declared.tiles.Sides.{Sides}
 use Rattle.game_tuning.specs.Tuning.{tuningAt, tuningOf}
@@ -28,23 +27,21 @@ use Rattle.character_motion.specs.declared.controls.JumpState.{JumpState}
 use Rattle.character_hook.specs.Hooking.{hold}
 use Rattle.character_hook.specs.Dragging.{disableHookDistance, hookVel, drag, dragged}
 use Rattle.character_motion.specs.Meeting as meeting
-use Rattle.character_motion.specs.declared.meeting.Velocities.{Velocities}
+use Rattle.character_motion.specs.declared.meeting.HookPull.{HookPull}
+use Rattle.character_motion.specs.declared.meeting.HookPull.the-variants as pull
 use Rattle.character.specs.declared.Character.{Character}
 use Rattle.character.specs.declared.Slot.{Slot}
+use Rattle.character.specs.declared.tick.AfterTick.{AfterTick}
 use Rattle.character.specs.declared.tick.HookFlight.{HookFlight}
 use Rattle.character.specs.declared.tick.HookFlight.the-variants.{TooFar, To}
-use Rattle.character.specs.declared.tick.Met.{Met}
-use Rattle.character.specs.Tick.{slotAt, nowhere, withVel, withCharacter, steer, flight, metAt, meetTurn, meetAll, hooked, ticked, tickAt}
-use Rattle.character_laws.proofs.Slots.{set-kept}
+use Rattle.character.specs.Tick.{slotAt, nowhere, withVel, withCharacter, steer, flight, meetTurn, meetAll, pullFrom, pullOf, afterPull, hooked, ticked, tickAt}
+use Rattle.character_laws.proofs.Choices.{either, on-attached, on-grabbed}
+use Rattle.character_laws.proofs.Others.{Then}
+use Rattle.character_laws.proofs.Slots.{set-every}
 
 -- both coordinates are values of the format
 abbrev pub FitsPair : vec2 → Type 0
 FitsPair v = T (fits binary32 (v .x)) × T (fits binary32 (v .y))
-
--- what both branches have, the choice has
-pub either : {A : Type 0} (P : A → Type 0) (b : Bool) {x y : A} → P x → P y → P (cond b x y)
-either P true h k = h
-either P false h k = k
 
 pub add-pair : (v w : vec2) → FitsPair (vadd v w)
 unfolding vadd
@@ -84,36 +81,11 @@ drag-fits p v q d t h =
     let k = add-pair v (hookVel p q d t) in
     either FitsPair (lt disableHookDistance (vdistance q p)) (either FitsPair (lt (vlength new) (t .«hook_drag_speed»)) k (either FitsPair (lt (vlength new) (vlength v)) k h)) h
 
-module _ {A : Type 0} (P : A → Type 0) (e : A) (k : P e) where
-  on-attached : (f : vec2 → A) (h : Hook) → ((q : vec2) → P (f q)) → P (onAttached f e h)
-  on-attached f Retracted g = k
-  on-attached f Idle g = k
-  on-attached f (Flying p d) g = k
-  on-attached f (Grabbed c t) g = k
-  on-attached f (Attached p) g = g p
-  on-attached f (Retracting0 p) g = k
-  on-attached f (Retracting1 p) g = k
-  on-attached f (Retracting2 p) g = k
-
-  on-grabbed : (f : CharacterId → ℕ → A) (h : Hook) → ((c : CharacterId) (t : ℕ) → P (f c t)) → P (onGrabbed f e h)
-  on-grabbed f Retracted g = k
-  on-grabbed f Idle g = k
-  on-grabbed f (Flying p d) g = k
-  on-grabbed f (Grabbed c t) g = g c t
-  on-grabbed f (Attached p) g = k
-  on-grabbed f (Retracting0 p) g = k
-  on-grabbed f (Retracting1 p) g = k
-  on-grabbed f (Retracting2 p) g = k
-
 dragged-fits : (h : Hook) (p v : vec2) (d : MoveDirection) (t : Tuning) → FitsPair v → FitsPair (dragged h p v d t)
 unfolding dragged
 dragged-fits h p v d t k = on-attached FitsPair v k (λ q. drag p v q d t) h (λ q. drag-fits p v q d t k)
 
 -- ---- two that meet
-
--- the velocities of both
-abbrev FitsBoth : Velocities → Type 0
-FitsBoth v = FitsPair (v .me) × FitsPair (v .other)
 
 push-fits : (p v q : vec2) (distance collision : Float) → FitsPair v → FitsPair (meeting.push p v q distance collision)
 unfolding meeting.push meeting.pushed
@@ -125,14 +97,16 @@ unfolding meeting.pull
 pull-fits v accel d factor speed h k = (saturated-fits speed (v .x) _ h (k .0), saturated-fits speed (v .y) _ h (k .1))
 
 -- every slot's velocity, those past the end included
-abbrev FitsSlots : List Slot → Type 0
+abbrev pub FitsSlots : List Slot → Type 0
 FitsSlots ss = (k : ℕ) → FitsPair (slotAt ss k .character .vel)
 
-abbrev FitsMet : Met → Type 0
-FitsMet m = FitsPair (m .vel) × FitsSlots (m .slots)
+-- the velocity of whom a hook pulls
+abbrev pub FitsPull : HookPull → Type 0
+FitsPull pull.Nobody = Unit {0}
+FitsPull (pull.Of k v) = FitsPair v
 
-met-fits : (ss : List Slot) (j : ℕ) (v : Velocities) → FitsSlots ss → FitsBoth v → FitsMet (metAt ss j v)
-met-fits ss j v h k = (k .0, set-kept (λ s u. FitsPair (u .character .vel)) ss ss j (withCharacter (slotAt ss j) (withVel (slotAt ss j .character) (v .other))) nowhere h (k .1))
+abbrev pub FitsAfter : AfterTick → Type 0
+FitsAfter a = FitsPair (a .me .vel) × FitsPull (a .pull)
 
 -- ---- with the tunings of a world
 module _ (tunings : List ℤ) where
@@ -158,45 +132,59 @@ module _ (tunings : List ℤ) where
   unfolding steer
   steer-fits c onGround i h = (walk-fits (c .vel .x) _ _ (control-fits onGround) (h .0), jump-fits _ _ onGround (add-fits binary32 (c .vel .y) (t .gravity)))
 
-  pulled-fits : (p q : vec2) (v : Velocities) (distance : Float) → FitsBoth v → FitsBoth (meeting.dragged p q v distance t)
+  pulled-fits : (p q u : vec2) (distance : Float) → FitsPair u → FitsPair (meeting.pulled p q u distance t)
+  unfolding meeting.pulled tuningOf
+  pulled-fits p q u distance h = pull-fits u _ _ c1·5 _ (tuning-fits 11) h
+
+  own-fits : (p v q : vec2) (distance : Float) → FitsPair v → FitsPair (meeting.dragged p v q distance t)
   unfolding meeting.dragged tuningOf
-  pulled-fits p q v distance h = (pull-fits (v .me) _ _ meeting.c0·25 _ (tuning-fits 11) (h .0), pull-fits (v .other) _ _ c1·5 _ (tuning-fits 11) (h .1))
+  own-fits p v q distance h = pull-fits v _ _ meeting.c0·25 _ (tuning-fits 11) h
 
-  held-fits : (p q : vec2) (v : Velocities) (distance : Float) → FitsBoth v → FitsBoth (meeting.held p q v distance t)
+  held-fits : (p v q : vec2) → FitsPair v → FitsPair (meeting.held p v q t)
   unfolding meeting.held
-  held-fits p q v distance h = either FitsBoth (ne (t .«player_hooking») c0) (either FitsBoth (lt meeting.c42 distance) (pulled-fits p q v distance h) h) h
+  held-fits p v q h = let d = vdistance p q in either FitsPair (meeting.drags d t) (own-fits p v q d h) h
 
-  meet-fits : (p v : vec2) (h : Hook) (q u : vec2) (cid : CharacterId) → FitsPair v → FitsPair u → FitsBoth (meeting.meet p v h q u cid t)
+  meet-fits : (p v : vec2) (h : Hook) (q : vec2) (cid : CharacterId) → FitsPair v → FitsPair (meeting.meet p v h q cid t)
   unfolding meeting.meet
-  meet-fits p v h q u cid k l =
-      let distance = vdistance p q in
-      let w : Velocities = record { me = meeting.push p v q distance (t .«player_collision»); other = u } in
-      let b : FitsBoth w = (push-fits p v q distance (t .«player_collision») k, l) in
-      on-grabbed FitsBoth w b (meeting.dragIf p q w distance t cid) h (λ c n. either FitsBoth (eqb (c .0) (cid .0)) (held-fits p q w distance b) b)
+  meet-fits p v h q cid k =
+      let w = meeting.push p v q (vdistance p q) (t .«player_collision») in
+      let b : FitsPair w = push-fits p v q (vdistance p q) (t .«player_collision») k in
+      on-grabbed FitsPair w b (meeting.dragIf p w q t cid) h (λ c n. either FitsPair (eqb (c .0) (cid .0)) (held-fits p w q b) b)
 
-  turn-fits : (id : ℕ) (p : vec2) (h : Hook) (j : ℕ) (m : Met) → FitsMet m → FitsMet (meetTurn id p h t j m)
-  turn-fits id p h j m k =
-      let o = slotAt (m .slots) j in
-      either FitsMet (eqb j id) k (either FitsMet (o .present) (met-fits (m .slots) j _ (k .1) (meet-fits p (m .vel) h (o .character .pos) (o .character .vel) (idOf j) (k .0) (k .1 j))) k)
+  turn-fits : (ss : List Slot) (id : ℕ) (p : vec2) (h : Hook) (j : ℕ) (v : vec2) → FitsPair v → FitsPair (meetTurn ss id p h t j v)
+  turn-fits ss id p h j v k = let o = slotAt ss j in either FitsPair (eqb j id) k (either FitsPair (o .present) (meet-fits p v h (o .character .pos) (idOf j) k) k)
 
-  meet-all-fits : (n : ℕ) (ss : List Slot) (id : ℕ) (p v : vec2) (h : Hook) → FitsPair v → FitsSlots ss → FitsMet (meetAll n ss id p v h t)
+  meet-all-fits : (n : ℕ) (ss : List Slot) (id : ℕ) (p v : vec2) (h : Hook) → FitsPair v → FitsPair (meetAll n ss id p v h t)
   unfolding meetAll
-  meet-all-fits n ss id p v h k l = fold-kept (meetTurn id p h t) FitsMet (turn-fits id p h) n 0 (record { vel = v; slots = ss }) (k, l)
+  meet-all-fits n ss id p v h k = fold-kept (meetTurn ss id p h t) FitsPair (turn-fits ss id p h) n 0 v k
 
-  ticked-fits : (n : ℕ) (before c : Character) (id : ℕ) (ss : List Slot) (f : HookFlight) → FitsPair (before .vel) → FitsPair (c .vel) → FitsSlots ss → FitsPair (ticked n before c id ss t f .me .vel) × FitsSlots (ticked n before c id ss t f .slots)
+  pull-on-fits : (p : vec2) (cid : CharacterId) (q u : vec2) → FitsPair u → FitsPull (meeting.pullOn p cid q u t)
+  unfolding meeting.pullOn
+  pull-on-fits p cid q u h = let d = vdistance p q in either FitsPull (meeting.drags d t) (pulled-fits p q u d h) tt
+
+  pull-of-fits : (n : ℕ) (ss : List Slot) (id : ℕ) (p : vec2) (h : Hook) → FitsSlots ss → FitsPull (pullOf n ss id p h t)
+  unfolding pullOf
+  pull-of-fits n ss id p h l =
+      on-grabbed FitsPull pull.Nobody tt (pullFrom n ss id p t) h (λ c k. let o = slotAt ss (c .0) in either FitsPull (ltb (c .0) n) (either FitsPull (eqb (c .0) id) tt (either FitsPull (o .present) (pull-on-fits p c (o .character .pos) (o .character .vel) (l (c .0))) tt)) tt)
+
+  ticked-fits : (n : ℕ) (c : Character) (id : ℕ) (ss : List Slot) (f : HookFlight) → FitsPair (c .vel) → FitsSlots ss → Then FitsAfter (ticked n c id ss t f)
   unfolding hooked
-  ticked-fits n before c id ss TooFar h k l = (h, l)
-  ticked-fits n before c id ss (To f) h k l =
+  ticked-fits n c id ss TooFar k l = tt
+  ticked-fits n c id ss (To f) k l =
       let v = dragged f (c .pos) (c .vel) (c .«move_direction») t in
-      let m = meet-all-fits n ss id (c .pos) v (hold f) (dragged-fits f (c .pos) (c .vel) (c .«move_direction») t k) l in
-      (clamp-speed-fits _ (m .0), m .1)
+      (clamp-speed-fits _ (meet-all-fits n ss id (c .pos) v (hold f) (dragged-fits f (c .pos) (c .vel) (c .«move_direction») t k)), pull-of-fits n ss id (c .pos) (hold f) l)
 
--- after a tick, every velocity is one where every velocity was: the ticking character's and every slot's
+-- after a tick every velocity is one where every velocity was: the ticking character's and that of whom its hook pulls
 pub tick-fits : (n : ℕ) (c : Character) (id : ℕ) (ss : List Slot) (s : Sides) (ts : List ℕ) (i : PlayerInput) (tunings : List ℤ)
-    → FitsPair (c .vel) → ((k : ℕ) → FitsPair (slotAt ss k .character .vel))
-    → FitsPair (tickAt n c id ss s ts i (tuningOf tunings) .me .vel) × ((k : ℕ) → FitsPair (slotAt (tickAt n c id ss s ts i (tuningOf tunings) .slots) k .character .vel))
+    → FitsPair (c .vel) → FitsSlots ss → Then FitsAfter (tickAt n c id ss s ts i (tuningOf tunings))
 unfolding tickAt
 tick-fits n c id ss s ts i tunings h k =
     let g = grounded s ts (c .pos) in
     let d = steer c g i (tuningOf tunings) in
-    ticked-fits tunings n c d id ss (flight n (d .hook) (c .pos) id ss s ts (tuningOf tunings)) h (steer-fits tunings c g i h) k
+    ticked-fits tunings n d id ss (flight n (d .hook) (c .pos) id ss s ts (tuningOf tunings)) (steer-fits tunings c g i h) k
+
+-- and so every slot's after the pull
+pub after-pull-fits : (ss : List Slot) (k : HookPull) → FitsSlots ss → FitsPull k → FitsSlots (afterPull ss k)
+unfolding afterPull
+after-pull-fits ss pull.Nobody h f = h
+after-pull-fits ss (pull.Of k v) h f = set-every (λ i x. FitsPair (x .character .vel)) ss (k .0) (withCharacter (slotAt ss (k .0)) (withVel (slotAt ss (k .0) .character) v)) nowhere h f

@@ -3,6 +3,7 @@ pub mod FromNet
 pub mod Faithful
 pub mod Cases
 pub mod Slots
+pub mod Choices
 pub mod Alone
 pub mod Others
 pub mod Moved

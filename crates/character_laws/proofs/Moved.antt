@@ -12,26 +12,24 @@ use Rattle.game_tuning.specs.declared.Tuning.{Tuning}
 use Rattle.map_tiles.specs.Box.{Clear, characterBox}
 use Rattle.num_ramp.specs.Ramp.{velocityRamp}
 use Rattle.map_walks.specs.declared.moves.Body.{Body}
-use Rattle.map_walks.specs.declared.moves.BoxMove.{BoxMove}
-use Rattle.map_walks.specs.declared.moves.BoxMove.the-variants as box
+use Rattle.map_walks.specs.declared.moves.BoxWalk.{BoxWalk}
+use Rattle.map_walks.specs.declared.moves.BoxWalk.the-variants as box
 use Rattle.map_walks.specs.Move.{walkBox}
 use Rattle.map_walks.proofs.Clear.{walk-clear}
 use Rattle.character_motion.specs.Walking.{c50, unramped, rampedMove}
 use Rattle.character.specs.declared.Character.{Character}
 use Rattle.character.specs.declared.Slot.{Slot}
-use Rattle.character.specs.declared.walk.Moved.{Moved}
-use Rattle.character.specs.declared.walk.Moved.the-variants as moved
+use Rattle.character.specs.declared.walk.MovedAt.{MovedAt}
+use Rattle.character.specs.declared.walk.MovedAt.the-variants as moved
 use Rattle.character.specs.Walk.{movedTo, playerWalk, afterBox, moveAt}
 
 -- the character where the box has got to
-abbrev pub withBox : Character → BoxMove → Moved
-withBox c box.BadMap = moved.TooFar
+abbrev pub withBox : Character → BoxWalk → MovedAt
 withBox c box.TooFar = moved.TooFar
 withBox c (box.To b) = moved.To (movedTo c (b .pos) (b .vel))
 
-box-alone : (n : ℕ) (c : Character) (id : ℕ) (ss : List Slot) (t : Tuning) (m : BoxMove) → ne (t .«player_collision») c0 ≡ false → afterBox n c id ss t m ≡ withBox c m
+box-alone : (n : ℕ) (c : Character) (id : ℕ) (ss : List Slot) (t : Tuning) (m : BoxWalk) → ne (t .«player_collision») c0 ≡ false → afterBox n c id ss t m ≡ withBox c m
 unfolding playerWalk
-box-alone n c id ss t box.BadMap e = refl
 box-alone n c id ss t box.TooFar e = refl
 box-alone n c id ss t (box.To b) e = rw e
 
@@ -40,15 +38,12 @@ unfolding moveAt
 move-alone n c id ss s ts t e = box-alone n c id ss t (rampedMove s ts (c .pos) (c .vel) t) e
 
 -- ---- a clear character stays clear
-abbrev at : vec2 → Moved → vec2
-at p moved.BadMap = p
-at p moved.BadId = p
+abbrev at : vec2 → MovedAt → vec2
 at p moved.TooFar = p
 at p (moved.To c) = c .pos
 
 -- taking the ramp back moves nothing
-unramped-clear : (s : Sides) (ts : List ℕ) (r : Float) (c : Character) (m : BoxMove) → Clear s ts (c .pos) characterBox → ((b : Body) → m ≡ box.To b → Clear s ts (b .pos) characterBox) → Clear s ts (at (c .pos) (withBox c (unramped r m))) characterBox
-unramped-clear s ts r c box.BadMap h k = h
+unramped-clear : (s : Sides) (ts : List ℕ) (r : Float) (c : Character) (m : BoxWalk) → Clear s ts (c .pos) characterBox → ((b : Body) → m ≡ box.To b → Clear s ts (b .pos) characterBox) → Clear s ts (at (c .pos) (withBox c (unramped r m))) characterBox
 unramped-clear s ts r c box.TooFar h k = h
 unramped-clear s ts r c (box.To b) h k = k b refl
 

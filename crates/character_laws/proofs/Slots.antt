@@ -28,10 +28,6 @@ module _ {A : Type 0} where
   set-others P (x ∷ xs) (suc j) a d l h r zero = h zero (λ e. omega arith)
   set-others P (x ∷ xs) (suc j) a d l h r (suc k) = set-others (λ i. P (suc i)) xs j a d (less j (length xs) l) (λ i q. h (suc i) (λ e. q (omega arith))) r k
 
-  -- a relation of each place of a first list to the same place of a second is kept where the set place keeps it
-  pub set-kept : (R : A → A → Type 0) (us xs : List A) (j : ℕ) (a d : A) → ((k : ℕ) → R (getD us k d) (getD xs k d)) → R (getD us j d) a → (k : ℕ) → R (getD us k d) (getD (set xs j a) k d)
-  set-kept R us xs j a d = set-every (λ k. R (getD us k d)) xs j a d
-
   -- a fact of a and of what is read past the end is one of every place of n times a
   pub replicate-every : (P : A → Type 0) (n : ℕ) (a d : A) → P a → P d → (k : ℕ) → P (getD (replicate n a) k d)
   replicate-every P zero a d p q k = q

@@ -1,4 +1,3 @@
 pub mod Slowed
 pub mod Far
 pub mod FarPush
-pub mod Unramped

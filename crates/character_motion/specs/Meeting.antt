@@ -1,6 +1,6 @@
--- What two characters do to each other's velocity in `tick` of lib.rs. Definitions only.
+-- What a meeting does to a velocity in `tick` of lib.rs, and what a hook does to the one that it holds. Definitions only.
 use Prim.Native.Nat.{ℕ}
-use mathlib.Core.Bool.{cond}
+use mathlib.Core.Bool.{Bool, cond, _&&_}
 use lib.Dec.{eqb}
 use lib.Ieee.{Float, binary32, neg, add, sub, mul, div, lt, ne, ofBits}
 use Rattle.num_convert.specs.Number.{c0, c1, saturatedAdd, characterSize, c1·5, c0·75}
@@ -10,7 +10,8 @@ use Rattle.character_hook.specs.Hook.{onGrabbed}
 use Rattle.character_hook.specs.declared.hook.CharacterId.{CharacterId}
 use Rattle.character_hook.specs.declared.hook.Hook.{Hook}
 use Rattle.game_tuning.specs.declared.Tuning.{Tuning}
-use Rattle.character_motion.specs.declared.meeting.Velocities.{Velocities}
+use Rattle.character_motion.specs.declared.meeting.HookPull.{HookPull}
+use Rattle.character_motion.specs.declared.meeting.HookPull.the-variants.{Nobody, Of}
 
 -- CHARACTER_SIZE times 1.25, and 1.45
 abbrev pub c35 : Float
@@ -61,24 +62,34 @@ pull v accel d factor speed =
     vnew (saturatedAdd (neg speed) speed (v .x) (mul binary32 (mul binary32 accel (d .x)) factor))
     (saturatedAdd (neg speed) speed (v .y) (mul binary32 (mul binary32 accel (d .y)) factor))
 
--- the hook pulls the other, and a sixth as strongly its own character
-unfoldable pub dragged : vec2 → vec2 → Velocities → Float → Tuning → Velocities
-dragged p q v distance t =
-    let d = vnormalize (vsub p q) in
-    let accel = div binary32 (mul binary32 (t .«hook_drag_accel») distance) (t .«hook_length») in
-    record { me = pull (v .me) (neg accel) d c0·25 (t .«hook_drag_speed»); other = pull (v .other) accel d c1·5 (t .«hook_drag_speed») }
+-- a hook drags by the distance
+unfoldable pub dragAccel : Float → Tuning → Float
+dragAccel distance t = div binary32 (mul binary32 (t .«hook_drag_accel») distance) (t .«hook_length»)
 
--- where players can be hooked, and it is not too near
-unfoldable pub held : vec2 → vec2 → Velocities → Float → Tuning → Velocities
-held p q v distance t = cond (ne (t .«player_hooking») c0) (cond (lt c42 distance) (dragged p q v distance t) v) v
+-- the hook of a character at p pulls the one that it holds, at q with the velocity u
+unfoldable pub pulled : vec2 → vec2 → vec2 → Float → Tuning → vec2
+pulled p q u distance t = pull u (dragAccel distance t) (vnormalize (vsub p q)) c1·5 (t .«hook_drag_speed»)
+
+-- and a sixth as strongly its own character, the other way
+unfoldable pub dragged : vec2 → vec2 → vec2 → Float → Tuning → vec2
+dragged p v q distance t = pull v (neg (dragAccel distance t)) (vnormalize (vsub p q)) c0·25 (t .«hook_drag_speed»)
+
+-- where players can be hooked, and the two are not too near
+unfoldable pub drags : Float → Tuning → Bool
+drags distance t = ne (t .«player_hooking») c0 && lt c42 distance
+
+-- what a hook does to the character cid, which it holds
+unfoldable pub pullOn : vec2 → CharacterId → vec2 → vec2 → Tuning → HookPull
+pullOn p cid q u t = let distance = vdistance p q in cond (drags distance t) (Of cid (pulled p q u distance t)) Nobody
+
+-- and what it does to its own character
+unfoldable pub held : vec2 → vec2 → vec2 → Tuning → vec2
+held p v q t = let distance = vdistance p q in cond (drags distance t) (dragged p v q distance t) v
 
 -- the hook holds the character cid, or not
-abbrev pub dragIf : vec2 → vec2 → Velocities → Float → Tuning → CharacterId → CharacterId → ℕ → Velocities
-dragIf p q v distance t cid hooked ticks = cond (eqb (hooked .0) (cid .0)) (held p q v distance t) v
+abbrev pub dragIf : vec2 → vec2 → vec2 → Tuning → CharacterId → CharacterId → ℕ → vec2
+dragIf p v q t cid hooked ticks = cond (eqb (hooked .0) (cid .0)) (held p v q t) v
 
--- p, v and the hook are of the character that ticks, q and u of the character cid: a collision, then the drag
-unfoldable pub meet : vec2 → vec2 → Hook → vec2 → vec2 → CharacterId → Tuning → Velocities
-meet p v h q u cid t =
-    let distance = vdistance p q in
-    let w : Velocities = record { me = push p v q distance (t .«player_collision»); other = u } in
-    onGrabbed (dragIf p q w distance t cid) w h
+-- p, v and the hook are of the character that ticks, q of the character cid: the own velocity after a collision, then the drag
+unfoldable pub meet : vec2 → vec2 → Hook → vec2 → CharacterId → Tuning → vec2
+meet p v h q cid t = let w = push p v q (vdistance p q) (t .«player_collision») in onGrabbed (dragIf p w q t cid) w h

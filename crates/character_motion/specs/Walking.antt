@@ -11,8 +11,8 @@ use Rattle.map_tiles.specs.Map.{count}
 use Rattle.map_tiles.specs.declared.tiles.Sides.{Sides}
 use Rattle.map_tiles.specs.Box.{characterBox}
 use Rattle.map_walks.specs.Move.{walkBox}
-use Rattle.map_walks.specs.declared.moves.BoxMove.{BoxMove}
-use Rattle.map_walks.specs.declared.moves.BoxMove.the-variants.{BadMap, TooFar, To}
+use Rattle.map_walks.specs.declared.moves.BoxWalk.{BoxWalk}
+use Rattle.map_walks.specs.declared.moves.BoxWalk.the-variants.{TooFar, To}
 use Rattle.num_ramp.specs.Ramp.{velocityRamp}
 use Rattle.game_tuning.specs.declared.Tuning.{Tuning}
 
@@ -21,13 +21,12 @@ abbrev pub c50 : Float
 c50 = ofBits binary32 0x4248_0000
 
 -- the velocity sideways times 1.0 / ramp, where the box has moved
-abbrev pub unramped : Float → BoxMove → BoxMove
-unramped ramp BadMap = BadMap
+abbrev pub unramped : Float → BoxWalk → BoxWalk
 unramped ramp TooFar = TooFar
 unramped ramp (To b) = To (record { pos = b .pos; vel = vnew (mul binary32 (b .vel .x) (div binary32 c1 ramp)) (b .vel .y) })
 
 -- the box moves with the velocity sideways ramped
-unfoldable pub rampedMove : Sides → List ℕ → vec2 → vec2 → Tuning → BoxMove
+unfoldable pub rampedMove : Sides → List ℕ → vec2 → vec2 → Tuning → BoxWalk
 rampedMove s ts p v t =
     let ramp = velocityRamp (mul binary32 (vlength v) c50) (t .«velramp_start») (t .«velramp_range») (t .«velramp_curvature») in
     unramped ramp (walkBox s ts p (vnew (mul binary32 (v .x) ramp) (v .y)) characterBox)

@@ -1,4 +1,4 @@
-// What two characters do to each other's velocity in a tick.
+// What a meeting in a tick does to a character's velocity, and what its hook does to the one that it holds.
 use character_hook::CharacterId;
 use character_hook::Hook;
 use game_tuning::Tuning;
@@ -7,12 +7,12 @@ use num_convert::saturated_add;
 use num_vec2::vec2;
 ghost use mathlib.Core.Path.{_≡_};
 ghost use Rattle.num_vec2.specs.Vec2.{vdistance};
-ghost use Rattle.character_motion.specs.Meeting.{additionalVel, pushed, push, pull, dragged, held, meet};
+ghost use Rattle.character_motion.specs.Meeting.{additionalVel, pushed, push, pull, dragAccel, pulled, dragged, drags, pullOn, held, meet};
 
-// The velocities of a character and of another that it meets.
-pub struct Velocities {
-    pub me: vec2,
-    pub other: vec2,
+// Whom a hook pulls, and the velocity that it leaves them.
+pub enum HookPull {
+    Nobody,
+    Of(CharacterId, vec2),
 }
 
 // How much of the push is added to a velocity, by how it goes towards the other.
@@ -76,61 +76,86 @@ pub fn pull(vel: vec2, accel: f32, dir: vec2, factor: f32, speed: f32) -> vec2
     )
 }
 
-// What a hook does to both, the one that holds and the one that is held.
-fn dragged(
-    pos: vec2,
-    other_pos: vec2,
-    before: Velocities,
-    distance: f32,
-    tuning: Tuning,
-) -> Velocities
-    ensures { λ r. ⌜ r ≡ dragged pos «other_pos» before distance tuning ⌝ }
+// How strongly a hook drags: by the distance.
+fn drag_accel(distance: f32, tuning: Tuning) -> f32
+    ensures { λ r. ⌜ r ≡ dragAccel distance tuning ⌝ }
+{
+    tuning.hook_drag_accel * distance / tuning.hook_length
+}
+
+// The velocity of the one that a hook holds, pulled towards the hook's character at pos.
+fn pulled(pos: vec2, other_pos: vec2, other_vel: vec2, distance: f32, tuning: Tuning) -> vec2
+    ensures { λ r. ⌜ r ≡ pulled pos «other_pos» «other_vel» distance tuning ⌝ }
 {
     let dir = pos.sub(other_pos).normalize();
-    let accel = tuning.hook_drag_accel * distance / tuning.hook_length;
-    let drag_speed = tuning.hook_drag_speed;
-    let other = pull(before.other, accel, dir, 1.5, drag_speed);
-    let me = pull(before.me, -accel, dir, 0.25, drag_speed);
-    Velocities {
-        me: me,
-        other: other,
-    }
+    let accel = drag_accel(distance, tuning);
+    pull(other_vel, accel, dir, 1.5, tuning.hook_drag_speed)
 }
 
-// The same, where players can be hooked and the other is not too near.
-fn held(pos: vec2, other_pos: vec2, before: Velocities, distance: f32, tuning: Tuning) -> Velocities
-    ensures { λ r. ⌜ r ≡ held pos «other_pos» before distance tuning ⌝ }
+// The velocity of the hook's own character, dragged towards the one that it holds.
+fn dragged(pos: vec2, vel: vec2, other_pos: vec2, distance: f32, tuning: Tuning) -> vec2
+    ensures { λ r. ⌜ r ≡ dragged pos vel «other_pos» distance tuning ⌝ }
+{
+    let dir = pos.sub(other_pos).normalize();
+    let accel = drag_accel(distance, tuning);
+    pull(vel, -accel, dir, 0.25, tuning.hook_drag_speed)
+}
+
+// Whether players can be hooked and the two are not too near.
+fn drags(distance: f32, tuning: Tuning) -> bool
+    ensures { λ r. ⌜ r ≡ drags distance tuning ⌝ }
 {
     if tuning.player_hooking != 0.0 {
-        if distance > 42.0 {
-            return dragged(pos, other_pos, before, distance, tuning);
-        }
+        return distance > 42.0;
     }
-    before
+    false
 }
 
-// A tick's meeting with the character cid: a collision, then the drag of a hook that holds it.
+// What a hook does to the character cid, which it holds.
+pub fn pull_on(
+    pos: vec2,
+    cid: CharacterId,
+    other_pos: vec2,
+    other_vel: vec2,
+    tuning: Tuning,
+) -> HookPull
+    ensures { λ r. ⌜ r ≡ pullOn pos cid «other_pos» «other_vel» tuning ⌝ }
+{
+    let distance = vec2::distance(pos, other_pos);
+    if drags(distance, tuning) {
+        return HookPull::Of(cid, pulled(pos, other_pos, other_vel, distance, tuning));
+    }
+    HookPull::Nobody
+}
+
+// The own velocity of a character whose hook holds another.
+fn held(pos: vec2, vel: vec2, other_pos: vec2, tuning: Tuning) -> vec2
+    ensures { λ r. ⌜ r ≡ held pos vel «other_pos» tuning ⌝ }
+{
+    let distance = vec2::distance(pos, other_pos);
+    if drags(distance, tuning) {
+        return dragged(pos, vel, other_pos, distance, tuning);
+    }
+    vel
+}
+
+// The own velocity after a meeting with the character cid: a collision, then the drag of a hook that holds it.
 pub fn meet(
     pos: vec2,
     vel: vec2,
     hook: Hook,
     other_pos: vec2,
-    other_vel: vec2,
     cid: CharacterId,
     tuning: Tuning,
-) -> Velocities
-    ensures { λ r. ⌜ r ≡ meet pos vel hook «other_pos» «other_vel» cid tuning ⌝ }
+) -> vec2
+    ensures { λ r. ⌜ r ≡ meet pos vel hook «other_pos» cid tuning ⌝ }
 {
-    let velocities = Velocities {
-        me: collide(pos, vel, other_pos, tuning.player_collision),
-        other: other_vel,
-    };
+    let pushed = collide(pos, vel, other_pos, tuning.player_collision);
     let Hook::Grabbed(hooked, _) = hook else {
-        return velocities;
+        return pushed;
     };
     if hooked.0 == cid.0 {
-        let distance = vec2::distance(pos, other_pos);
-        return held(pos, other_pos, velocities, distance, tuning);
+        return held(pos, pushed, other_pos, tuning);
     }
-    velocities
+    pushed
 }

@@ -3,7 +3,7 @@ use game_tuning::Tuning;
 use map_tiles::Sides;
 use map_tiles::count;
 use map_walks::Body;
-use map_walks::BoxMove;
+use map_walks::BoxWalk;
 use map_walks::walk_box;
 use num_convert::CHARACTER_SIZE;
 use num_ramp::velocity_ramp;
@@ -14,7 +14,7 @@ ghost use Rattle.map_tiles.specs.Map.{isMap};
 ghost use Rattle.character_motion.specs.Walking.{rampedMove, playerTurns, restAt};
 
 // The box is moved with the velocity sideways ramped, and the ramp is taken back after.
-pub fn ramped_move(sides: Sides, tiles: &[u8], pos: vec2, vel: vec2, tuning: Tuning) -> BoxMove
+pub fn ramped_move(sides: Sides, tiles: &[u8], pos: vec2, vel: vec2, tuning: Tuning) -> BoxWalk
     requires { ⌜ T (isMap sides (now tiles)) ⌝ }
     ensures { λ r. ⌜ r ≡ rampedMove sides (now (tiles .entry)) pos vel tuning ⌝ }
 {
@@ -27,12 +27,12 @@ pub fn ramped_move(sides: Sides, tiles: &[u8], pos: vec2, vel: vec2, tuning: Tun
     let ramped = vec2::new(vel.x * ramp_value, vel.y);
     let box_ = vec2::new(CHARACTER_SIZE, CHARACTER_SIZE);
     let moved = walk_box(sides, tiles, pos, ramped, box_);
-    let BoxMove::To(body) = moved else {
-        return moved;
+    let BoxWalk::To(body) = moved else {
+        return BoxWalk::TooFar;
     };
     let new_pos = body.pos;
     let new_vel = body.vel;
-    BoxMove::To(Body {
+    BoxWalk::To(Body {
         pos: new_pos,
         vel: vec2::new(new_vel.x * (1.0 / ramp_value), new_vel.y),
     })

@@ -16,7 +16,7 @@ use Rattle.map_tiles.specs.declared.tiles.Sides.{Sides}
 use Rattle.map_tiles.specs.Map.{mostTurns}
 use Rattle.map_tiles.specs.Box.{checkBox, Clear}
 use Rattle.map_walks.specs.declared.moves.Body.{Body}
-use Rattle.map_walks.specs.declared.moves.BoxMove.the-variants.{TooFar, To}
+use Rattle.map_walks.specs.declared.moves.BoxWalk.the-variants.{TooFar, To}
 use Rattle.map_walks.specs.Move.{bodyOf, boxTurns, blocked, boxTurn, boxTurnsTaken, walkBox}
 
 module _ (s : Sides) (ts : List ℕ) (box : vec2) where

@@ -17,6 +17,8 @@ use Rattle.map_tiles.specs.Box.{checkBox}
 use Rattle.map_walks.specs.declared.moves.Body.{Body}
 use Rattle.map_walks.specs.declared.moves.BoxMove.{BoxMove}
 use Rattle.map_walks.specs.declared.moves.BoxMove.the-variants.{BadMap, TooFar, To}
+use Rattle.map_walks.specs.declared.moves.BoxWalk.{BoxWalk}
+use Rattle.map_walks.specs.declared.moves.BoxWalk.the-variants as walk
 
 -- 0.00001
 abbrev pub leastDist : Float
@@ -47,14 +49,19 @@ unfoldable pub boxTurnsTaken : Sides → List ℕ → Body → vec2 → ℕ → 
 boxTurnsTaken s ts b box n = fold (λ i. boxTurn s ts (div binary32 c1 (i32ToF32 (pos n))) box) n 0 b
 
 -- the walk on a map that is one: 9 where it is too far
-unfoldable pub walkBox : Sides → List ℕ → vec2 → vec2 → vec2 → BoxMove
+unfoldable pub walkBox : Sides → List ℕ → vec2 → vec2 → vec2 → BoxWalk
 walkBox s ts at vel box =
     let turns = boxTurns (vlength vel) in
-    cond (leb turns mostTurns) (To (boxTurnsTaken s ts (record { pos = at; vel = vel }) box turns)) TooFar
+    cond (leb turns mostTurns) (walk.To (boxTurnsTaken s ts (record { pos = at; vel = vel }) box turns)) walk.TooFar
+
+-- a walk's answer as that of `move_box`
+abbrev pub ofWalk : BoxWalk → BoxMove
+ofWalk walk.TooFar = TooFar
+ofWalk (walk.To b) = To b
 
 -- refused with 1 where the map is none, before the walk is measured
 unfoldable pub moveBox : Sides → List ℕ → vec2 → vec2 → vec2 → BoxMove
-moveBox s ts at vel box = cond (isMap s ts) (walkBox s ts at vel box) BadMap
+moveBox s ts at vel box = cond (isMap s ts) (ofWalk (walkBox s ts at vel box)) BadMap
 
 -- document 01's number of an answer
 abbrev pub boxNumber : BoxMove → ℕ

@@ -7,5 +7,6 @@ pub use lines::check_line;
 pub use lines::walk_line;
 pub use moves::Body;
 pub use moves::BoxMove;
+pub use moves::BoxWalk;
 pub use moves::move_box;
 pub use moves::walk_box;

@@ -24,26 +24,35 @@ pub enum BoxMove {
     To(Body),
 }
 
+// What it answers on a map that is one.
+pub enum BoxWalk {
+    TooFar,
+    To(Body),
+}
+
 // Moves a box by its velocity, turn by turn.
 pub fn move_box(sides: Sides, tiles: &[u8], pos: vec2, vel: vec2, box_: vec2) -> BoxMove
     ensures { λ r. ⌜ r ≡ moveBox sides (now (tiles .entry)) pos vel «box_» ⌝ }
 {
     if is_map(sides, tiles) {
-        return walk_box(sides, tiles, pos, vel, box_);
+        return match walk_box(sides, tiles, pos, vel, box_) {
+            BoxWalk::TooFar => BoxMove::TooFar,
+            BoxWalk::To(body) => BoxMove::To(body),
+        };
     }
     BoxMove::BadMap
 }
 
 // The same on a map that is known to be one.
-pub fn walk_box(sides: Sides, tiles: &[u8], pos: vec2, vel: vec2, box_: vec2) -> BoxMove
+pub fn walk_box(sides: Sides, tiles: &[u8], pos: vec2, vel: vec2, box_: vec2) -> BoxWalk
     requires { ⌜ T (isMap sides (now tiles)) ⌝ }
     ensures { λ r. ⌜ r ≡ walkBox sides (now (tiles .entry)) pos vel «box_» ⌝ }
 {
     let turns = box_turns(vel.length());
     if turns > MOST_TURNS {
-        return BoxMove::TooFar;
+        return BoxWalk::TooFar;
     }
-    BoxMove::To(box_turns_taken(
+    BoxWalk::To(box_turns_taken(
         sides,
         tiles,
         Body { pos: pos, vel: vel },

@@ -1,8 +1,8 @@
 -- `character::Character::move_` meets its contract. Assumes nothing.
 use mathlib.Core.Path.{sym, _∙_, subst}
 use lib.Dec.{T}
-use borrow.Author.Needs.{needs}
 use borrow.Author.Tests.{lt-ltb, le-ltb}
+use borrow.Author.Needs.{needs}
 use Rattle.character.specs.Walk.{move}
 use Rattle.character.proofs.Character.move_.Statement.{statement}
 use Rattle.character.proofs.Character.move_.Tie as tie
@@ -19,17 +19,27 @@ tuning-of-requires c κs = search needs
 move-at-requires : tie.Need-move-at-requires
 move-at-requires c κs = (subst T (sym (c .before .before .before .if1 .taken) ∙ c .before .before .before .before .is-map .ensures) tt, c .before .if2 .taken)
 
+enum-told : tie.Need-enum-told
+enum-told c = search needs
+
+enum-known-me : tie.Need-enum-known-me
+enum-known-me c = search needs
+
 returns : tie.Need-returns
 unfolding move
-returns c = simp (← c .before .before .before .before .before .is-map .ensures, c .before .before .before .before .if1 .taken, lt-ltb _ _ (c .before .before .if2 .taken), ← c .before .tuning-of .ensures, ← c .move-at .ensures)
+returns c = simp (← c .before .before .before .before .before .before .before .is-map .ensures, c .before .before .before .before .before .before .if1 .taken, lt-ltb _ _ (c .before .before .before .before .if2 .taken), ← c .before .before .before .tuning-of .ensures, ← c .before .before .move-at .ensures, c .enum-told .given .1)
 
 returns-2 : tie.Need-returns-2
 unfolding move
-returns-2 c = simp (← c .before .before .before .is-map .ensures, c .before .before .if1 .taken, le-ltb _ _ (c .if2 .left))
+returns-2 c = simp (← c .before .before .before .before .before .before .before .before .is-map .ensures, c .before .before .before .before .before .before .before .if1 .taken, lt-ltb _ _ (c .before .before .before .before .before .if2 .taken), ← c .before .before .before .before .tuning-of .ensures, ← c .before .before .before .move-at .ensures, c .before .me .given .1)
 
 returns-3 : tie.Need-returns-3
 unfolding move
-returns-3 c = simp (← c .before .is-map .ensures, c .if1 .left)
+returns-3 c = simp (← c .before .before .before .is-map .ensures, c .before .before .if1 .taken, le-ltb _ _ (c .if2 .left))
+
+returns-4 : tie.Need-returns-4
+unfolding move
+returns-4 c = simp (← c .before .is-map .ensures, c .if1 .left)
 
 pub move--spec : {M : Type 1} → statement M
 move--spec =
@@ -39,6 +49,9 @@ move--spec =
     cast-at
     tuning-of-requires
     move-at-requires
+    enum-told
+    enum-known-me
     returns
     returns-2
-    returns-3)
+    returns-3
+    returns-4)

@@ -1,7 +1,5 @@
 -- `character::Character::move_at` meets its contract. Assumes nothing.
 use borrow.Author.Needs.{needs}
-use Rattle.character.proofs.NoBox.{no-box}
-use Rattle.character.specs.Tick.{seats}
 use Rattle.character.specs.Walk.{moveAt}
 use Rattle.character.proofs.Character.move_at.Statement.{statement}
 use Rattle.character.proofs.Character.move_at.Tie as tie
@@ -12,11 +10,12 @@ ramped-move-requires c κs = search needs
 enum-known-moved : tie.Need-enum-known-moved
 enum-known-moved c = search needs
 
+enum-told : tie.Need-enum-told
+enum-told c = search needs
+
 returns : tie.Need-returns
 unfolding moveAt
-returns c =
-    let a = c .before .before .before .before .args in
-    rw (← c .before .ramped-move .ensures) (no-box seats (a .self) (a .id) (a .slots) (a .tuning) (c .before .ramped-move .result) (c .match .keys2))
+returns c = simp (← c .before .before .ramped-move .ensures, c .enum-told .given .1)
 
 player-walk-requires : tie.Need-player-walk-requires
 player-walk-requires c κs = search needs
@@ -24,12 +23,12 @@ player-walk-requires c κs = search needs
 enum-known-walked : tie.Need-enum-known-walked
 enum-known-walked c = search needs
 
-enum-told : tie.Need-enum-told
-enum-told c = search needs
+enum-told-2 : tie.Need-enum-told-2
+enum-told-2 c = search needs
 
 returns-2 : tie.Need-returns-2
 unfolding moveAt
-returns-2 c = simp (← c .before .before .before .before .before .before .before .before .ramped-move .ensures, c .before .before .before .before .before .before .moved .given .1, ← c .before .before .player-walk .ensures, c .enum-told .given .1)
+returns-2 c = simp (← c .before .before .before .before .before .before .before .before .ramped-move .ensures, c .before .before .before .before .before .before .moved .given .1, ← c .before .before .player-walk .ensures, c .enum-told2 .given .1)
 
 returns-3 : tie.Need-returns-3
 unfolding moveAt
@@ -41,9 +40,10 @@ move-at-spec =
     (tie.spec
     ramped-move-requires
     enum-known-moved
+    enum-told
     returns
     player-walk-requires
     enum-known-walked
-    enum-told
+    enum-told-2
     returns-2
     returns-3)

@@ -10,16 +10,16 @@ sub-requires c κs = search needs
 normalize-requires : tie.Need-normalize-requires
 normalize-requires c κs = search needs
 
+drag-accel-requires : tie.Need-drag-accel-requires
+drag-accel-requires c κs = search needs
+
 pull-requires : tie.Need-pull-requires
 pull-requires c κs = search needs
 
-pull-requires-2 : tie.Need-pull-requires-2
-pull-requires-2 c κs = search needs
-
 returns : tie.Need-returns
 unfolding dragged
-returns c = simp (← c .before .before .before .before .before .sub .ensures, ← c .before .before .before .before .normalize .ensures, ← c .before .pull .ensures, ← c .pull2 .ensures)
+returns c = simp (← c .before .before .before .sub .ensures, ← c .before .before .normalize .ensures, ← c .before .drag-accel .ensures, ← c .pull .ensures)
 
 pub dragged-spec : {M : Type 1} → statement M
 dragged-spec =
-    tie.close (tie.spec sub-requires normalize-requires pull-requires pull-requires-2 returns)
+    tie.close (tie.spec sub-requires normalize-requires drag-accel-requires pull-requires returns)

@@ -1,6 +1,6 @@
 -- `character_motion::meeting::meet` meets its contract. Assumes nothing.
-use borrow.Author.Needs.{needs}
 use borrow.Author.Tests.{eq-eqb, ne-eqb}
+use borrow.Author.Needs.{needs}
 use Rattle.character_hook.proofs.Variants.{not-grabbed}
 use Rattle.character_motion.specs.Meeting.{meet}
 use Rattle.character_motion.proofs.meeting.meet.Statement.{statement}
@@ -16,15 +16,12 @@ returns : tie.Need-returns
 unfolding meet
 returns c = rw (not-grabbed _ _ _ (c .match .keys2), ← c .before .collide .ensures)
 
-distance-requires : tie.Need-distance-requires
-distance-requires c κs = search needs
-
 held-requires : tie.Need-held-requires
 held-requires c κs = search needs
 
 returns-2 : tie.Need-returns-2
 unfolding meet
-returns-2 c = simp (c .held .ensures, c .before .distance .ensures, c .before .before .before .before .before .before .before .before .collide .ensures, c .before .before .before .before .before .before .hook .given .1, eq-eqb _ _ (c .before .before .if1 .taken))
+returns-2 c = simp (← c .before .before .before .before .before .before .before .collide .ensures, c .before .before .before .before .before .hook .given .1, eq-eqb _ _ (c .before .if1 .taken), ← c .held .ensures)
 
 returns-3 : tie.Need-returns-3
 unfolding meet
@@ -32,12 +29,4 @@ returns-3 c = simp (← c .before .before .before .before .before .before .colli
 
 pub meet-spec : {M : Type 1} → statement M
 meet-spec =
-    tie.close
-    (tie.spec
-    collide-requires
-    enum-known-hook
-    returns
-    distance-requires
-    held-requires
-    returns-2
-    returns-3)
+    tie.close (tie.spec collide-requires enum-known-hook returns held-requires returns-2 returns-3)

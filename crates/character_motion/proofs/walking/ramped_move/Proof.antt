@@ -1,6 +1,5 @@
 -- `character_motion::walking::ramped_move` meets its contract. Assumes nothing.
 use borrow.Author.Needs.{needs}
-use Rattle.character_motion.proofs.Unramped.{not-moved}
 use Rattle.character_motion.specs.Walking.{rampedMove}
 use Rattle.character_motion.proofs.walking.ramped_move.Statement.{statement}
 use Rattle.character_motion.proofs.walking.ramped_move.Tie as tie
@@ -23,9 +22,12 @@ walk-box-requires c κs = search needs
 enum-known-moved : tie.Need-enum-known-moved
 enum-known-moved c = search needs
 
+enum-told : tie.Need-enum-told
+enum-told c = search needs
+
 returns : tie.Need-returns
 unfolding rampedMove
-returns c = simp (← c .before .before .before .before .before .before .length .ensures, ← c .before .before .before .before .before .velocity-ramp .ensures, ← c .before .before .before .new .ensures, ← c .before .before .new2 .ensures, ← c .before .walk-box .ensures) (not-moved (c .before .before .before .before .before .velocity-ramp .result) (c .before .walk-box .result) (c .match .keys2))
+returns c = simp (← c .before .before .before .before .before .before .before .length .ensures, ← c .before .before .before .before .before .before .velocity-ramp .ensures, ← c .before .before .before .before .new .ensures, ← c .before .before .before .new2 .ensures, ← c .before .before .walk-box .ensures, c .enum-told .given .1)
 
 new-requires-3 : tie.Need-new-requires-3
 new-requires-3 c κs = search needs
@@ -44,6 +46,7 @@ ramped-move-spec =
     new-requires-2
     walk-box-requires
     enum-known-moved
+    enum-told
     returns
     new-requires-3
     returns-2)
