@@ -1,7 +1,7 @@
 -- 'Proved cases, as one joint fact' of document 01, over the definitions. Definitions only; proofs/Proved.antt proves it.
-use Prim.Native.Nat.{_≤_}
+use Prim.Native.Nat.{ℕ, _≤_, _<_}
 use mathlib.Core.Bool.{true}
-use mathlib.Core.List.{[], _∷_}
+use mathlib.Core.List.{List, [], _∷_}
 use mathlib.Core.Path.{_≡_}
 use lib.IntN.{ℤ, pos, negsuc}
 use lib.Ieee.{Float, nan, binary32, ofBits, toBits, add}
@@ -22,6 +22,15 @@ use Rattle.aim_rule.specs.Angle.{netAngle}
 use Rattle.character_hook.specs.Hook.{tickOf}
 use Rattle.character.specs.declared.Character.{Character}
 use Rattle.character.specs.Records.{mostTick}
+use Rattle.character.specs.Tick.{withHook, tick}
+use Rattle.character.specs.declared.Slot.{Slot}
+use Rattle.character.specs.declared.tick.Ticked.{Ticked}
+use Rattle.character.specs.declared.tick.Ticked.the-variants as answer
+use Rattle.character_hook.specs.declared.hook.Hook.{Hook}
+use Rattle.game_input.specs.Inputs.{hooks}
+use Rattle.game_records.specs.declared.PlayerInput.{PlayerInput}
+use Rattle.map_tiles.specs.Map.{isMap}
+use Rattle.map_tiles.specs.declared.tiles.Sides.{Sides}
 use Rattle.character.specs.Records as characters
 use Rattle.character.specs.declared.records.Quantized.the-variants as quantized
 
@@ -39,6 +48,13 @@ start = vnew (ofBits binary32 0x42c8_0000) (ofBits binary32 0x42c8_0000)
 -- c, whose hook tick a record holds, quantizes to a character of which P holds
 abbrev pub QuantizesTo : (Character → Type 0) → Character → Type 0
 QuantizesTo P c = tickOf (c .hook) ≤ mostTick → (d : Character) × (characters.quantize c ≡ quantized.To d) × P d
+
+-- a tick was accepted, and leaves the character with the hook h
+abbrev pub HookAfter : Hook → Ticked → Type 0
+HookAfter h answer.BadMap = ⊥
+HookAfter h answer.BadId = ⊥
+HookAfter h answer.TooFar = ⊥
+HookAfter h (answer.To a) = a .me .hook ≡ h
 
 pub record ProvedCases : Type 0 where
   -- (1) root of 0x00000001 is 0x1A3504F3
@@ -59,6 +75,7 @@ pub record ProvedCases : Type 0 where
   pub saturates : (saturatedAdd (n (negsuc 4)) (n (pos 5)) (n (pos 7)) (n (pos 1)) ≡ n (pos 7)) × (saturatedAdd (n (negsuc 4)) (n (pos 5)) (n (pos 7)) (n (negsuc 0)) ≡ n (pos 5))
   -- (8) with the hook input held, Grabbed tick 59 becomes 60; 60 becomes Retracted
   pub holds : (c : CharacterId) (p d : vec2) → (hold (fire (Grabbed c 59) true p d) ≡ Grabbed c 60) × (hold (fire (Grabbed c 60) true p d) ≡ Retracted)
+  pub tick-holds : (n : ℕ) (c : Character) (id cid : CharacterId) (ss : List Slot) (s : Sides) (ts : List ℕ) (i : PlayerInput) (tunings : List ℤ) → isMap s ts ≡ true → id .0 < n → hooks i ≡ true → HookAfter (Grabbed cid 60) (tick n (withHook c (Grabbed cid 59)) id ss s ts i tunings) × HookAfter Retracted (tick n (withHook c (Grabbed cid 60)) id ss s ts i tunings)
   -- (9) angles: (1,1) 201, (−1,0) 804, (0,−1) −402
   pub angles : (netAngle (pos 1) (pos 1) ≡ pos 201) × (netAngle (negsuc 0) (pos 0) ≡ pos 804) × (netAngle (pos 0) (negsuc 0) ≡ negsuc 401)
   -- (10) a line of length 0 tests a not-a-number point, so tile (0,0): the only solid one of two by two
