@@ -1,19 +1,17 @@
--- `world_numbers::decoding::core_of` meets its contract. Assumes nothing.
-use lib.Dec.{lit<}
+-- `game_records::core_of` meets its contract. Assumes nothing.
 use mathlib.Core.List.{List, [], _∷_, map}
 use mir.Syntax.{w32}
 use mir.Val.{toZ, ofZ}
 use mathlib.Core.Path.{_≡_, ap}
-use lib.IntN.{ℤ, pos}
-use lib.ListN.{getD}
-use Rattle.world_numbers.proofs.Rows.{AllI32, all-again}
-use Rattle.world_numbers.specs.Decoding.{seatCore}
+use lib.IntN.{ℤ}
+use Rattle.game_records.proofs.Bits.{AllI32, all-again}
+use Rattle.game_records.specs.Numbers.{numberAt, coreIn}
 use borrow.Author.Needs.{needs}
-use Rattle.world_numbers.proofs.decoding.core_of.Statement.{statement}
-use Rattle.world_numbers.proofs.decoding.core_of.Tie as tie
+use Rattle.game_records.proofs.core_of.Statement.{statement}
+use Rattle.game_records.proofs.core_of.Tie as tie
 
-core-again : (zs : List ℤ) → AllI32 zs → seatCore (map (λ (z : ℤ). toZ w32 (ofZ w32 z)) zs) ≡ seatCore zs
-core-again zs a = ap seatCore (all-again zs a)
+core-again : (zs : List ℤ) → AllI32 zs → coreIn (map (λ (z : ℤ). toZ w32 (ofZ w32 z)) zs) ≡ coreIn zs
+core-again zs a = ap coreIn (all-again zs a)
 
 shared-slice-copy-out-t3 : tie.Need-shared-slice-copy-out-t3
 shared-slice-copy-out-t3 c = search needs
@@ -61,12 +59,26 @@ shared-slice-copy-out-t32 : tie.Need-shared-slice-copy-out-t32
 shared-slice-copy-out-t32 c = search needs
 
 returns : tie.Need-returns
-unfolding seatCore
+unfolding coreIn
 returns c =
-    let s = c .before .before .before .before .before .before .before .before .before .before .before .before .before .before .before .args .seat .now in
-    let zs : List ℤ = pos 0 ∷ getD s 1 (pos 0) ∷ getD s 2 (pos 0) ∷ getD s 3 (pos 0) ∷ getD s 4 (pos 0) ∷ getD s 5 (pos 0) ∷ getD s 6 (pos 0) ∷ getD s 7 (pos 0) ∷ getD s 8 (pos 0) ∷ getD s 9 (pos 0) ∷ getD s 10 (pos 0) ∷ getD s 11 (pos 0) ∷ getD s 12 (pos 0) ∷ getD s 13 (pos 0) ∷ getD s 14 (pos 0) ∷ getD s 15 (pos 0) ∷ [] in
-    let all : AllI32 zs = (lit< tt, (c .before .before .before .before .before .before .before .before .before .before .before .before .before .before .t3 .given, (c .before .before .before .before .before .before .before .before .before .before .before .before .before .t5 .given, (c .before .before .before .before .before .before .before .before .before .before .before .before .t7 .given, (c .before .before .before .before .before .before .before .before .before .before .before .t9 .given, (c .before .before .before .before .before .before .before .before .before .before .t11 .given, (c .before .before .before .before .before .before .before .before .before .t13 .given, (c .before .before .before .before .before .before .before .before .t15 .given, (c .before .before .before .before .before .before .before .t17 .given, (c .before .before .before .before .before .before .t19 .given, (c .before .before .before .before .before .t21 .given, (c .before .before .before .before .t23 .given, (c .before .before .before .t26 .given, (c .before .before .t28 .given, (c .before .t30 .given, (c .t32 .given, tt)))))))))))))))) in
-    core-again zs all
+    let b14 = c in
+    let b13 = b14 .before in
+    let b12 = b13 .before in
+    let b11 = b12 .before in
+    let b10 = b11 .before in
+    let b9 = b10 .before in
+    let b8 = b9 .before in
+    let b7 = b8 .before in
+    let b6 = b7 .before in
+    let b5 = b6 .before in
+    let b4 = b5 .before in
+    let b3 = b4 .before in
+    let b2 = b3 .before in
+    let b1 = b2 .before in
+    let b0 = b1 .before in
+    let s = b0 .before .args .numbers .now in
+    let zs : List ℤ = numberAt s 0 ∷ numberAt s 1 ∷ numberAt s 2 ∷ numberAt s 3 ∷ numberAt s 4 ∷ numberAt s 5 ∷ numberAt s 6 ∷ numberAt s 7 ∷ numberAt s 8 ∷ numberAt s 9 ∷ numberAt s 10 ∷ numberAt s 11 ∷ numberAt s 12 ∷ numberAt s 13 ∷ numberAt s 14 ∷ [] in
+    core-again zs (b0 .t3 .given, (b1 .t5 .given, (b2 .t7 .given, (b3 .t9 .given, (b4 .t11 .given, (b5 .t13 .given, (b6 .t15 .given, (b7 .t17 .given, (b8 .t19 .given, (b9 .t21 .given, (b10 .t23 .given, (b11 .t26 .given, (b12 .t28 .given, (b13 .t30 .given, (b14 .t32 .given, tt)))))))))))))))
 
 pub core-of-spec : {M : Type 1} → statement M
 core-of-spec =

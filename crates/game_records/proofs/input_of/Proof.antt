@@ -1,8 +1,8 @@
--- `world_numbers::decoding::input_of` meets its contract. Assumes nothing.
-use Rattle.world_numbers.specs.Decoding.{seatInput}
+-- `game_records::input_of` meets its contract. Assumes nothing.
+use Rattle.game_records.specs.Numbers.{inputIn}
 use borrow.Author.Needs.{needs}
-use Rattle.world_numbers.proofs.decoding.input_of.Statement.{statement}
-use Rattle.world_numbers.proofs.decoding.input_of.Tie as tie
+use Rattle.game_records.proofs.input_of.Statement.{statement}
+use Rattle.game_records.proofs.input_of.Tie as tie
 
 shared-slice-copy-out-t3 : tie.Need-shared-slice-copy-out-t3
 shared-slice-copy-out-t3 c = search needs
@@ -20,7 +20,7 @@ shared-slice-copy-out-t11 : tie.Need-shared-slice-copy-out-t11
 shared-slice-copy-out-t11 c = search needs
 
 returns : tie.Need-returns
-unfolding seatInput
+unfolding inputIn
 returns c = search needs
 
 pub input-of-spec : {M : Type 1} → statement M
