@@ -1,1 +1,1 @@
-pub mod Pastes
+pub mod Puts

@@ -2,12 +2,12 @@
 ghost use mathlib.Core.Path.{_≡_};
 ghost use Prim.Native.Nat.{_+_, _≤_};
 ghost use lib.ListN.{length};
-ghost use lib.Seq.{paste};
+ghost use Rattle.base_rows.specs.Put.{put};
 
 // Puts a row of numbers into a buffer from `at` on.
 pub fn copy(numbers: &mut [i32], at: usize, row: &[i32])
     requires { ⌜ at + length (now row) ≤ length (now numbers) ⌝ }
-    ensures { λ _. ⌜ now (numbers .exit) ≡ paste (now (numbers .entry)) at (now (row .entry)) (length (now (row .entry))) ⌝ }
+    ensures { λ _. ⌜ now (numbers .exit) ≡ put (now (numbers .entry)) at (now (row .entry)) ⌝ }
 {
     for i in 0..row.len() {
         numbers[at + i] = row[i];

@@ -1,7 +1,8 @@
--- A record and an input as lists of numbers. Definitions only.
+-- A record and an input as lists of numbers, and back. Definitions only.
 use Prim.Native.Nat.{ℕ}
 use mathlib.Core.List.{List, [], _∷_}
-use lib.IntN.{ℤ}
+use lib.IntN.{ℤ, pos}
+use lib.ListN.{getD}
 use Rattle.game_records.specs.declared.CharacterCore.{CharacterCore}
 use Rattle.game_records.specs.declared.PlayerInput.{PlayerInput}
 
@@ -22,3 +23,33 @@ coreNumbers n =
 -- the five numbers of an input, in the order of its fields
 unfoldable pub inputNumbers : PlayerInput → List ℤ
 inputNumbers i = i .direction ∷ i .«target_x» ∷ i .«target_y» ∷ i .jump ∷ i .hook ∷ []
+
+-- ---- the way back
+
+-- the k-th number, 0 past the end
+abbrev pub numberAt : List ℤ → ℕ → ℤ
+numberAt l k = getD l k (pos 0)
+
+-- the record whose numbers l starts with
+unfoldable pub coreIn : List ℤ → CharacterCore
+coreIn l = record {
+  tick = numberAt l 0;
+  x = numberAt l 1;
+  y = numberAt l 2;
+  «vel_x» = numberAt l 3;
+  «vel_y» = numberAt l 4;
+  angle = numberAt l 5;
+  direction = numberAt l 6;
+  jumped = numberAt l 7;
+  «hooked_player» = numberAt l 8;
+  «hook_state» = numberAt l 9;
+  «hook_tick» = record { 0 = numberAt l 10 };
+  «hook_x» = numberAt l 11;
+  «hook_y» = numberAt l 12;
+  «hook_dx» = numberAt l 13;
+  «hook_dy» = numberAt l 14;
+}
+
+-- the input whose numbers l starts with
+unfoldable pub inputIn : List ℤ → PlayerInput
+inputIn l = record { direction = numberAt l 0; «target_x» = numberAt l 1; «target_y» = numberAt l 2; jump = numberAt l 3; hook = numberAt l 4 }

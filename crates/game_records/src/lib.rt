@@ -1,6 +1,8 @@
-// The records of the protocol that the physics reads and writes, and their numbers in the order of their fields.
+// The records of the protocol that the physics reads and writes, and their numbers in the order of their fields, both ways.
 ghost use mathlib.Core.Path.{_≡_};
-ghost use Rattle.game_records.specs.Numbers.{coreNumbers, inputNumbers};
+ghost use Prim.Native.Nat.{_≤_};
+ghost use lib.ListN.{length};
+ghost use Rattle.game_records.specs.Numbers.{coreCount, inputCount, coreNumbers, inputNumbers, coreIn, inputIn};
 
 // How many numbers a record has, and an input.
 pub const CORE: usize = 15;
@@ -69,4 +71,42 @@ pub fn input_numbers(input: PlayerInput) -> [i32; INPUT]
         input.jump,
         input.hook,
     ]
+}
+
+// The record whose numbers a slice starts with.
+pub fn core_of(numbers: &[i32]) -> CharacterCore
+    requires { ⌜ coreCount ≤ length (now numbers) ⌝ }
+    ensures { λ r. ⌜ r ≡ coreIn (now (numbers .entry)) ⌝ }
+{
+    CharacterCore {
+        tick: numbers[0],
+        x: numbers[1],
+        y: numbers[2],
+        vel_x: numbers[3],
+        vel_y: numbers[4],
+        angle: numbers[5],
+        direction: numbers[6],
+        jumped: numbers[7],
+        hooked_player: numbers[8],
+        hook_state: numbers[9],
+        hook_tick: Tick(numbers[10]),
+        hook_x: numbers[11],
+        hook_y: numbers[12],
+        hook_dx: numbers[13],
+        hook_dy: numbers[14],
+    }
+}
+
+// The input whose numbers a slice starts with.
+pub fn input_of(numbers: &[i32]) -> PlayerInput
+    requires { ⌜ inputCount ≤ length (now numbers) ⌝ }
+    ensures { λ r. ⌜ r ≡ inputIn (now (numbers .entry)) ⌝ }
+{
+    PlayerInput {
+        direction: numbers[0],
+        target_x: numbers[1],
+        target_y: numbers[2],
+        jump: numbers[3],
+        hook: numbers[4],
+    }
 }

@@ -12,7 +12,7 @@ ghost use mathlib.Core.List.{List};
 ghost use mathlib.Core.Path.{_≡_};
 ghost use lib.ListN.{length, take};
 ghost use Rattle.character.specs.Tick.{seats};
-ghost use Rattle.session_run.specs.Session.{mostLine};
+ghost use Rattle.text_writing.specs.Output.{mostLine};
 ghost use Rattle.session_run.specs.Start.{mostRead};
 ghost use Rattle.session_laws.specs.Played.{PlayedOut, Started, TextPlayed};
 

@@ -11,7 +11,8 @@ use Rattle.text_decimal.proofs.Places.{within}
 use Rattle.text_reading.specs.Map.{mostBytes, mapBytes}
 use Rattle.session_laws.proofs.Reading.{passed-few}
 use Rattle.session_run.specs.Line.{LineRan}
-use Rattle.session_run.specs.Session.{mostCalls, mostLine, another, LinesRan}
+use Rattle.text_writing.specs.Output.{mostLine}
+use Rattle.session_run.specs.Session.{mostCalls, another, LinesRan}
 use Rattle.session_run.specs.declared.session_lines.Session.{Session}
 use Rattle.session_run.specs.declared.session_lines.Turned.{Turned}
 use Rattle.session_laws.specs.Played.{Played, PlayEnds}

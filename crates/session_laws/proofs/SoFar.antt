@@ -5,13 +5,12 @@ use mathlib.Core.List.{List, [], _∷_, _++_, append-assoc, append-nil}
 use mathlib.Core.Path.{_≡_, refl, sym, ap, _∙_, subst}
 use native.Mathlib.Omega.{arith}
 use lib.IntN.{pos}
-use lib.ListN.{length, take, drop, length-append}
-use lib.Seq.{take-at}
+use lib.ListN.{length, take, length-append}
 use Rattle.map_tiles.specs.declared.tiles.Sides.{Sides}
 use Rattle.world.specs.declared.call.Call.{Call}
 use Rattle.text_writing.specs.Output.{heading}
-use Rattle.text_writing.specs.Put.{put, Put}
-use Rattle.text_writing.proofs.Puts.{put-none}
+use Rattle.base_rows.proofs.Puts.{take-put, put-none}
+use Rattle.text_writing.specs.Put.{Put}
 use Rattle.text_writing.proofs.Sizes.{put-after}
 use Rattle.world.specs.World.{fresh}
 use Rattle.world.specs.Run.{ran, toldBy}
@@ -27,8 +26,7 @@ use Rattle.session_laws.specs.Played.{Played}
 
 -- bytes that were put at the start of a buffer stand there
 pub put-first : {d w e : List ℕ} {k : ℕ} → Put d 0 w e k → take k e ≡ w
-unfolding put
-put-first {d} {w} {e} {k} p = let q = p .place in ap (take k) (p .bytes) ∙ take-at w (drop (0 + length w) d) k (omega arith)
+put-first {d} {w} {e} {k} p = ap (take k) (p .bytes) ∙ take-put d 0 w k (p .place) (omega arith)
 
 -- after the heading, `out` was written
 pub data SoFar (n : ℕ) (text : List ℕ) (s : Sides) (ts : List ℕ) (b : Session) (out : List ℕ) : Type 0 where

@@ -6,7 +6,8 @@ use mathlib.Core.Path.{_≡_}
 use lib.ListN.{length, take}
 use Rattle.map_tiles.specs.declared.tiles.Sides.{Sides}
 use Rattle.session_laws.specs.Session.{Text, StandsFor}
-use Rattle.session_run.specs.Session.{mostCalls, mostLine, another, LinesRan}
+use Rattle.text_writing.specs.Output.{mostLine}
+use Rattle.session_run.specs.Session.{mostCalls, another, LinesRan}
 use Rattle.session_run.specs.Start.{Began}
 use Rattle.session_run.specs.declared.session_lines.Session.{Session}
 use Rattle.session_run.specs.declared.session_lines.Turned.{Turned}

@@ -8,7 +8,8 @@ use lib.Dec.{leb}
 use borrow.Author.Tests.{leb-true}
 use Rattle.map_tiles.specs.declared.tiles.Sides.{Sides}
 use Rattle.session_run.specs.Line.{LineRan, end, fault, call}
-use Rattle.session_run.specs.Session.{mostCalls, mostLine, another}
+use Rattle.text_writing.specs.Output.{mostLine}
+use Rattle.session_run.specs.Session.{mostCalls, another}
 use Rattle.session_run.specs.declared.session_lines.Session.{Session}
 use Rattle.session_run.specs.declared.session_lines.Turned.{Turned}
 

@@ -5,16 +5,14 @@ use mathlib.Core.List.{List}
 use mathlib.Core.Path.{_≡_}
 use lib.Dec.{leb}
 use Rattle.map_tiles.specs.declared.tiles.Sides.{Sides}
+use Rattle.text_writing.specs.Output.{mostLine}
 use Rattle.session_run.specs.Line.{LineRan}
 use Rattle.session_run.specs.declared.session_lines.Session.{Session}
 use Rattle.session_run.specs.declared.session_lines.Turned.{Turned}
 
--- the most calls that a text can have, and the most bytes of a line
+-- the most calls that a text can have
 abbrev pub mostCalls : ℕ
 mostCalls = 65536
-
-abbrev pub mostLine : ℕ
-mostLine = 216
 
 -- another line is run: the session has not ended, a text can have the call that is due, and the buffer has room for a line of each seat
 abbrev pub another : ℕ → Bool → ℕ → ℕ → ℕ → Bool

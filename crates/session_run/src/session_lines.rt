@@ -11,7 +11,9 @@ ghost use mathlib.Core.Path.{_≡_};
 ghost use Prim.Native.Nat.{_+_, _*_, _≤_};
 ghost use lib.ListN.{length};
 ghost use Rattle.character.specs.Tick.{seats};
+ghost use Rattle.text_writing.specs.Output.{mostLine};
 ghost use Rattle.session_run.specs.Line.{LineRan, endedAt, goesOn};
+ghost use Rattle.session_run.specs.Session.{mostCalls};
 
 // A session between two lines: whether it has ended, the number of the call that is due, the place of its line, the world.
 pub struct Session {
@@ -36,7 +38,7 @@ pub fn run_line(
     buf: &mut [u8],
     at: usize,
 ) -> Turned
-    requires { ⌜ (at + 216 * seats ≤ length (now buf)) × (session .call ≤ 65537) ⌝ }
+    requires { ⌜ (at + mostLine * seats ≤ length (now buf)) × (session .call ≤ mostCalls + 1) ⌝ }
     ensures { λ r. ⌜ LineRan seats (now (text .entry)) sides (now (tiles .entry)) session (now (buf .entry)) at r (now (buf .exit)) ⌝ }
 {
     let call = session.call;

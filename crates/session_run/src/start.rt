@@ -10,9 +10,11 @@ use text_reading::read_map;
 use text_writing::put_answer;
 use text_writing::put_heading;
 use world_calls::fresh;
-ghost use Prim.Native.Nat.{_≤_};
+ghost use Prim.Native.Nat.{_*_, _≤_};
 ghost use lib.ListN.{length};
 ghost use Rattle.character.specs.Tick.{seats};
+ghost use Rattle.text_reading.specs.Map.{mostTiles};
+ghost use Rattle.text_writing.specs.Output.{mostLine};
 ghost use Rattle.session_run.specs.Start.{Began};
 
 // A longer text is at fault, so one byte more tells.
@@ -27,7 +29,7 @@ pub struct Begun {
 
 // Puts the heading into buf, and the map's tiles to the start of `tiles`. A map at fault ends the session.
 pub fn begin(text: &[u8], tiles: &mut [u8], buf: &mut [u8]) -> Begun
-    requires { ⌜ (32768 ≤ length (now tiles)) × (432 ≤ length (now buf)) ⌝ }
+    requires { ⌜ (mostTiles ≤ length (now tiles)) × (2 * mostLine ≤ length (now buf)) ⌝ }
     ensures { λ r. ⌜ Began seats (now (text .entry)) (now (tiles .exit)) (now (buf .entry)) r (now (buf .exit)) ⌝ }
 {
     let end = put_heading(buf, 0);

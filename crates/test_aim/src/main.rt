@@ -1,58 +1,48 @@
 // Compares the tables of the angle rule with entries from another source, and runs recorded answers of the angle, the power and the
 // ramp. It prints the lines that are answered otherwise, and tells how many agree. A line is 0 for an entry, 1 for an angle, 2 for a
 // power or 3 for a ramp, and 5 patterns; tools/angle_entries prints those of entries, rust/record the others.
-use libc::STDIN_FILENO;
-use libc::STDOUT_FILENO;
 use num_convert::cast_signed;
 use num_convert::hundredths_to_f32;
+use test_common::Counts;
+use test_common::MOST_LINES;
+use test_common::Outcome;
+use test_common::byte_at;
 use test_common::float_of;
 use test_common::is_float;
 use test_common::is_int;
 use test_common::nth;
+use test_common::read_line;
+use test_common::rest;
 
 // The length of a line, and where the patterns begin in it.
 const LINE: usize = 47;
 
 const PATTERNS: usize = 2;
 
-struct Counts {
-    lines: usize,
-    good: usize,
-}
-
 fn main() {
     let counts = count_all();
-    io::print_decimal(STDOUT_FILENO, counts.good as u64);
-    io::write_all(STDOUT_FILENO, b" of ");
-    io::print_decimal(STDOUT_FILENO, counts.lines as u64);
-    io::write_all(STDOUT_FILENO, b" agree\n");
+    counts.print();
 }
 
-// A proved loop has to end, so this one takes at most 65,536 lines.
 fn count_all() -> Counts {
-    let mut lines: usize = 0;
-    let mut good: usize = 0;
-    while lines < 65536 {
-        let mut line = [0u8; LINE];
-        if io::read_full(STDIN_FILENO, &mut line) < LINE {
-            break;
-        }
-        lines += 1;
-        if line_agrees(&line) {
-            good += 1;
-        } else {
-            io::write_all(STDOUT_FILENO, &line);
-        }
+    let mut counts = Counts::new();
+    for _ in 0..MOST_LINES {
+        counts = counts.with(next_line());
     }
-    Counts { lines, good }
+    counts
+}
+
+fn next_line() -> Outcome {
+    let mut line = [0u8; LINE];
+    if !read_line(&mut line) {
+        return Outcome::End;
+    }
+    Outcome::of(line_agrees(&line), &line)
 }
 
 fn line_agrees(line: &[u8]) -> bool {
-    if line.len() < LINE {
-        return false;
-    }
-    let patterns = &line[PATTERNS..];
-    match line[0] {
+    let patterns = rest(line, PATTERNS);
+    match byte_at(line, 0) {
         b'0' => entry_agrees(nth(patterns, 0), nth(patterns, 1), nth(patterns, 2)),
         b'1' => angle_agrees(nth(patterns, 0), nth(patterns, 1), nth(patterns, 2)),
         b'2' => power_agrees(nth(patterns, 0), nth(patterns, 1), nth(patterns, 2)),

@@ -4,6 +4,10 @@ use Rattle.test_common.specs.declared.counts.Counts.{Counts}
 use Rattle.test_common.specs.declared.counts.Outcome.{Outcome}
 use Rattle.test_common.specs.declared.counts.Outcome.the-variants.{End, Agrees, Differs}
 
+-- a program reads at most so many lines
+abbrev pub mostLines : ℕ
+mostLines = 65536
+
 -- one more, modulo 2 ^ 64
 abbrev next : ℕ → ℕ
 next n = (n + 1) % 2 ^ 64

@@ -1,4 +1,3 @@
 pub mod Counts
-pub mod Patterns
 pub mod Words
 pub mod States

@@ -1,13 +1,11 @@
 -- A character as twelve words. Definitions only.
 use Prim.Native.Nat.{ℕ, suc, _/_, _%_}
 use mathlib.Core.Bool.{Bool, cond}
-use mathlib.Core.List.{List, [], _∷_}
+use mathlib.Core.List.{List}
 use lib.Dec.{eqb}
 use lib.Ieee.{binary32, ofBits}
-use lib.ListN.{getD}
 use Rattle.num_vec2.specs.declared.vec2.{vec2}
 use Rattle.num_vec2.specs.Vec2.{vnew}
-use Rattle.test_common.specs.Patterns.{patternOf}
 use Rattle.test_common.specs.Words.{wordAt}
 use Rattle.character_hook.specs.declared.hook.Hook.{Hook}
 use Rattle.character_hook.specs.declared.hook.Hook.the-variants.{Retracted, Idle, Flying, Grabbed, Attached, Retracting0, Retracting1, Retracting2}
@@ -22,8 +20,6 @@ abbrev pub directionNumber : MoveDirection → ℕ
 directionNumber direction.Left = 0
 directionNumber direction.None = 1
 directionNumber direction.Right = 2
-
--- ---- a character that is read
 
 -- the two words from the number k on, as a pair of floats
 abbrev pub pointAt : List ℕ → ℕ → vec2
@@ -55,30 +51,3 @@ characterIn ws = record {
   angle = record { radians = ofBits binary32 (wordAt ws 10) };
   «move_direction» = directionIn (wordAt ws 11);
 }
-
--- ---- the words of a character
-
--- the number of a case that holds a position
-abbrev pub posWords : ℕ → vec2 → List ℕ
-posWords k p = k ∷ patternOf (p .x) ∷ patternOf (p .y) ∷ 0 ∷ 0 ∷ []
-
--- the hook's case, and what it holds
-unfoldable pub hookWords : Hook → List ℕ
-hookWords Retracted = 0 ∷ 0 ∷ 0 ∷ 0 ∷ 0 ∷ []
-hookWords Idle = 1 ∷ 0 ∷ 0 ∷ 0 ∷ 0 ∷ []
-hookWords (Flying p d) = 2 ∷ patternOf (p .x) ∷ patternOf (p .y) ∷ patternOf (d .x) ∷ patternOf (d .y) ∷ []
-hookWords (Grabbed c t) = 3 ∷ c .0 ∷ t ∷ 0 ∷ 0 ∷ []
-hookWords (Attached p) = posWords 4 p
-hookWords (Retracting0 p) = posWords 5 p
-hookWords (Retracting1 p) = posWords 6 p
-hookWords (Retracting2 p) = posWords 7 p
-
--- the kth of the hook's words
-abbrev pub hookWord : Hook → ℕ → ℕ
-hookWord h k = getD (hookWords h) k 0
-
-unfoldable pub wordsOf : Character → List ℕ
-wordsOf c =
-    patternOf (c .pos .x) ∷ patternOf (c .pos .y) ∷ patternOf (c .vel .x) ∷ patternOf (c .vel .y)
-    ∷ hookWord (c .hook) 0 ∷ hookWord (c .hook) 1 ∷ hookWord (c .hook) 2 ∷ hookWord (c .hook) 3 ∷ hookWord (c .hook) 4
-    ∷ jumpsOf (c .«jumped_already») (c .«used_airjump») ∷ patternOf (c .angle .radians) ∷ directionNumber (c .«move_direction») ∷ []

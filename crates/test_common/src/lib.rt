@@ -1,17 +1,26 @@
-// What the test programs share: reading recorded vectors, and a character as words.
+// What the test programs share: reading recorded vectors, and a character and numbers as words.
 mod counts;
+mod lines;
 mod map;
+mod numbers;
 mod states;
 mod vectors;
 
 pub use counts::Counts;
 pub use counts::Outcome;
-pub use map::area;
-pub use map::byte;
+pub use lines::MOST_LINES;
+pub use lines::byte_at;
+pub use lines::first;
+pub use lines::read_line;
+pub use lines::rest;
+pub use map::AFTER_MAP;
+pub use map::sides_of;
+pub use map::tile_count;
 pub use map::tiles_of;
+pub use numbers::are_numbers;
+pub use numbers::read_numbers;
 pub use states::character_of;
 pub use states::is_character;
-pub use states::words_of;
 pub use vectors::after;
 pub use vectors::float_of;
 pub use vectors::hex;

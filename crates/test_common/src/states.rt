@@ -3,7 +3,6 @@ use crate::vectors::float_of;
 use crate::vectors::is_float;
 use crate::vectors::is_point;
 use crate::vectors::nth;
-use crate::vectors::pattern_of;
 use crate::vectors::point;
 use character::Character;
 use character_hook::CharacterId;
@@ -14,7 +13,7 @@ use num_vec2::vec2;
 ghost use mathlib.Core.Path.{_≡_};
 ghost use mathlib.Core.Bool.{true};
 ghost use Rattle.test_common.specs.Words.{wordAt};
-ghost use Rattle.test_common.specs.States.{jumpsOf, directionNumber, pointAt, hookIn, directionIn, characterIn, posWords, hookWords, wordsOf};
+ghost use Rattle.test_common.specs.States.{jumpsOf, directionNumber, pointAt, hookIn, directionIn, characterIn};
 
 pub fn character_of(words: &[u8]) -> Character
     ensures { λ r. ⌜ r ≡ characterIn (now (words .entry)) ⌝ }
@@ -29,60 +28,6 @@ pub fn character_of(words: &[u8]) -> Character
         angle: Angle::from_radians(float_of(nth(words, 10))),
         move_direction: direction_of(nth(words, 11)),
     }
-}
-
-// The words that `character_of` reads.
-pub fn words_of(character: Character) -> [u32; 12]
-    ensures { λ r. ⌜ r ≡ wordsOf character ⌝ }
-{
-    let pos = character.pos;
-    let vel = character.vel;
-    let hook = character.hook;
-    let angle = character.angle;
-    let direction = character.move_direction;
-    let hooked = hook_words(hook);
-    [
-        pattern_of(pos.x),
-        pattern_of(pos.y),
-        pattern_of(vel.x),
-        pattern_of(vel.y),
-        hooked[0],
-        hooked[1],
-        hooked[2],
-        hooked[3],
-        hooked[4],
-        jumps(character.jumped_already, character.used_airjump),
-        pattern_of(angle.to_radians()),
-        direction_number(direction),
-    ]
-}
-
-// The hook's case, and what it holds.
-fn hook_words(hook: Hook) -> [u32; 5]
-    ensures { λ r. ⌜ r ≡ hookWords hook ⌝ }
-{
-    match hook {
-        Hook::Retracted => [0; 5],
-        Hook::Idle => [1, 0, 0, 0, 0],
-        Hook::Flying(pos, dir) => [
-            2,
-            pattern_of(pos.x),
-            pattern_of(pos.y),
-            pattern_of(dir.x),
-            pattern_of(dir.y),
-        ],
-        Hook::Grabbed(id, tick) => [3, id.0, tick, 0, 0],
-        Hook::Attached(pos) => pos_words(4, pos),
-        Hook::Retracting0(pos) => pos_words(5, pos),
-        Hook::Retracting1(pos) => pos_words(6, pos),
-        Hook::Retracting2(pos) => pos_words(7, pos),
-    }
-}
-
-fn pos_words(case: u32, pos: vec2) -> [u32; 5]
-    ensures { λ r. ⌜ r ≡ posWords case pos ⌝ }
-{
-    [case, pattern_of(pos.x), pattern_of(pos.y), 0, 0]
 }
 
 pub fn is_character(character: Character, words: &[u8]) -> bool

@@ -7,7 +7,6 @@ ghost use mathlib.Core.Bool.{true};
 ghost use lib.Ieee.{binary32, ofBits};
 ghost use Rattle.num_convert.specs.Casts.{castSigned};
 ghost use Rattle.num_vec2.specs.Vec2.{vnew};
-ghost use Rattle.test_common.specs.Patterns.{patternOf};
 ghost use Rattle.test_common.specs.Words.{hexOf, wordOf, wordsFrom, wordAt};
 
 // The first 8 digits as a number.
@@ -68,13 +67,6 @@ pub fn float_of(pattern: u32) -> f32
     } else {
         0.0 / 0.0
     }
-}
-
-// Every not-a-number has the same pattern.
-pub fn pattern_of(x: f32) -> u32
-    ensures { λ r. ⌜ (r ≡ patternOf x) × (ofBits binary32 r ≡ x) ⌝ }
-{
-    if x != x { 0x7fc0_0000 } else { f32::to_bits(x) }
 }
 
 pub fn is_float(x: f32, pattern: u32) -> bool

@@ -1,13 +1,16 @@
 // Runs the recorded vectors of its input, prints those that the functions answer otherwise, and tells how many agree. A line is
 // a function's number, an argument's pattern and the answer's, in 8 hexadecimal digits each; rust/record prints them.
-use libc::STDIN_FILENO;
 use num_convert::cast_signed;
 use test_common::Counts;
+use test_common::MOST_LINES;
 use test_common::Outcome;
+use test_common::byte_at;
 use test_common::float_of;
 use test_common::hex;
 use test_common::is_float;
 use test_common::is_int;
+use test_common::read_line;
+use test_common::rest;
 use test_common::word;
 
 // The length of a line, and where the argument and the answer begin in it.
@@ -22,29 +25,28 @@ fn main() {
     counts.print();
 }
 
-// A proved loop has to end, so this one reads at most 65,536 lines.
 fn count_all() -> Counts {
     let mut counts = Counts::new();
-    for _ in 0..65536usize {
+    for _ in 0..MOST_LINES {
         counts = counts.with(next_line());
     }
     counts
 }
 
 fn next_line() -> Outcome {
-    let mut line = [0u8; 20];
-    let n = io::read_full(STDIN_FILENO, &mut line);
-    if n < LINE {
+    let mut line = [0u8; LINE];
+    if !read_line(&mut line) {
         return Outcome::End;
     }
-    Outcome::of(line_agrees(&line[..n]), &line[..n])
+    Outcome::of(line_agrees(&line), &line)
 }
 
 fn line_agrees(line: &[u8]) -> bool {
-    if line.len() < LINE {
-        return false;
-    }
-    agrees(hex(line[0]), word(&line[ARGUMENT..]), word(&line[ANSWER..]))
+    agrees(
+        hex(byte_at(line, 0)),
+        word(rest(line, ARGUMENT)),
+        word(rest(line, ANSWER)),
+    )
 }
 
 fn agrees(which: u32, argument: u32, answer: u32) -> bool {

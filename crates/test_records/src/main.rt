@@ -1,20 +1,24 @@
 // Runs the recorded answers of the Rust for `to_net`, `from_net` and `quantize`, prints the lines that are answered otherwise, and
 // tells how many agree. rust/world/record_records prints the lines: s or r, a state, the number, a record, the state of the record.
-mod cores;
-
 use character::Character;
 use character::Net;
 use character::Quantized;
 use character::from_net;
 use character::quantize;
 use character::to_net;
-use cores::core_of;
-use cores::is_core;
-use libc::STDIN_FILENO;
+use game_records::CORE;
+use game_records::core_numbers;
+use game_records::core_of;
 use test_common::Counts;
+use test_common::MOST_LINES;
 use test_common::Outcome;
+use test_common::are_numbers;
+use test_common::byte_at;
 use test_common::character_of;
 use test_common::is_character;
+use test_common::read_line;
+use test_common::read_numbers;
+use test_common::rest;
 use test_common::word;
 
 // The length of a line; where the states, the number and the record begin in it.
@@ -37,33 +41,30 @@ fn main() {
     counts.print();
 }
 
-// A proved loop has to end, so this one reads at most 65,536 lines.
 fn count_all() -> Counts {
     let mut counts = Counts::new();
-    for _ in 0..65536usize {
+    for _ in 0..MOST_LINES {
         counts = counts.with(next_line());
     }
     counts
 }
 
 fn next_line() -> Outcome {
-    let mut line = [0u8; 362];
-    let n = io::read_full(STDIN_FILENO, &mut line);
-    if n < LINE {
+    let mut line = [0u8; LINE];
+    if !read_line(&mut line) {
         return Outcome::End;
     }
-    Outcome::of(line_agrees(&line[..n]), &line[..n])
+    Outcome::of(line_agrees(&line), &line)
 }
 
 fn line_agrees(line: &[u8]) -> bool {
-    if line.len() < LINE {
-        return false;
-    }
-    let number = word(&line[NUMBER..]);
-    if line[0] == b's' {
-        state_case(&line[BEFORE..], number, &line[RECORD..], &line[AFTER..])
+    let number = word(rest(line, NUMBER));
+    let record = rest(line, RECORD);
+    let after = rest(line, AFTER);
+    if byte_at(line, 0) == b's' {
+        state_case(rest(line, BEFORE), number, record, after)
     } else {
-        record_case(number, &line[RECORD..], &line[AFTER..])
+        record_case(number, record, after)
     }
 }
 
@@ -75,7 +76,9 @@ fn state_case(before: &[u8], number: u32, record: &[u8], after: &[u8]) -> bool {
 }
 
 fn record_case(number: u32, record: &[u8], after: &[u8]) -> bool {
-    let character = from_net(core_of(record));
+    let mut numbers = [0i32; CORE];
+    read_numbers(record, &mut numbers);
+    let character = from_net(core_of(&numbers));
     is_character(character, after) && number_agrees(character, number)
 }
 
@@ -83,7 +86,10 @@ fn net_agrees(character: Character, number: u32, record: &[u8]) -> bool {
     let net = to_net(character);
     match net {
         Net::TickTooLarge => number == TICK_TOO_LARGE,
-        Net::Core(core) => number == ACCEPTED && is_core(core, record),
+        Net::Core(core) => {
+            let numbers = core_numbers(core);
+            number == ACCEPTED && are_numbers(&numbers, record)
+        }
     }
 }
 

@@ -1,43 +1,37 @@
 // Runs the recorded calls of the Rust one after another, prints the lines that are answered otherwise, and tells how many agree.
 // rust/world/record_calls prints the lines: n or c, the map's sides and 64 tiles, then twelve words.
 mod digest;
-mod requests;
 
+use digest::records_digest;
 use digest::world_digest;
-use libc::STDIN_FILENO;
 use map_tiles::Sides;
-use num_convert::cast_signed;
-use requests::Reply;
-use requests::Request;
-use requests::reply_to;
+use test_common::AFTER_MAP;
 use test_common::Counts;
+use test_common::MOST_LINES;
 use test_common::Outcome;
-use test_common::area;
-use test_common::byte;
+use test_common::after;
+use test_common::first;
 use test_common::nth;
+use test_common::read_line;
+use test_common::read_numbers;
+use test_common::rest;
+use test_common::tile_count;
 use test_common::tiles_of;
+use text_reading::Decoded;
+use text_reading::decode;
+use world::Call;
+use world::Stepped;
 use world::World;
 use world_calls::fresh;
-ghost use Prim.Native.Nat.{_≤_, _<_};
-ghost use lib.ListN.{length};
+use world_step::run_call;
 
-// The length of a line; where the sides, the tiles and the words begin in it.
+// The length of a line.
 const LINE: usize = 181;
 
-const WIDTH: usize = 2;
-
-const HEIGHT: usize = 5;
-
-const TILES: usize = 8;
-
-const WORDS: usize = 73;
-
-// Where the sides, the code, the arguments, the answer and the digests stand among the words.
+// Where the sides, the call's values, the answer and the digests stand among the words.
 const SIDES: usize = 0;
 
-const CODE: usize = 2;
-
-const ARGUMENTS: usize = 3;
+const CALL: usize = 2;
 
 const ANSWER: usize = 9;
 
@@ -56,11 +50,10 @@ fn main() {
     counts.print();
 }
 
-// A proved loop has to end, so this one reads at most 65,536 lines.
 fn count_all() -> Counts {
     let mut counts = Counts::new();
     let mut world = fresh();
-    for _ in 0..65536usize {
+    for _ in 0..MOST_LINES {
         let next = next_line(world);
         let outcome = next.outcome;
         counts = counts.with(outcome);
@@ -70,26 +63,14 @@ fn count_all() -> Counts {
 }
 
 fn next_line(world: World) -> Next {
-    let mut line = [0u8; 181];
-    let n = io::read_full(STDIN_FILENO, &mut line);
-    if n < LINE {
+    let mut line = [0u8; LINE];
+    if !read_line(&mut line) {
         return Next {
             outcome: Outcome::End,
             world,
         };
     }
-    after_line(world, &line[..n])
-}
-
-fn after_line(world: World, line: &[u8]) -> Next
-    requires { ⌜ 181 ≤ length (now line) ⌝ }
-{
-    let reply = answer(world_before(line[0], world), line);
-    let left = reply.world;
-    Next {
-        outcome: outcome_of(reply, line),
-        world: left,
-    }
+    after_line(world_before(line[0], world), &line)
 }
 
 // A sequence begins with a fresh world.
@@ -97,59 +78,38 @@ fn world_before(mark: u8, world: World) -> World {
     if mark == b'n' { fresh() } else { world }
 }
 
-fn answer(world: World, line: &[u8]) -> Reply
-    requires { ⌜ 181 ≤ length (now line) ⌝ }
-{
-    let tiles = tiles_of(&line[TILES..]);
-    let request = request_of(&line[WORDS..]);
-    reply_to(world, first(&tiles, tile_count(line)), request)
-}
-
-fn tile_count(line: &[u8]) -> usize
-    requires { ⌜ 181 ≤ length (now line) ⌝ }
-{
-    let width = byte(line[WIDTH], line[WIDTH + 1]);
-    let height = byte(line[HEIGHT], line[HEIGHT + 1]);
-    area(width, height)
-}
-
-// The first n of the tiles.
-fn first(tiles: &[u8], n: usize) -> &[u8] {
-    if n <= tiles.len() {
-        return &tiles[0..n];
-    }
-    tiles
-}
-
-fn outcome_of(reply: Reply, line: &[u8]) -> Outcome
-    requires { ⌜ 181 ≤ length (now line) ⌝ }
-{
-    let words = &line[WORDS..];
-    let world = reply.world;
-    let agrees = reply.number == nth(words, ANSWER)
-        && reply.records == nth(words, RECORDS)
-        && world_digest(world) == nth(words, WORLD);
-    Outcome::of(agrees, line)
-}
-
-fn request_of(words: &[u8]) -> Request {
-    Request {
-        sides: Sides {
-            width: nth(words, SIDES),
-            height: nth(words, SIDES + 1),
-        },
-        code: nth(words, CODE),
-        a: argument(words, 0),
-        b: argument(words, 1),
-        c: argument(words, 2),
-        d: argument(words, 3),
-        e: argument(words, 4),
-        f: argument(words, 5),
+// Values that are no call agree with nothing.
+fn after_line(world: World, line: &[u8]) -> Next {
+    let words = rest(line, AFTER_MAP);
+    let mut values = [0i32; 7];
+    read_numbers(after(words, CALL), &mut values);
+    let Decoded::Call(call) = decode(values) else {
+        return Next {
+            outcome: Outcome::of(false, line),
+            world,
+        };
+    };
+    let stepped = answer(world, line, words, call);
+    let left = stepped.world;
+    Next {
+        outcome: Outcome::of(answer_agrees(stepped, words), line),
+        world: left,
     }
 }
 
-fn argument(words: &[u8], k: usize) -> i32
-    requires { ⌜ k < 6 ⌝ }
-{
-    cast_signed(nth(words, ARGUMENTS + k))
+fn answer(world: World, line: &[u8], words: &[u8], call: Call) -> Stepped {
+    let sides = Sides {
+        width: nth(words, SIDES),
+        height: nth(words, SIDES + 1),
+    };
+    let tiles = tiles_of(line);
+    run_call(world, sides, first(&tiles, tile_count(line)), call)
+}
+
+fn answer_agrees(stepped: Stepped, words: &[u8]) -> bool {
+    let world = stepped.world;
+    let records = stepped.records;
+    stepped.number == nth(words, ANSWER)
+        && records_digest(records) == nth(words, RECORDS)
+        && world_digest(world) == nth(words, WORLD)
 }

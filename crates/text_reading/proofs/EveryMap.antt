@@ -17,7 +17,7 @@ use Rattle.text_decimal.proofs.Every.{NextValue, here, absent, NextValues, all-
 use Rattle.text_decimal.proofs.Lines.{front}
 use Rattle.text_decimal.proofs.Places.{stands, none, chain, follows}
 use Rattle.text_decimal.proofs.Told.{number-some, number-read, number-fault, number-only}
-use Rattle.text_reading.specs.Map.{IsSide, IsTile, IsMap, sizeNames, tileNames, callNames, headBytes, tileBytes, mapBytes}
+use Rattle.text_reading.specs.Map.{mostBytes, IsSide, IsTile, IsMap, sizeNames, tileNames, callNames, headBytes, tileBytes, mapBytes}
 use Rattle.text_reading.specs.Reading.{MapAt, NameAt, SideAt, HeadAt}
 use Rattle.text_reading.specs.declared.map_text.MapPart.{MapPart}
 use Rattle.text_reading.specs.declared.head.Head.{Head}
@@ -116,13 +116,13 @@ of-values (negsuc n ∷ zs) a = absurd (a .0)
 abbrev pub Answered : List ℕ → Type 0
 Answered s = (d : List ℕ) × ((r : MapPart) × MapAt s d r)
 
-module _ (s : List ℕ) (short : length s ≤ 65536) (w h p : ℕ) (i : IsSide w) (j : IsSide h) (there : Stands (headBytes w h) s 0 p) where
+module _ (s : List ℕ) (short : length s ≤ mostBytes) (w h p : ℕ) (i : IsSide w) (j : IsSide h) (there : Stands (headBytes w h) s 0 p) where
   names-answer : (ts : List ℕ) (q : ℕ) → length ts ≡ w * h → All IsTile ts → Stands (tileBytes w h ts) s p q → (x : Place) → NameAt callNames s q x → Answered s
   unfolding NameAt MapAt
   names-answer ts q n a t (place.At next) c =
       let m = a-map s w h p i j there ts q n a t next c in
       let all : ts ≡ take (w * h) ts = sym (take-all (w * h) ts (omega arith)) in
-      (ts, (mapPart.Read w h next, subst (λ (us : List ℕ). (length s ≤ 65536) × IsMap w h us × Stands (mapBytes w h us) s 0 next) all (short, m .0, m .1)))
+      (ts, (mapPart.Read w h next, subst (λ (us : List ℕ). (length s ≤ mostBytes) × IsMap w h us × Stands (mapBytes w h us) s 0 next) all (short, m .0, m .1)))
   names-answer ts q n a t place.Fault c = (ts, (mapPart.Fault, names-absent s w h p i j there ts q n a t ts c))
 
   tiles-answer : NextValues TileValue s (rowEnd w) (w * h) p → Answered s
@@ -135,12 +135,12 @@ module _ (s : List ℕ) (short : length s ≤ 65536) (w h p : ℕ) (i : IsSide w
       names-answer ts q n (r .2) (subst (λ (x : List ℕ). Stands x s p q) (ap (front (rowEnd w) 0) (r .1) ∙ sym (tiles-front w h ts n)) t) (c .0) (c .1)
 
 pub map-some : (s : List ℕ) → Answered s
-map-some s = by (leb (length s) 65536) refl
+map-some s = by (leb (length s) mostBytes) refl
   where
-    after : length s ≤ 65536 → (x : Head) → HeadAt s x → Answered s
+    after : length s ≤ mostBytes → (x : Head) → HeadAt s x → Answered s
     after short (head.Read w h p) e = let k = head-read s w h p refl e in tiles-answer s short w h p (k .0) (k .1) (k .2) (values-some TileValue tile-i32 s (rowEnd w) (row-low w) (one-tile s) (w * h) p)
     after short head.Fault e = ([], (mapPart.Fault, head-absent s [] refl e))
 
-    by : (q : Bool) → leb (length s) 65536 ≡ q → Answered s
-    by true e = let x = head-some s in after (leb-true (length s) 65536 e) (x .0) (x .1)
-    by false e = ([], (mapPart.Fault, too-long s [] (leb-false (length s) 65536 e)))
+    by : (q : Bool) → leb (length s) mostBytes ≡ q → Answered s
+    by true e = let x = head-some s in after (leb-true (length s) mostBytes e) (x .0) (x .1)
+    by false e = ([], (mapPart.Fault, too-long s [] (leb-false (length s) mostBytes e)))

@@ -9,7 +9,7 @@ use Rattle.text_decimal.specs.Lines.{line, All}
 use Rattle.text_decimal.specs.Places.{Stands, Absent}
 use Rattle.text_decimal.proofs.Lines.{line-unique}
 use Rattle.text_decimal.proofs.Places.{stands, chain, follows}
-use Rattle.text_reading.specs.Map.{mostBytes, IsSide, IsTile, IsMap, sizeNames, tileNames, callNames, headBytes, tileBytes, mapBytes}
+use Rattle.text_reading.specs.Map.{mostBytes, mostTiles, IsSide, IsTile, IsMap, sizeNames, tileNames, callNames, headBytes, tileBytes, mapBytes}
 use Rattle.text_reading.specs.Reading.{MapAt, HeadAt, TilesAt}
 use Rattle.text_reading.specs.declared.map_text.MapPart.{MapPart}
 use Rattle.text_reading.specs.declared.head.Head.{Head}
@@ -46,7 +46,7 @@ module _ (s : List ℕ) (w h p : ℕ) (i : IsSide w) (j : IsSide h) (head : Stan
   counted v g ts a b m = m .count ∙ ap (λ (x : ℕ). x * g) (sym a) ∙ ap (λ (x : ℕ). w * x) (sym b)
 
   -- ---- what reading answers past the head
-  pub too-many : (d : List ℕ) → 32768 < w * h → MapAt s d mapPart.Fault
+  pub too-many : (d : List ℕ) → mostTiles < w * h → MapAt s d mapPart.Fault
   unfolding MapAt
   too-many d big = λ short v g ts m rest e.
       let k = past-head v g ts rest m e in
@@ -57,7 +57,7 @@ module _ (s : List ℕ) (w h p : ℕ) (i : IsSide w) (j : IsSide h) (head : Stan
       let left = length-drop p s in
       over n long (omega arith) short big
     where
-      over : {c t : ℕ} → t ≡ w * h → 2 * t ≤ c → c ≤ length s → length s ≤ 65536 → 32768 < w * h → ⊥
+      over : {c t : ℕ} → t ≡ w * h → 2 * t ≤ c → c ≤ length s → length s ≤ mostBytes → mostTiles < w * h → ⊥
       over e f g i j = let x : ℕ = w * h in omega arith
 
   pub tiles-absent : (d : List ℕ) → ((ts : List ℕ) → length ts ≡ w * h → All IsTile ts → Absent (tileBytes w h ts) s p) → MapAt s d mapPart.Fault
@@ -89,7 +89,7 @@ map-unique w h v g us ts p q m n e =
     (k .0, k .1, tiles-unique w h us ts (callNames ++ p) (callNames ++ q) (m .count) c (m .tiles) (n .tiles) (sym (follows there t (map-split w h us p)) ∙ k .2))
 
 -- ---- what reading answers
-pub too-long : (s d : List ℕ) → 65536 < length s → MapAt s d mapPart.Fault
+pub too-long : (s d : List ℕ) → mostBytes < length s → MapAt s d mapPart.Fault
 unfolding MapAt
 too-long s d h = λ short. absurd (omega arith)
 

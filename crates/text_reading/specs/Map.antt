@@ -10,6 +10,10 @@ use Rattle.text_decimal.specs.Lines.{line, All}
 abbrev pub mostBytes : ℕ
 mostBytes = 65536
 
+-- no such text holds more tiles: each takes two bytes
+abbrev pub mostTiles : ℕ
+mostTiles = 32768
+
 -- a side is from 1 to 1,024
 abbrev pub IsSide : ℕ → Type 0
 IsSide n = (1 ≤ n) × (n ≤ 1024)

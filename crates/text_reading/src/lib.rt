@@ -9,6 +9,8 @@ mod values;
 
 pub use call_lines::CallLine;
 pub use call_lines::next_call;
+pub use code::Decoded;
+pub use code::decode;
 pub use map_text::MOST_BYTES;
 pub use map_text::MOST_TILES;
 pub use map_text::MapPart;

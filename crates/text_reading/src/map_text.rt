@@ -6,6 +6,7 @@ use crate::name::read_name;
 use crate::tiles::read_tiles;
 ghost use Prim.Native.Nat.{_≤_};
 ghost use lib.ListN.{length};
+ghost use Rattle.text_reading.specs.Map.{mostTiles};
 ghost use Rattle.text_reading.specs.Reading.{MapAt};
 
 // A longer text is at fault.
@@ -26,7 +27,7 @@ pub enum MapPart {
 
 // Reads the map part, with its tiles to the start of `tiles`. What a fault leaves there, and what stands past the tiles, is not said.
 pub fn read_map(text: &[u8], tiles: &mut [u8]) -> MapPart
-    requires { ⌜ 32768 ≤ length (now tiles) ⌝ }
+    requires { ⌜ mostTiles ≤ length (now tiles) ⌝ }
     ensures { λ r. ⌜ MapAt (now (text .entry)) (now (tiles .exit)) r ⌝ }
 {
     if MOST_BYTES < text.len() {

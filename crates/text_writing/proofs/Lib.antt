@@ -1,4 +1,3 @@
-pub mod Puts
 pub mod Sizes
 mod Rows
 mod Signs

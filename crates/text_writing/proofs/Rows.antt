@@ -1,18 +1,14 @@
 -- Laws of a line that is put value by value. Assumes nothing.
 use Prim.Native.Nat.{ℕ, suc, _+_, _-_, _≤_, _<_}
-use mathlib.Core.Path.{_≡_, refl, ap, _∙_}
-use mathlib.Core.List.{List, [], _∷_, _++_, map}
+use mathlib.Core.Path.{_≡_, ap, _∙_}
+use mathlib.Core.List.{List, [], _∷_, _++_}
 use native.Mathlib.Numerals.{add-one}
 use native.Mathlib.Omega.{arith}
 use lib.IntN.{ℤ, pos}
 use lib.ListN.{length, take, getD}
 use lib.Seq.{take-suc, take-all}
-use mir.Syntax.{w32}
-use mir.Val.{toZ, ofZ}
-use mir.ValLaws.{toZ-ofZ}
-use Rattle.num_convert.specs.Casts.{IsI32}
 use Rattle.text_decimal.specs.Decimal.{written}
-use Rattle.text_decimal.specs.Lines.{endByte, ended, line, All}
+use Rattle.text_decimal.specs.Lines.{endByte, ended, line}
 use Rattle.text_decimal.proofs.Lines.{front, front-more, front-line}
 
 -- one value more
@@ -32,11 +28,3 @@ pub line-whole : (zs : List ℤ) (i : ℕ) → i ≤ length zs → length zs ≤
 line-whole zs i h g =
     let r : length zs - i ≡ 0 = omega arith in
     ap (λ (k : ℕ). front endByte k (take i zs)) r ∙ ap (front endByte 0) (take-all i zs g) ∙ front-line zs
-
--- values that were written as their bits and read again
-abbrev pub again : ℤ → ℤ
-again z = toZ w32 (ofZ w32 z)
-
-pub all-again : (zs : List ℤ) → All IsI32 zs → map again zs ≡ zs
-all-again [] a = refl
-all-again (z ∷ zs) a = let e = toZ-ofZ w32 z (record { sfits = a .0 }) in let f = all-again zs (a .1) in cc

@@ -1,5 +1,5 @@
 -- How long lines are, and lines put one after another. Assumes nothing.
-use Prim.Native.Nat.{ℕ, _+_, _*_, _≤_}
+use Prim.Native.Nat.{ℕ, _*_, _≤_}
 use mathlib.Core.Path.{_≡_, sym, ap, _∙_, subst}
 use mathlib.Core.List.{List, _∷_, _++_}
 use native.Mathlib.Omega.{arith}
@@ -7,18 +7,18 @@ use lib.IntN.{ℤ}
 use lib.ListN.{length, length-append}
 use Rattle.text_decimal.specs.Lines.{endByte, line}
 use Rattle.text_decimal.proofs.Lines.{front-line, front-short}
-use Rattle.text_writing.specs.Output.{recordBytes}
-use Rattle.text_writing.specs.Put.{put, Put}
-use Rattle.text_writing.proofs.Puts.{put-put}
+use Rattle.text_writing.specs.Output.{mostLine, lineBytes, recordBytes}
+use Rattle.base_rows.specs.Put.{put}
+use Rattle.text_writing.specs.Put.{Put}
+use Rattle.base_rows.proofs.Puts.{put-put}
 use Rattle.game_records.specs.Numbers.{coreNumbers}
 use Rattle.game_records.specs.declared.CharacterCore.{CharacterCore}
 
 line-short : (zs : List ℤ) → length (line zs) ≤ 12 * length zs
 line-short zs = subst (λ (w : List ℕ). length w ≤ 12 * length zs) (front-line zs) (front-short endByte 0 zs)
 
--- at most 216 bytes
-pub record-short : (call answer id : ℤ) (n : CharacterCore) → length (recordBytes call answer id n) ≤ 216
-unfolding recordBytes coreNumbers
+pub record-short : (call answer id : ℤ) (n : CharacterCore) → length (recordBytes call answer id n) ≤ mostLine
+unfolding lineBytes coreNumbers
 record-short call answer id n = line-short (call ∷ answer ∷ id ∷ coreNumbers n)
 
 -- the same bytes and place, said otherwise

@@ -9,12 +9,13 @@ ghost use Prim.Native.Nat.{_+_, _*_, _≤_};
 ghost use lib.ListN.{length};
 ghost use Rattle.character.specs.Tick.{seats};
 ghost use Rattle.text_writing.specs.Put.{Put};
+ghost use Rattle.text_writing.specs.Output.{mostLine};
 ghost use Rattle.world.specs.Run.{toldBy};
 ghost use Rattle.text_writing.specs.Answers.{recordLines, toldBytes};
 
 // Puts the lines of a call's answer into buf from `at` on, and answers the place past them.
 pub fn put_told(buf: &mut [u8], at: usize, call: i32, ran: Stepped) -> usize
-    requires { ⌜ at + 216 * seats ≤ length (now buf) ⌝ }
+    requires { ⌜ at + mostLine * seats ≤ length (now buf) ⌝ }
     ensures { λ r. ⌜ Put (now (buf .entry)) at (toldBytes seats call (toldBy ran)) (now (buf .exit)) r ⌝ }
 {
     let records = ran.records;
@@ -27,7 +28,7 @@ pub fn put_told(buf: &mut [u8], at: usize, call: i32, ran: Stepped) -> usize
 
 // A line for each record, by rising id.
 fn put_records(buf: &mut [u8], at: usize, call: i32, records: [Published; SEATS]) -> usize
-    requires { ⌜ at + 216 * seats ≤ length (now buf) ⌝ }
+    requires { ⌜ at + mostLine * seats ≤ length (now buf) ⌝ }
     ensures { λ r. ⌜ Put (now (buf .entry)) at (recordLines seats call records) (now (buf .exit)) r ⌝ }
 {
     let mut next = at;

@@ -12,7 +12,7 @@ use Rattle.world.specs.World.{tuningCount}
 use Rattle.world.specs.Calls.{placeOf}
 use Rattle.world.specs.declared.World.{World}
 use Rattle.game_records.specs.Numbers.{coreNumbers, inputNumbers}
-use Rattle.world_numbers.specs.Encoding.{worldCount, coreIn}
+use Rattle.world_numbers.specs.Encoding.{worldCount, netCore}
 use Rattle.world_numbers.specs.Decoding.{decoding}
 use Rattle.world_buffers.specs.Buffers.{badLength, has}
 
@@ -35,7 +35,7 @@ readIn n f l id out = cond (has worldCount l && has n out) (seatTold f (decoding
 
 -- a seat's record
 abbrev pub recordOf : Slot → List ℤ
-recordOf s = coreNumbers (coreIn (toNet (s .character)))
+recordOf s = coreNumbers (netCore (toNet (s .character)))
 
 -- a seat's input
 abbrev pub inputOf : Slot → List ℤ

@@ -9,27 +9,27 @@ use world_calls::place_of;
 use world_numbers::RECORD;
 use world_numbers::SEAT;
 use world_numbers::WORLD;
+use world_numbers::present_numbers;
 use world_numbers::seat_at;
-use world_numbers::seat_numbers;
 ghost use mathlib.Core.Path.{_≡_};
 ghost use Prim.Native.Nat.{_-_, _≤_};
 ghost use lib.ListN.{length, take, drop};
 ghost use Rattle.game_records.specs.Numbers.{coreCount, inputCount};
-ghost use Rattle.world_numbers.specs.Encoding.{seatCount, worldCount, seatNumbers};
+ghost use Rattle.world_numbers.specs.Encoding.{seatCount, worldCount, presentNumbers};
 ghost use Rattle.world_numbers.specs.Decoding.{decoding};
 ghost use Rattle.character.specs.Tick.{seats};
 ghost use Rattle.world_buffers.specs.Readers.{seatTold, readIn, recordOf, inputOf, tuningIn};
 
-// The numbers of a seat from one place up to another.
+// The numbers of a seat where somebody is, from one place up to another.
 fn seat_part(world: &[i32], id: i32, from: usize, to: usize, part: &mut [i32]) -> u32
     requires { ⌜ (length (now world) ≡ worldCount) × (from ≤ to) × (to ≤ seatCount) × (length (now part) ≡ to - from) ⌝ }
-    ensures { λ r. ⌜ seatTold (λ s. take (to - from) (drop from (seatNumbers s))) (decoding seats (now (world .entry))) id (now (part .entry)) ≡ record { number = r; numbers = now (part .exit) } ⌝ }
+    ensures { λ r. ⌜ seatTold (λ s. take (to - from) (drop from (presentNumbers s))) (decoding seats (now (world .entry))) id (now (part .entry)) ≡ record { number = r; numbers = now (part .exit) } ⌝ }
 {
     let at = place_of(SEATS, id);
     if at < SEATS {
         let slot = seat_at(world, at);
         if slot.present {
-            let row = seat_numbers(slot);
+            let row = present_numbers(slot);
             copy(part, 0, &row[from..to]);
             return 0;
         }

@@ -10,13 +10,14 @@ use lib.ListN.{length, drop, length-take}
 use lib.Seq.{getD-drop}
 use Rattle.num_convert.specs.Casts.{IsI32}
 use Rattle.character.specs.Tick.{slotAt}
-use Rattle.character.specs.declared.Slot.{Slot}
 use Rattle.character.specs.Records.{fromNet}
 use Rattle.character_laws.specs.Representable.{Representable}
 use Rattle.character_laws.proofs.FromNet.{from-net-representable}
-use Rattle.world.specs.World.{emptySlot}
+use Rattle.game_records.specs.Numbers.{numberAt, coreIn, inputIn}
+use Rattle.world.specs.World.{tuningCount, emptySlot}
 use Rattle.world.specs.Settled.{Settled}
-use Rattle.world_numbers.specs.Decoding.{numberAt, isPresent, fromZero, readable, seatCore, seatInput, seatOf, seatsOf, decoding, AnyComesBack}
+use Rattle.world_numbers.specs.Encoding.{recordCount, seatCount}
+use Rattle.world_numbers.specs.Decoding.{isPresent, fromZero, readable, seatOf, seatsOf, decoding, AnyComesBack}
 use Rattle.world_numbers.proofs.Encoded.{Kept, decoding-encoding}
 use Rattle.world_numbers.proofs.Seats.{seat-is}
 
@@ -36,34 +37,34 @@ unfolding fromZero
 not-below-zero (pos n) k e = let z : _≡_ {A = ℕ} 0 1 = cc in omega arith
 not-below-zero (negsuc n) k e = let z : _≡_ {A = ℕ} 0 1 = cc in omega arith
 
--- the record in a seat's numbers makes a representable character: nobody is held below zero
-seat-representable : (l : List ℤ) → AllI32 l → Representable (fromNet (readable (seatCore l)))
-unfolding readable seatCore
+-- the record of any numbers makes a representable character: nobody is held below zero
+seat-representable : (l : List ℤ) → AllI32 l → Representable (fromNet (readable (coreIn l)))
+unfolding readable coreIn
 seat-representable l h =
-    from-net-representable (readable (seatCore l))
-    (record { x = h 2; y = h 3; vel-x = h 4; vel-y = h 5; angle = h 6; hooked-player = h 9; hook-tick = from-zero-in (numberAt l 11) (h 11); hook-x = h 12; hook-y = h 13; hook-dx = h 14; hook-dy = h 15 })
-    (λ e. not-below-zero (numberAt l 11) (e .less) (e .ticks))
+    from-net-representable (readable (coreIn l))
+    (record { x = h 1; y = h 2; vel-x = h 3; vel-y = h 4; angle = h 5; hooked-player = h 8; hook-tick = from-zero-in (numberAt l 10) (h 10); hook-x = h 11; hook-y = h 12; hook-dx = h 13; hook-dy = h 14 })
+    (λ e. not-below-zero (numberAt l 10) (e .less) (e .ticks))
 
 seat-kept : (l : List ℤ) → AllI32 l → Kept (seatOf l)
 unfolding seatOf emptySlot
 seat-kept l h = go (isPresent (numberAt l 0))
   where
-    go : (b : Bool) → Kept (cond b (record { present = true; character = fromNet (readable (seatCore l)); input = seatInput l }) emptySlot)
-    go true = record { somebody = λ e. seat-representable l h; nobody = λ e. absurd (true≢false e) }
+    go : (b : Bool) → Kept (cond b (record { present = true; character = fromNet (readable (coreIn (drop 1 l))); input = inputIn (drop recordCount l) }) emptySlot)
+    go true = record { somebody = λ e. seat-representable (drop 1 l) (drop-i32 1 l h); nobody = λ e. absurd (true≢false e) }
     go false = record { somebody = λ e. absurd (true≢false (sym e)); nobody = λ e. refl }
 
 seats-long : (n : ℕ) (l : List ℤ) → length (seatsOf n l) ≡ n
 unfolding seatsOf
 seats-long zero l = refl
-seats-long (suc n) l = ap suc (seats-long n (drop 21 l))
+seats-long (suc n) l = ap suc (seats-long n (drop seatCount l))
 
-pub decoding-settled : (n : ℕ) (l : List ℤ) → length l ≡ 18 + 21 * n → AllI32 l → Settled n (decoding n l)
+pub decoding-settled : (n : ℕ) (l : List ℤ) → length l ≡ tuningCount + seatCount * n → AllI32 l → Settled n (decoding n l)
 unfolding decoding
 decoding-settled n l e h =
-    let kept : (k : ℕ) → k < n → Kept (slotAt (decoding n l .slots) k) = λ k q. subst Kept (sym (seat-is n k l q)) (seat-kept (drop (18 + 21 * k) l) (drop-i32 (18 + 21 * k) l h)) in
+    let kept : (k : ℕ) → k < n → Kept (slotAt (decoding n l .slots) k) = λ k q. subst Kept (sym (seat-is n k l q)) (seat-kept (drop (tuningCount + seatCount * k) l) (drop-i32 (tuningCount + seatCount * k) l h)) in
     record {
-      seats = seats-long n (drop 18 l);
-      tunings = length-take 18 l ∙ omega arith;
+      seats = seats-long n (drop tuningCount l);
+      tunings = length-take tuningCount l ∙ omega arith;
       representable = λ k q. kept k q .somebody;
       empty = λ k q. kept k q .nobody;
     }

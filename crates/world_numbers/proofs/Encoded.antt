@@ -9,7 +9,7 @@ use lib.IntN.{ℤ}
 use lib.ListN.{length, drop}
 use lib.Seq.{take-at, drop-at}
 use borrow.Author.Tests.{leb-true}
-use Rattle.game_records.specs.Numbers.{coreNumbers, inputNumbers}
+use Rattle.game_records.specs.Numbers.{coreNumbers, inputNumbers, coreIn, inputIn}
 use Rattle.character.specs.Tick.{slotAt}
 use Rattle.character.specs.declared.Character.{Character}
 use Rattle.character.specs.declared.Slot.{Slot}
@@ -19,13 +19,14 @@ use Rattle.character_laws.specs.Representable.{Representable}
 use Rattle.character_laws.proofs.Back.{from-core, to-core, representable-back}
 use Rattle.character.specs.declared.records.Net.{Net}
 use Rattle.character.specs.declared.records.Quantized.the-variants as quantized
-use Rattle.world.specs.World.{emptySlot, fresh}
+use Rattle.world.specs.World.{tuningCount, emptySlot, fresh}
 use Rattle.world.specs.Run.{after}
 use Rattle.world.specs.Settled.{Settled}
 use Rattle.world.proofs.Settled.{after-settled}
 use Rattle.world.specs.declared.World.{World}
-use Rattle.world_numbers.specs.Encoding.{each, coreIn, seatNumbers, encoding}
-use Rattle.world_numbers.specs.Decoding.{fromZero, isPresent, readable, seatCore, seatInput, seatOf, seatsOf, decoding, ComesBack}
+use Rattle.world_numbers.specs.Encoding.{seatCount, each, netCore, recordNumbers, presentNumbers, seatNumbers, encoding}
+use Rattle.world_numbers.specs.Decoding.{fromZero, isPresent, readable, seatOf, seatsOf, decoding, ComesBack}
+use Rattle.world_numbers.proofs.Rows.{seat-long}
 
 -- what is asked of a seat
 pub record Kept (s : Slot) : Type 0 where
@@ -45,13 +46,13 @@ ticks-fit c r = go (leb (tickOf (c .hook)) mostTick) refl
         let z : _≡_ {A = ℕ} 0 1 = cc in
         omega arith
 
-record-back : (c : Character) → Representable c → fromNet (readable (coreIn (toNet c))) ≡ c
+record-back : (c : Character) → Representable c → fromNet (readable (netCore (toNet c))) ≡ c
 unfolding readable fromZero coreOf
-record-back c r = ap (λ (n : Net). fromNet (readable (coreIn n))) (to-core c (ticks-fit c r)) ∙ from-core c r
+record-back c r = ap (λ (n : Net). fromNet (readable (netCore n))) (to-core c (ticks-fit c r)) ∙ from-core c r
 
 -- a seat, whatever stands after it
 seat-back : (s : Slot) (l : List ℤ) → Kept s → seatOf (seatNumbers s ++ l) ≡ s
-unfolding seatOf seatNumbers coreNumbers inputNumbers isPresent seatCore seatInput
+unfolding seatOf seatNumbers presentNumbers recordNumbers coreNumbers inputNumbers isPresent coreIn inputIn
 seat-back s l k = go (s .present) refl
   where
     go : (b : Bool) → s .present ≡ b → seatOf (seatNumbers s ++ l) ≡ s
@@ -59,9 +60,8 @@ seat-back s l k = go (s .present) refl
     go false e = rw e (sym (k .nobody e) ∙ ap (λ (b : Bool). record { present = b; character = s .character; input = s .input }) e)
 
 -- the numbers of a seat are passed
-seat-passed : (s : Slot) (l : List ℤ) → drop 21 (seatNumbers s ++ l) ≡ l
-unfolding seatNumbers coreNumbers inputNumbers
-seat-passed s l = refl
+seat-passed : (s : Slot) (l : List ℤ) → drop seatCount (seatNumbers s ++ l) ≡ l
+seat-passed s l = drop-at (seatNumbers s) l seatCount (seat-long s)
 
 AllKept : List Slot → Type 0
 AllKept [] = Unit {0}
@@ -84,8 +84,8 @@ decoding-encoding n w h =
     let r : List ℤ = each seatNumbers (w .slots) in
     let a = all-kept (w .slots) (λ k l. let q : k < n = omega (arith, h .seats) in record { somebody = h .representable k q; nobody = h .empty k q }) in
     ap₂ (λ (ss : List Slot) (ts : List ℤ). record { slots = ss; tunings = ts })
-    (ap (seatsOf n) (drop-at (w .tunings) r 18 (h .tunings)) ∙ ap (λ (m : ℕ). seatsOf m r) (sym (h .seats)) ∙ seats-back (w .slots) a)
-    (take-at (w .tunings) r 18 (h .tunings))
+    (ap (seatsOf n) (drop-at (w .tunings) r tuningCount (h .tunings)) ∙ ap (λ (m : ℕ). seatsOf m r) (sym (h .seats)) ∙ seats-back (w .slots) a)
+    (take-at (w .tunings) r tuningCount (h .tunings))
 
 pub comes-back : (n : ℕ) → ComesBack n
 comes-back n s ts cs = decoding-encoding n (after n s ts (fresh n) cs) (after-settled n s ts cs)

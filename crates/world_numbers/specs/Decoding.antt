@@ -4,22 +4,18 @@ use mathlib.Core.Bool.{Bool, true, false, cond}
 use mathlib.Core.List.{List, [], _∷_}
 use mathlib.Core.Path.{_≡_}
 use lib.IntN.{ℤ, pos, negsuc}
-use lib.ListN.{length, take, drop, getD}
+use lib.ListN.{length, take, drop}
 use Rattle.num_convert.specs.Casts.{IsI32}
 use Rattle.map_tiles.specs.declared.tiles.Sides.{Sides}
 use Rattle.world.specs.declared.call.Call.{Call}
 use Rattle.game_records.specs.declared.CharacterCore.{CharacterCore}
-use Rattle.game_records.specs.declared.PlayerInput.{PlayerInput}
+use Rattle.game_records.specs.Numbers.{numberAt, coreIn, inputIn}
 use Rattle.character.specs.declared.Slot.{Slot}
 use Rattle.character.specs.Records.{fromNet}
 use Rattle.world.specs.World.{tuningCount, emptySlot, fresh}
 use Rattle.world.specs.Run.{after}
 use Rattle.world.specs.declared.World.{World}
-use Rattle.world_numbers.specs.Encoding.{seatCount, encoding}
-
--- the k-th number, 0 past the end
-abbrev pub numberAt : List ℤ → ℕ → ℤ
-numberAt l k = getD l k (pos 0)
+use Rattle.world_numbers.specs.Encoding.{recordCount, seatCount, encoding}
 
 -- whether a seat's first number says that somebody is there
 unfoldable pub isPresent : ℤ → Bool
@@ -40,33 +36,9 @@ withTicks n t = record { tick = n .tick; x = n .x; y = n .y; «vel_x» = n .«ve
 unfoldable pub readable : CharacterCore → CharacterCore
 readable n = withTicks n (fromZero (n .«hook_tick» .0))
 
--- the record in the numbers of a seat, after its presence
-unfoldable pub seatCore : List ℤ → CharacterCore
-seatCore l = record {
-  tick = numberAt l 1;
-  x = numberAt l 2;
-  y = numberAt l 3;
-  «vel_x» = numberAt l 4;
-  «vel_y» = numberAt l 5;
-  angle = numberAt l 6;
-  direction = numberAt l 7;
-  jumped = numberAt l 8;
-  «hooked_player» = numberAt l 9;
-  «hook_state» = numberAt l 10;
-  «hook_tick» = record { 0 = numberAt l 11 };
-  «hook_x» = numberAt l 12;
-  «hook_y» = numberAt l 13;
-  «hook_dx» = numberAt l 14;
-  «hook_dy» = numberAt l 15;
-}
-
--- the input after the record
-unfoldable pub seatInput : List ℤ → PlayerInput
-seatInput l = record { direction = numberAt l 16; «target_x» = numberAt l 17; «target_y» = numberAt l 18; jump = numberAt l 19; hook = numberAt l 20 }
-
 -- the seat whose numbers l starts with; where nobody is there the rest of them says nothing
 unfoldable pub seatOf : List ℤ → Slot
-seatOf l = cond (isPresent (numberAt l 0)) (record { present = true; character = fromNet (readable (seatCore l)); input = seatInput l }) emptySlot
+seatOf l = cond (isPresent (numberAt l 0)) (record { present = true; character = fromNet (readable (coreIn (drop 1 l))); input = inputIn (drop recordCount l) }) emptySlot
 
 -- n seats, one after the other
 unfoldable pub seatsOf : ℕ → List ℤ → List Slot

@@ -1,8 +1,9 @@
 -- A world as a list of numbers, and the records of a step as one. Definitions only; the way back is `decoding` (world_numbers/specs/Decoding.antt).
 use Prim.Native.Nat.{ℕ, _+_, _*_}
-use mathlib.Core.Bool.{Bool, cond}
+use mathlib.Core.Bool.{Bool, true, cond}
 use mathlib.Core.List.{List, [], _∷_, _++_}
 use lib.IntN.{ℤ, pos}
+use lib.ListN.{replicate}
 use Rattle.game_records.specs.declared.CharacterCore.{CharacterCore}
 use Rattle.game_records.specs.Numbers.{coreCount, inputCount, coreNumbers, inputNumbers}
 use Rattle.character.specs.Tick.{seats}
@@ -45,17 +46,21 @@ abbrev pub presence : Bool → ℤ
 presence b = cond b (pos 1) (pos 0)
 
 -- the record that `to_net` answers; an empty one where it refuses, which no world does that calls reach or numbers stand for (world_numbers/proofs/Any.antt)
-abbrev pub coreIn : Net → CharacterCore
-coreIn net.TickTooLarge = noCore
-coreIn (net.Core core) = core
+abbrev pub netCore : Net → CharacterCore
+netCore net.TickTooLarge = noCore
+netCore (net.Core core) = core
 
 -- a seat's presence and record
 unfoldable pub recordNumbers : Published → List ℤ
 recordNumbers p = presence (p .present) ∷ coreNumbers (p .core)
 
--- a seat's presence, record and input
+-- the presence, record and input of a seat where somebody is
+unfoldable pub presentNumbers : Slot → List ℤ
+presentNumbers s = recordNumbers (record { present = true; core = netCore (toNet (s .character)) }) ++ inputNumbers (s .input)
+
+-- zeros where nobody is, whatever else the slot holds
 unfoldable pub seatNumbers : Slot → List ℤ
-seatNumbers s = presence (s .present) ∷ (coreNumbers (coreIn (toNet (s .character))) ++ inputNumbers (s .input))
+seatNumbers s = cond (s .present) (presentNumbers s) (replicate seatCount (pos 0))
 
 -- the tunings, then every seat
 unfoldable pub encoding : World → List ℤ

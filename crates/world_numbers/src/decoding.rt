@@ -1,12 +1,14 @@
 // A world out of the numbers of a buffer.
+use crate::encoding::RECORD;
 use crate::encoding::SEAT;
 use base_rows::copy;
 use character::SEATS;
 use character::Slot;
 use character::from_net;
 use game_records::CharacterCore;
-use game_records::PlayerInput;
 use game_records::Tick;
+use game_records::core_of;
+use game_records::input_of;
 use game_tuning::TUNINGS;
 use world::World;
 use world_calls::empty_slot;
@@ -16,7 +18,7 @@ ghost use lib.ListN.{length, take, drop};
 ghost use Rattle.character.specs.Tick.{seats};
 ghost use Rattle.world.specs.World.{tuningCount};
 ghost use Rattle.world_numbers.specs.Encoding.{seatCount, worldCount};
-ghost use Rattle.world_numbers.specs.Decoding.{fromZero, isPresent, readable, seatCore, seatInput, seatOf, seatsOf, decoding};
+ghost use Rattle.world_numbers.specs.Decoding.{fromZero, isPresent, readable, seatOf, seatsOf, decoding};
 
 fn is_present(z: i32) -> bool
     ensures { λ r. ⌜ r ≡ isPresent z ⌝ }
@@ -40,44 +42,6 @@ fn readable(mut core: CharacterCore) -> CharacterCore
     core
 }
 
-// The record of the seat whose numbers a slice starts with.
-fn core_of(seat: &[i32]) -> CharacterCore
-    requires { ⌜ seatCount ≤ length (now seat) ⌝ }
-    ensures { λ r. ⌜ r ≡ seatCore (now (seat .entry)) ⌝ }
-{
-    CharacterCore {
-        tick: seat[1],
-        x: seat[2],
-        y: seat[3],
-        vel_x: seat[4],
-        vel_y: seat[5],
-        angle: seat[6],
-        direction: seat[7],
-        jumped: seat[8],
-        hooked_player: seat[9],
-        hook_state: seat[10],
-        hook_tick: Tick(seat[11]),
-        hook_x: seat[12],
-        hook_y: seat[13],
-        hook_dx: seat[14],
-        hook_dy: seat[15],
-    }
-}
-
-// Its input.
-fn input_of(seat: &[i32]) -> PlayerInput
-    requires { ⌜ seatCount ≤ length (now seat) ⌝ }
-    ensures { λ r. ⌜ r ≡ seatInput (now (seat .entry)) ⌝ }
-{
-    PlayerInput {
-        direction: seat[16],
-        target_x: seat[17],
-        target_y: seat[18],
-        jump: seat[19],
-        hook: seat[20],
-    }
-}
-
 // The seat whose numbers a slice starts with.
 fn seat_of(seat: &[i32]) -> Slot
     requires { ⌜ seatCount ≤ length (now seat) ⌝ }
@@ -86,8 +50,8 @@ fn seat_of(seat: &[i32]) -> Slot
     if is_present(seat[0]) {
         Slot {
             present: true,
-            character: from_net(readable(core_of(seat))),
-            input: input_of(seat),
+            character: from_net(readable(core_of(&seat[1..]))),
+            input: input_of(&seat[RECORD..]),
         }
     } else {
         empty_slot()

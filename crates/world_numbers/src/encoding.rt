@@ -1,4 +1,5 @@
 // A world, and the records of a step, into the numbers of a buffer: the tunings, then for each seat its presence, its record and its input.
+// A seat where nobody is has zeros.
 use base_rows::copy;
 use character::Net;
 use character::SEATS;
@@ -14,10 +15,8 @@ use world::Published;
 use world::World;
 use world_step::unpublished;
 ghost use mathlib.Core.Path.{_≡_};
-ghost use Prim.Native.Nat.{_+_, _≤_};
 ghost use lib.ListN.{length};
-ghost use lib.Seq.{paste};
-ghost use Rattle.world_numbers.specs.Encoding.{recordCount, seatCount, worldCount, recordsCount, presence, coreIn, recordNumbers, seatNumbers, encoding, recordsEncoding};
+ghost use Rattle.world_numbers.specs.Encoding.{worldCount, recordsCount, presence, netCore, recordNumbers, presentNumbers, seatNumbers, encoding, recordsEncoding};
 
 // How many numbers a seat has among the records of a step, and in a world.
 pub const RECORD: usize = 1 + CORE;
@@ -35,8 +34,8 @@ fn presence(present: bool) -> i32
     if present { 1 } else { 0 }
 }
 
-fn core_in(net: Net) -> CharacterCore
-    ensures { λ r. ⌜ r ≡ coreIn net ⌝ }
+fn net_core(net: Net) -> CharacterCore
+    ensures { λ r. ⌜ r ≡ netCore net ⌝ }
 {
     match net {
         Net::TickTooLarge => {
@@ -47,36 +46,38 @@ fn core_in(net: Net) -> CharacterCore
     }
 }
 
-// Puts a seat's presence and record into a buffer from `at` on.
-fn put_record(numbers: &mut [i32], at: usize, published: Published)
-    requires { ⌜ at + recordCount ≤ length (now numbers) ⌝ }
-    ensures { λ _. ⌜ now (numbers .exit) ≡ paste (now (numbers .entry)) at (recordNumbers published) (length (recordNumbers published)) ⌝ }
+fn record_numbers(published: Published) -> [i32; RECORD]
+    ensures { λ r. ⌜ r ≡ recordNumbers published ⌝ }
 {
-    let row = core_numbers(published.core);
-    numbers[at] = presence(published.present);
-    copy(numbers, at + 1, &row);
+    let core = core_numbers(published.core);
+    let mut row = [0i32; RECORD];
+    row[0] = presence(published.present);
+    copy(&mut row, 1, &core);
+    row
 }
 
-// Puts a seat's presence, record and input there.
-fn put_seat(numbers: &mut [i32], at: usize, slot: Slot)
-    requires { ⌜ at + seatCount ≤ length (now numbers) ⌝ }
-    ensures { λ _. ⌜ now (numbers .exit) ≡ paste (now (numbers .entry)) at (seatNumbers slot) (length (seatNumbers slot)) ⌝ }
+// The numbers of a seat where somebody is.
+pub fn present_numbers(slot: Slot) -> [i32; SEAT]
+    ensures { λ r. ⌜ r ≡ presentNumbers slot ⌝ }
 {
-    let published = Published {
-        present: slot.present,
-        core: core_in(to_net(slot.character)),
-    };
-    let row = input_numbers(slot.input);
-    put_record(numbers, at, published);
-    copy(numbers, at + RECORD, &row);
+    let record = record_numbers(Published {
+        present: true,
+        core: net_core(to_net(slot.character)),
+    });
+    let input = input_numbers(slot.input);
+    let mut row = [0i32; SEAT];
+    copy(&mut row, 0, &record);
+    copy(&mut row, RECORD, &input);
+    row
 }
 
-pub fn seat_numbers(slot: Slot) -> [i32; SEAT]
+fn seat_numbers(slot: Slot) -> [i32; SEAT]
     ensures { λ r. ⌜ r ≡ seatNumbers slot ⌝ }
 {
-    let mut row = [0i32; SEAT];
-    put_seat(&mut row, 0, slot);
-    row
+    if slot.present {
+        return present_numbers(slot);
+    }
+    [0i32; SEAT]
 }
 
 pub fn encode(world: World, numbers: &mut [i32])
@@ -87,7 +88,8 @@ pub fn encode(world: World, numbers: &mut [i32])
     let slots = world.slots;
     copy(numbers, 0, &tunings);
     for i in 0..SEATS {
-        put_seat(numbers, TUNINGS + SEAT * i, slots[i]);
+        let row = seat_numbers(slots[i]);
+        copy(numbers, TUNINGS + SEAT * i, &row);
     }
 }
 
@@ -96,6 +98,7 @@ pub fn encode_records(records: [Published; SEATS], numbers: &mut [i32])
     ensures { λ _. ⌜ now (numbers .exit) ≡ recordsEncoding records ⌝ }
 {
     for i in 0..SEATS {
-        put_record(numbers, RECORD * i, records[i]);
+        let row = record_numbers(records[i]);
+        copy(numbers, RECORD * i, &row);
     }
 }

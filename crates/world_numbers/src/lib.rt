@@ -10,4 +10,4 @@ pub use encoding::SEAT;
 pub use encoding::WORLD;
 pub use encoding::encode;
 pub use encoding::encode_records;
-pub use encoding::seat_numbers;
+pub use encoding::present_numbers;

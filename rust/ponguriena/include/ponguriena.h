@@ -39,7 +39,7 @@ enum {
                                              hooked_player, hook_state, hook_tick, hook_x, hook_y,
                                              hook_dx, hook_dy */
     PONGURIENA_INPUT = 5,                 /* direction, target_x, target_y, jump, hook */
-    PONGURIENA_SEAT = 1 + PONGURIENA_RECORD + PONGURIENA_INPUT, /* presence (1 or 0), record, input */
+    PONGURIENA_SEAT = 1 + PONGURIENA_RECORD + PONGURIENA_INPUT, /* 1, record, input; or zeros for nobody */
     PONGURIENA_WORLD = PONGURIENA_TUNINGS + PONGURIENA_SEATS * PONGURIENA_SEAT, /* tunings, seats */
     PONGURIENA_PUBLISHED = 1 + PONGURIENA_RECORD,               /* presence, record */
     PONGURIENA_RECORDS = PONGURIENA_SEATS * PONGURIENA_PUBLISHED /* for each seat */

@@ -1,10 +1,10 @@
 //! The calls on a world that the caller keeps as numbers and lends to each call.
 //!
 //! A world is [`WORLD_NUMBERS`] numbers: the tunings, then for each seat its
-//! presence (1 or 0), its record and its input. Every such list of numbers is taken
-//! for a world: who is absent is as in a fresh one whatever stands there, and a
-//! hook's tick below 0 counts as 0. A buffer of another length is refused with
-//! [`Refusal::BadLength`]. A refused call leaves every buffer as it was.
+//! presence, 1, its record and its input, or zeros where nobody is. Every such list
+//! of numbers is taken for a world: who is absent is as in a fresh one whatever
+//! stands there, and a hook's tick below 0 counts as 0. A buffer of another length is
+//! refused with [`Refusal::BadLength`]. A refused call leaves every buffer as it was.
 //!
 //! ```
 //! use ponguriena::{Map, buffers};

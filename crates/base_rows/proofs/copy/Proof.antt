@@ -1,11 +1,12 @@
 -- `base_rows::copy` meets its contract. Assumes nothing.
 use Prim.Native.Nat.{_+_, _-_, _≤_}
 use mathlib.Core.Path.{_≡_, refl, ap, _∙_}
-use native.Mathlib.Numerals.{add-one}
 use native.Mathlib.Omega.{arith}
 use lib.IntN.{pos}
-use lib.ListN.{length, set, getD, length-set}
-use lib.Seq.{paste, paste-zero, paste-suc}
+use lib.ListN.{length, take, getD, length-set}
+use lib.Seq.{take-all}
+use Rattle.base_rows.specs.Put.{put}
+use Rattle.base_rows.proofs.Puts.{put-none, put-next}
 use mir.Facts.{toZ-ofZ}
 use mir.Syntax.{w32}
 use mir.Val.{toZ, ofZ}
@@ -14,13 +15,13 @@ use Rattle.base_rows.proofs.copy.Statement.{statement}
 use Rattle.base_rows.proofs.copy.Tie as tie
 
 abbrev Inv-loop : tie.InvT-loop
-Inv-loop numbers₀ at row i₀ i-end numbers i = (i ≤ length row) × (i-end ≡ length row) × (length numbers ≡ length numbers₀) × (numbers ≡ paste numbers₀ at row i)
+Inv-loop numbers₀ at row i₀ i-end numbers i = (i ≤ length row) × (i-end ≡ length row) × (length numbers ≡ length numbers₀) × (numbers ≡ put numbers₀ at (take i row))
 
 abbrev μ-loop : tie.MeasureT-loop
 μ-loop numbers₀ at row i₀ i-end numbers i = length row - i
 
 loop-holds : tie.Need-loop-holds Inv-loop μ-loop
-loop-holds c = (omega arith, refl, refl, paste-zero (c .args .numbers .now) (c .args .at) (c .args .row .now))
+loop-holds c = (omega arith, refl, refl, put-none _ _)
 
 mul-numbers : tie.Need-mul-numbers Inv-loop μ-loop
 mul-numbers c = search needs
@@ -50,8 +51,7 @@ loop-again c =
     let i = l .loop .i in
     let w = a .row .now in
     let v : toZ w32 (ofZ w32 (getD w i (pos 0))) ≡ getD w i (pos 0) = toZ-ofZ {w = w32} {z = getD w i (pos 0)} (search needs) in
-    let p : set (l .loop .numbers) (a .at + i) (getD w i (pos 0)) ≡ paste (a .numbers .now) (a .at) w (i + 1) = rw (l .loop .inv .3, add-one) (paste-suc (a .numbers .now) (a .at) w i (pos 0) (omega arith) (c .before .loop-test .taken)) in
-    (omega arith, refl, length-set (l .loop .numbers) (a .at + i) _ ∙ l .loop .inv .2, rw v p)
+    (omega arith, refl, length-set (l .loop .numbers) (a .at + i) _ ∙ l .loop .inv .2, rw (v, l .loop .inv .3) (put-next (a .numbers .now) (a .at) w i (pos 0) (omega arith) (c .before .loop-test .taken)))
 
 same-length : tie.Need-same-length Inv-loop μ-loop
 same-length c = search needs
@@ -59,8 +59,7 @@ same-length c = search needs
 returns : tie.Need-returns Inv-loop μ-loop
 returns c =
     let a = c .before .before .args in
-    let e : c .before .loop .i ≡ length (a .row .now) = omega arith in
-    c .before .loop .inv .3 ∙ ap (paste (a .numbers .now) (a .at) (a .row .now)) e
+    c .before .loop .inv .3 ∙ ap (put (a .numbers .now) (a .at)) (take-all (c .before .loop .i) (a .row .now) (omega arith))
 
 pub copy-spec : {M : Type 1} → statement M
 copy-spec =

@@ -9,7 +9,8 @@ use lib.ListN.{length, take}
 use borrow.Author.Needs.{needs}
 use Rattle.character.specs.Tick.{seats}
 use Rattle.map_tiles.specs.declared.tiles.Sides.{Sides}
-use Rattle.session_run.specs.Session.{mostLine, another, LinesRan}
+use Rattle.text_writing.specs.Output.{mostLine}
+use Rattle.session_run.specs.Session.{mostCalls, another, LinesRan}
 use Rattle.session_run.specs.declared.session_lines.Session.{Session}
 use Rattle.session_laws.specs.Played.{Played, none, then}
 use Rattle.session_laws.proofs.Ends.{play-ends}
@@ -27,7 +28,7 @@ abbrev Inv-loop : tie.InvT-loop
 Inv-loop text sides tiles buf₀ output turned₀ counter₀ buf turned counter = (length buf ≡ length buf₀) × (turned .next ≤ length buf) × ((out : List ℕ) × Played seats text sides tiles (turned₀ .session) counter (turned .session) out)
 
 abbrev μ-loop : tie.MeasureT-loop
-μ-loop text sides tiles buf₀ output turned₀ counter₀ buf turned counter = 65536 - counter
+μ-loop text sides tiles buf₀ output turned₀ counter₀ buf turned counter = mostCalls - counter
 
 loop-holds : tie.Need-loop-holds Inv-loop μ-loop
 loop-holds c = (refl, start-within (c .before .before .before .pre .0), ([], none))

@@ -1,14 +1,15 @@
 -- `test_world::count_all` is safe and ends. Assumes nothing.
 use Prim.Native.Nat.{_-_, _≤_}
 use native.Mathlib.Omega.{arith}
+use Rattle.test_common.specs.Counts.{mostLines}
 use Rattle.test_world.proofs.count_all.Statement.{statement}
 use Rattle.test_world.proofs.count_all.Tie as tie
 
 abbrev Inv-loop : tie.InvT-loop
-Inv-loop counts₀ world₀ counter₀ counts world counter = counter ≤ 65536
+Inv-loop counts₀ world₀ counter₀ counts world counter = counter ≤ mostLines
 
 abbrev μ-loop : tie.MeasureT-loop
-μ-loop counts₀ world₀ counter₀ counts world counter = 65536 - counter
+μ-loop counts₀ world₀ counter₀ counts world counter = mostLines - counter
 
 new-requires : tie.Need-new-requires Inv-loop μ-loop
 new-requires c κs = tt

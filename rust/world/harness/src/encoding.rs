@@ -1,5 +1,5 @@
 //! A world as the numbers of the port's C interface: the tunings, then for each
-//! seat its presence, its record and its input.
+//! seat its presence, its record and its input, or zeros where nobody is.
 
 use crate::slot::{SEATS, Slot};
 use crate::tunings::TUNINGS;
@@ -18,9 +18,13 @@ pub const RECORDS_NUMBERS: usize = SEATS * PUBLISHED_NUMBERS;
 pub fn encoded(world: &World) -> [i32; WORLD_NUMBERS] {
     let mut numbers = world.tunings.to_vec();
     for slot in world.slots {
-        numbers.push(i32::from(slot.present));
-        numbers.extend(core_numbers(slot.character.to_net()));
-        numbers.extend(input_numbers(slot.input));
+        if slot.present {
+            numbers.push(1);
+            numbers.extend(core_numbers(slot.character.to_net()));
+            numbers.extend(input_numbers(slot.input));
+        } else {
+            numbers.extend([0; SEAT_NUMBERS]);
+        }
     }
     numbers.try_into().expect("as many numbers")
 }
@@ -38,13 +42,13 @@ pub fn decoded(numbers: &[i32; WORLD_NUMBERS]) -> World {
 
 /// Who is absent is as in a fresh world, whatever stands there.
 fn decoded_slot(seat: &[i32]) -> Slot {
+    if seat[0] == 0 {
+        return Slot::absent();
+    }
     let (core, input) = seat[1..].split_at(CORE_NUMBERS);
     let mut core = core_of(core.try_into().expect("a record"));
     // No hook holds for less, and a tick below 0 would have no record.
     core.hook_tick = Tick(core.hook_tick.0.max(0));
-    if seat[0] == 0 {
-        return Slot::absent();
-    }
     Slot {
         present: true,
         character: Character::from_net(&core),

@@ -1,10 +1,12 @@
 -- `session_run::lines::another` meets its contract. Assumes nothing.
-use Prim.Native.Nat.{ℕ, _+_, _-_, _≤_, _<_}
+use Prim.Native.Nat.{ℕ, _+_, _*_, _-_, _≤_, _<_}
 use mathlib.Core.Bool.{Bool, true, false}
 use mathlib.Core.Path.{_≡_, refl, sym}
 use native.Mathlib.Omega.{arith}
 use lib.Dec.{leb}
 use borrow.Author.Tests.{le-leb, lt-leb, leb-true, leb-false}
+use Rattle.character.specs.Tick.{seats}
+use Rattle.text_writing.specs.Output.{mostLine}
 use Rattle.session_run.proofs.lines.another.Statement.{statement}
 use Rattle.session_run.proofs.lines.another.Tie as tie
 
@@ -23,10 +25,10 @@ returns-2 : tie.Need-returns-2
 returns-2 c = simp (c .before .if1 .left, lt-leb _ _ (c .if2 .taken))
 
 returns-3 : tie.Need-returns-3
-returns-3 c = let a = c .before .before .before .args in simp (c .before .before .if1 .left, le-leb _ _ (c .before .if2 .left), lt-leb (a .used + 3456) (a .len) (omega (arith, c .if3 .taken)))
+returns-3 c = let a = c .before .before .before .args in simp (c .before .before .if1 .left, le-leb _ _ (c .before .if2 .left), lt-leb (a .used + mostLine * seats) (a .len) (omega (arith, c .if3 .taken)))
 
 returns-4 : tie.Need-returns-4
-returns-4 c = let a = c .before .before .before .args in simp (c .before .before .if1 .left, le-leb _ _ (c .before .if2 .left), room (a .used) 3456 (a .len) (c .if3 .left))
+returns-4 c = let a = c .before .before .before .args in simp (c .before .before .if1 .left, le-leb _ _ (c .before .if2 .left), room (a .used) (mostLine * seats) (a .len) (c .if3 .left))
 
 pub another-spec : {M : Type 1} → statement M
 another-spec = tie.close (tie.spec returns returns-2 returns-3 returns-4)

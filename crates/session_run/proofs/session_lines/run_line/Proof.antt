@@ -15,12 +15,13 @@ use Rattle.text_reading.specs.Calls.{CallAt}
 use Rattle.character.specs.Tick.{seats}
 use Rattle.world.specs.Run.{toldBy}
 use Rattle.text_writing.specs.Answers.{toldBytes}
+use Rattle.session_run.specs.Session.{mostCalls}
 use Rattle.session_run.specs.Line.{endedAt, goesOn, end, fault, call}
 use borrow.Author.Needs.{needs}
 use Rattle.session_run.proofs.session_lines.run_line.Statement.{statement}
 use Rattle.session_run.proofs.session_lines.run_line.Tie as tie
 
-small : (n : ℕ) → n ≤ 65537 → n < 2 ^ 31
+small : (n : ℕ) → n ≤ mostCalls + 1 → n < 2 ^ 31
 small n h = omega arith
 
 ended-requires : tie.Need-ended-requires

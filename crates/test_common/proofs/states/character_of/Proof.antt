@@ -1,10 +1,6 @@
 -- `test_common::states::character_of` meets its contract. Assumes nothing.
-use Prim.Native.Nat.{ℕ}
-use mathlib.Core.Bool.{true≢false}
-use mathlib.Core.Path.{_≡_, sym, ap, ap₂, _∙_}
+use mathlib.Core.Path.{_≡_, ap, _∙_}
 use lib.Ieee.{binary32, ofBits}
-use borrow.Author.Tests.{ne-eqb, eqb-true, not-false}
-use Rattle.num_vec2.specs.Vec2.{vnew}
 use Prim.Native.Nat.{_/_, _%_}
 use lib.Dec.{eqb}
 use Rattle.test_common.specs.States.{pointAt, directionIn, characterIn}

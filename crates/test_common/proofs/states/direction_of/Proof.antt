@@ -1,10 +1,5 @@
 -- `test_common::states::direction_of` meets its contract. Assumes nothing.
-use Prim.Native.Nat.{ℕ}
-use mathlib.Core.Bool.{true≢false}
-use mathlib.Core.Path.{_≡_, sym, ap, ap₂, _∙_}
-use lib.Ieee.{binary32, ofBits}
-use borrow.Author.Tests.{ne-eqb, eqb-true, not-false}
-use Rattle.num_vec2.specs.Vec2.{vnew}
+use borrow.Author.Tests.{ne-eqb}
 use Rattle.test_common.specs.States.{directionIn}
 use Rattle.test_common.proofs.states.direction_of.Statement.{statement}
 use Rattle.test_common.proofs.states.direction_of.Tie as tie

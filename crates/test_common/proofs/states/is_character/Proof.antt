@@ -1,10 +1,8 @@
 -- `test_common::states::is_character` meets its contract. Assumes nothing.
-use Prim.Native.Nat.{ℕ}
 use mathlib.Core.Bool.{true≢false}
-use mathlib.Core.Path.{_≡_, sym, ap, ap₂, _∙_}
+use mathlib.Core.Path.{sym, ap, _∙_}
 use lib.Ieee.{binary32, ofBits}
-use borrow.Author.Tests.{ne-eqb, eqb-true, not-false}
-use Rattle.num_vec2.specs.Vec2.{vnew}
+use borrow.Author.Tests.{eqb-true, not-false}
 use Rattle.test_common.proofs.Told.{point-in, character-in}
 use borrow.Author.Needs.{needs}
 use Rattle.test_common.proofs.states.is_character.Statement.{statement}

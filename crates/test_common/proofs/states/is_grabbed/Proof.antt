@@ -1,10 +1,7 @@
 -- `test_common::states::is_grabbed` meets its contract. Assumes nothing.
-use Prim.Native.Nat.{ℕ}
 use mathlib.Core.Bool.{true≢false}
-use mathlib.Core.Path.{_≡_, sym, ap, ap₂, _∙_}
-use lib.Ieee.{binary32, ofBits}
-use borrow.Author.Tests.{ne-eqb, eqb-true, not-false}
-use Rattle.num_vec2.specs.Vec2.{vnew}
+use mathlib.Core.Path.{sym, _∙_}
+use borrow.Author.Tests.{eqb-true}
 use borrow.Author.Needs.{needs}
 use Rattle.test_common.proofs.states.is_grabbed.Statement.{statement}
 use Rattle.test_common.proofs.states.is_grabbed.Tie as tie

@@ -1,7 +1,7 @@
 -- `test_common::vectors::is_float` meets its contract. Assumes nothing.
 use mathlib.Core.Path.{sym, ap, subst, _∙_}
 use lib.Dec.{T, ltb→lt, eqb→eq}
-use lib.Ieee.{binary32, fits, ofBits, toBits}
+use lib.Ieee.{binary32, fits, ofBits}
 use lib.Ieee.Bits.{ofBits-toBits}
 use Rattle.base_binary32.proofs.Nans.{equal-no-nan, unequal-nan, body-nan}
 use Rattle.test_common.proofs.vectors.is_float.Statement.{statement}

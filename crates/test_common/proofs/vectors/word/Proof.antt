@@ -1,7 +1,7 @@
 -- `test_common::vectors::word` meets its contract. Assumes nothing.
 use Prim.Native.Nat.{ℕ, _-_, _+_, _*_, _%_, _^_, _<_, _≤_}
 use native.Mathlib.Omega.{arith}
-use mathlib.Core.Path.{_≡_, sym, ap, _∙_}
+use mathlib.Core.Path.{_≡_, sym, ap}
 use mathlib.Core.List.{List}
 use mathlib.Core.Logic.{⊎-elim}
 use lib.ListN.{length, getD}

@@ -7,6 +7,7 @@ use native.Mathlib.Omega.{arith}
 use lib.Dec.{lit<}
 use lib.ListN.{length, take}
 use lib.Seq.{length-take-le}
+use Rattle.text_reading.specs.Map.{mostTiles}
 use Rattle.text_reading.specs.Reading.{MapAt}
 use Rattle.text_reading.proofs.Heads.{name-read, name-fault}
 use Rattle.text_reading.proofs.Maps.{too-long, head-absent, head-read, too-many, tiles-absent, tiles-read, tiles-fault, names-absent, a-map}
@@ -14,7 +15,7 @@ use borrow.Author.Needs.{needs}
 use Rattle.text_reading.proofs.map_text.read_map.Statement.{statement}
 use Rattle.text_reading.proofs.map_text.read_map.Tie as tie
 
-filled : {n : ℕ} (d e : List ℕ) → n ≤ 32768 → 32768 ≤ length d → length e ≡ length d → length (take n e) ≡ n
+filled : {n : ℕ} (d e : List ℕ) → n ≤ mostTiles → mostTiles ≤ length d → length e ≡ length d → length (take n e) ≡ n
 filled {n} d e h m k = length-take-le n e (omega arith)
 
 returns : tie.Need-returns

@@ -18,9 +18,9 @@ use Rattle.game_records.specs.declared.CharacterCore.{CharacterCore}
 use Rattle.character.specs.Tick.{seats}
 use Rattle.world.specs.Demand3.{recordAt}
 use Rattle.world.specs.declared.Published.{Published}
-use Rattle.text_writing.specs.Output.{recordBytes}
+use Rattle.text_writing.specs.Output.{mostLine, recordBytes}
 use Rattle.text_writing.specs.Put.{Put}
-use Rattle.text_writing.proofs.Puts.{length-put, put-none}
+use Rattle.base_rows.proofs.Puts.{length-put, put-none}
 use Rattle.text_writing.proofs.Sizes.{record-short, put-after}
 use Rattle.text_writing.specs.Answers.{lineTurn, recordLines}
 use Rattle.text_writing.proofs.answers.put_records.Statement.{statement}
@@ -34,9 +34,9 @@ record Sofar (d : List ℕ) (at : ℕ) (call : ℤ) (rs : List Published) (e : L
   lines : List ℕ
   left : Left (always (lineTurn call rs)) seats id lines (more (recordLines seats call rs))
   put : Put d at lines e next
-  short : length lines ≤ 216 * id
+  short : length lines ≤ mostLine * id
 
-module _ (d : List ℕ) (at : ℕ) (call : ℤ) (rs : List Published) (room : at + 216 * seats ≤ length d) where
+module _ (d : List ℕ) (at : ℕ) (call : ℤ) (rs : List Published) (room : at + mostLine * seats ≤ length d) where
   start : Sofar d at call rs d at 0
   unfolding recordLines
   start = record { lines = []; left = fold-first; put = record { bytes = put-none d at; place = omega arith }; short = omega arith }
@@ -46,7 +46,7 @@ module _ (d : List ℕ) (at : ℕ) (call : ℤ) (rs : List Published) (room : at
     told f end p q =
         let r = recordBytes call (pos 0) (pos id) (recordAt rs id .core) in
         let a : length (s .lines ++ r) ≡ length (s .lines) + length r = length-append (s .lines) r in
-        let b : length r ≤ 216 = record-short call (pos 0) (pos id) (recordAt rs id .core) in
+        let b : length r ≤ mostLine = record-short call (pos 0) (pos id) (recordAt rs id .core) in
         record { lines = s .lines ++ r; left = turn-on (s .left) l (simp p); put = put-after (omega arith) (s .put) q; short = omega (arith, s .short) }
 
     untold : recordAt rs id .present ≡ false → Sofar d at call rs e next (id + 1)
@@ -56,7 +56,7 @@ module _ (d : List ℕ) (at : ℕ) (call : ℤ) (rs : List Published) (room : at
   as-long : (e : List ℕ) (next id : ℕ) → Sofar d at call rs e next id → id ≤ seats → length e ≡ length d
   as-long e next id s l = ap length (s .put .bytes) ∙ length-put d at (s .lines) (omega (arith, s .short))
 
-  room-left : (e : List ℕ) (next id : ℕ) → Sofar d at call rs e next id → id < seats → next + 216 ≤ length e
+  room-left : (e : List ℕ) (next id : ℕ) → Sofar d at call rs e next id → id < seats → next + mostLine ≤ length e
   room-left e next id s l = let h = as-long e next id s (omega arith) in let p = s .put .place in omega (arith, s .short)
 
 abbrev Inv-loop : tie.InvT-loop

@@ -1,14 +1,12 @@
 -- `text_writing::line::put_bytes` meets its contract. Assumes nothing.
-use Prim.Native.Nat.{ℕ, _+_, _-_, _≤_}
-use mathlib.Core.Path.{_≡_, refl, sym, ap, _∙_}
-use mathlib.Core.List.{List, [], _∷_, _++_}
-use native.Mathlib.Numerals.{add-one}
+use Prim.Native.Nat.{_+_, _-_, _≤_}
+use mathlib.Core.Path.{_≡_, refl, ap, _∙_}
 use native.Mathlib.Omega.{arith}
-use lib.ListN.{length, take, set, getD, length-set}
-use lib.Seq.{length-take-le, take-suc, take-all}
+use lib.ListN.{length, take, getD, length-set}
+use lib.Seq.{take-all}
 use borrow.Author.Needs.{needs}
-use Rattle.text_writing.specs.Put.{put}
-use Rattle.text_writing.proofs.Puts.{put-none, put-snoc}
+use Rattle.base_rows.specs.Put.{put}
+use Rattle.base_rows.proofs.Puts.{put-none, put-next}
 use Rattle.text_writing.proofs.line.put_bytes.Statement.{statement}
 use Rattle.text_writing.proofs.line.put_bytes.Tie as tie
 
@@ -42,12 +40,7 @@ loop-again c =
     let a = l .before .args in
     let i = l .loop .i in
     let w = a .bytes .now in
-    let n : length (take i w) ≡ i = length-take-le i w (omega arith) in
-    let f : take (i + 1) w ≡ take i w ++ (getD w i 0 ∷ []) = rw (add-one, take-suc w i 0 (c .before .loop-test .taken)) in (
-      omega arith,
-      length-set (l .loop .buf) (a .at + i) (getD w i 0) ∙ l .loop .inv .1,
-      ap (λ (d : List ℕ). set d (a .at + i) (getD w i 0)) (l .loop .inv .2) ∙ put-snoc (a .buf .now) (a .at) (take i w) (a .at + i) (getD w i 0) (omega arith) (omega arith) ∙ ap (put (a .buf .now) (a .at)) (sym f),
-    )
+    (omega arith, length-set (l .loop .buf) (a .at + i) (getD w i 0) ∙ l .loop .inv .1, rw (l .loop .inv .2) (put-next (a .buf .now) (a .at) w i 0 (omega arith) (c .before .loop-test .taken)))
 
 add-result : tie.Need-add-result Inv-loop μ-loop
 add-result c = search needs

@@ -12,8 +12,9 @@ use Rattle.text_decimal.specs.Decimal.{written}
 use Rattle.text_decimal.specs.Lines.{endByte, ended}
 use Rattle.text_decimal.proofs.Digits.{short}
 use Rattle.text_decimal.proofs.Lines.{front}
-use Rattle.text_writing.specs.Put.{put, Put}
-use Rattle.text_writing.proofs.Puts.{put-none, put-then}
+use Rattle.base_rows.specs.Put.{put}
+use Rattle.text_writing.specs.Put.{Put}
+use Rattle.base_rows.proofs.Puts.{put-none, put-then}
 use Rattle.text_writing.proofs.Rows.{line-more, line-whole}
 use Rattle.text_writing.proofs.line.put_line.Statement.{statement}
 use Rattle.text_writing.proofs.line.put_line.Tie as tie

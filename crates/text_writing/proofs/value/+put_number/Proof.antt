@@ -5,9 +5,9 @@ use mathlib.Core.List.{List}
 use native.Mathlib.Omega.{arith}
 use lib.ListN.{length, set}
 use Rattle.text_decimal.specs.Decimal.{digits}
-use Rattle.text_writing.specs.Put.{put}
+use Rattle.base_rows.specs.Put.{put}
 use Rattle.text_decimal.proofs.Digits.{lone, ten-last, ten-length}
-use Rattle.text_writing.proofs.Puts.{put-one, put-snoc}
+use Rattle.base_rows.proofs.Puts.{put-one, put-snoc}
 use borrow.Author.Needs.{needs}
 use borrow.Fn.Kinds.{In}
 use borrow.Fn.PlainCycle.{Measures, is, falls, and}

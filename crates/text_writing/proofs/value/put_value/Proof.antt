@@ -9,9 +9,9 @@ use mir.Syntax.{w32}
 use mir.ValLaws.{toZ-ofZ}
 use lib.ListN.{length, length-set}
 use Rattle.text_decimal.specs.Decimal.{digits, written}
-use Rattle.text_writing.specs.Put.{put}
+use Rattle.base_rows.specs.Put.{put}
 use Rattle.text_decimal.proofs.Digits.{few}
-use Rattle.text_writing.proofs.Puts.{put-cons}
+use Rattle.base_rows.proofs.Puts.{put-cons}
 use Rattle.text_writing.proofs.Signs.{under, over}
 use Rattle.text_writing.proofs.value.put_value.Statement.{statement}
 use Rattle.text_writing.proofs.value.put_value.Tie as tie

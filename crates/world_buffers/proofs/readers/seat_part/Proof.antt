@@ -5,15 +5,15 @@ use Prim.Native.Nat.{_-_}
 use native.Mathlib.Omega.{arith}
 use lib.IntN.{ℤ}
 use lib.ListN.{length, take, drop, length-drop}
-use lib.Seq.{take-all, length-take-le}
+use lib.Seq.{length-take-le}
 use mir.Facts.{toZ-ofZ}
 use Rattle.character.specs.Tick.{seats, slotAt}
 use Rattle.character.specs.declared.Slot.{Slot}
 use Rattle.world.specs.Calls.{placeOf}
-use Rattle.world_numbers.specs.Encoding.{seatNumbers}
+use Rattle.world_numbers.specs.Encoding.{seatCount, presentNumbers}
 use Rattle.world_numbers.specs.Decoding.{decoding}
-use Rattle.base_rows.proofs.Pastes.{first-row}
-use Rattle.world_numbers.proofs.Rows.{seat-long}
+use Rattle.base_rows.proofs.Puts.{put-end}
+use Rattle.world_numbers.proofs.Rows.{present-long}
 use Rattle.world_numbers.proofs.Seats.{seat-is}
 use Rattle.world_buffers.proofs.Readings.{no-seat, nobody, somebody}
 use borrow.Author.Needs.{needs}
@@ -26,8 +26,8 @@ place-of-requires c κs = search needs
 seat-at-requires : tie.Need-seat-at-requires
 seat-at-requires c κs = search needs
 
-seat-numbers-requires : tie.Need-seat-numbers-requires
-seat-numbers-requires c κs = search needs
+present-numbers-requires : tie.Need-present-numbers-requires
+present-numbers-requires c κs = search needs
 
 mul-copy : tie.Need-mul-copy
 mul-copy c = search needs
@@ -55,14 +55,14 @@ returns c =
     let k = c .before .before .before .before .before .before .before .before .before .place-of .result in
     let e : slotAt (decoding seats (a .world .now) .slots) k ≡ c .before .before .before .before .before .before .before .seat-at .result = seat-is seats k (a .world .now) (c .before .before .before .before .before .before .before .before .if1 .taken) ∙ sym (c .before .before .before .before .before .before .before .seat-at .ensures) in
     let y = c .before .copy in
-    let r = c .before .before .before .before .before .seat-numbers in
+    let r = c .before .before .before .before .before .present-numbers in
     let n = a .to - a .from in
-    let long : length (r .result) ≡ 21 = ap length (r .ensures) ∙ seat-long _ in
+    let long : length (r .result) ≡ seatCount = ap length (r .ensures) ∙ present-long _ in
     let part : List ℤ = take n (drop (a .from) (r .result)) in
     let d = length-drop (a .from) (r .result) in
     let m : length part ≡ n = length-take-le n (drop (a .from) (r .result)) (omega arith) in
-    let q : y .last .0 ≡ part = sym (take-all n (y .last .0) (omega (arith, y .kept .0))) ∙ first-row n _ (y .last .0) part m (y .ensures) in
-    somebody _ _ (a .id) (a .part .now) k p (y .last .0) (c .before .before .before .before .before .before .before .before .if1 .taken) (ap (λ (x : Slot). x .present) e ∙ c .before .before .before .before .before .before .if2 .taken) (q ∙ ap (λ (x : List ℤ). take n (drop (a .from) x)) (r .ensures ∙ ap seatNumbers (sym e)))
+    let q : y .last .0 ≡ part = y .ensures ∙ put-end (a .part .now) 0 part (omega arith) in
+    somebody _ _ (a .id) (a .part .now) k p (y .last .0) (c .before .before .before .before .before .before .before .before .if1 .taken) (ap (λ (x : Slot). x .present) e ∙ c .before .before .before .before .before .before .if2 .taken) (q ∙ ap (λ (x : List ℤ). take n (drop (a .from) x)) (r .ensures ∙ ap presentNumbers (sym e)))
 
 returns-2 : tie.Need-returns-2
 returns-2 c =
@@ -86,7 +86,7 @@ seat-part-spec =
     (tie.spec
     place-of-requires
     seat-at-requires
-    seat-numbers-requires
+    present-numbers-requires
     mul-copy
     sub-copy
     part-copy-start

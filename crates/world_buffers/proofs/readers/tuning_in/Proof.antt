@@ -1,8 +1,9 @@
 -- `world_buffers::readers::tuning_in` meets its contract. Assumes nothing.
 use mathlib.Core.Path.{_≡_, ap, _∙_}
 use mir.Facts.{toZ-ofZ}
+use Rattle.world.specs.World.{tuningCount}
 use Rattle.world.specs.Calls.{placeOf}
-use Rattle.world_numbers.proofs.Rows.{again}
+use Rattle.game_records.proofs.Bits.{again}
 use Rattle.world_buffers.proofs.Readings.{tuning-wrong, no-tuning, tuning-told}
 use borrow.Author.Needs.{needs}
 use Rattle.world_buffers.proofs.readers.tuning_in.Statement.{statement}
@@ -25,7 +26,7 @@ returns-2 c =
     let s = c .before .before .before .before in
     let a = s .args in
     let k = c .before .before .place-of in
-    let p : k .result ≡ placeOf 18 (a .index) = k .ensures ∙ ap (placeOf 18) (toZ-ofZ (s .fits .index)) in
+    let p : k .result ≡ placeOf tuningCount (a .index) = k .ensures ∙ ap (placeOf tuningCount) (toZ-ofZ (s .fits .index)) in
     rw (again (c .value .given)) (tuning-told (a .world .now) (a .index) (a .value .now) (k .result) (c .before .before .before .if1 .left) p (c .before .if2 .taken))
 
 returns-3 : tie.Need-returns-3
@@ -33,7 +34,7 @@ returns-3 c =
     let s = c .before .before .before in
     let a = s .args in
     let k = c .before .place-of in
-    let p : k .result ≡ placeOf 18 (a .index) = k .ensures ∙ ap (placeOf 18) (toZ-ofZ (s .fits .index)) in
+    let p : k .result ≡ placeOf tuningCount (a .index) = k .ensures ∙ ap (placeOf tuningCount) (toZ-ofZ (s .fits .index)) in
     no-tuning (a .world .now) (a .index) (a .value .now) (k .result) (c .before .before .if1 .left) p (c .if2 .left)
 
 pub tuning-in-spec : {M : Type 1} → statement M

@@ -2,7 +2,7 @@
 use mir.Facts.{toZ-ofZ}
 use mir.Syntax.{w32}
 use mathlib.Core.Path.{_≡_, ap, _∙_}
-use Rattle.world_numbers.proofs.Rows.{again}
+use Rattle.game_records.proofs.Bits.{again}
 use Rattle.world_numbers.specs.Decoding.{fromZero, withTicks, readable}
 use borrow.Author.Needs.{needs}
 use Rattle.world_numbers.proofs.decoding.readable.Statement.{statement}

@@ -4,6 +4,8 @@ use mathlib.Core.Path.{ap, _∙_}
 use native.Mathlib.Omega.{arith}
 use lib.ListN.{length, drop, length-drop}
 use lib.Seq.{take-all}
+use Rattle.world.specs.World.{tuningCount}
+use Rattle.world_numbers.specs.Encoding.{seatCount}
 use Rattle.world_numbers.specs.Decoding.{seatOf}
 use borrow.Author.Needs.{needs}
 use Rattle.world_numbers.proofs.decoding.seat_at.Statement.{statement}
@@ -33,7 +35,7 @@ seat-of-requires c κs = search needs
 returns : tie.Need-returns
 returns c =
     let a = c .before .before .args in
-    let k = 18 + 21 * a .id in
+    let k = tuningCount + seatCount * a .id in
     let ns = a .numbers .now in
     c .seat-of .ensures ∙ ap seatOf (take-all (length ns - k) (drop k ns) (omega (arith, length-drop k ns)))
 

@@ -6,13 +6,14 @@ use lib.ListN.{length, take, drop, length-set}
 use lib.Seq.{take-all}
 use borrow.Author.Needs.{needs}
 use Rattle.character.specs.Tick.{seats}
+use Rattle.world.specs.World.{tuningCount}
 use Rattle.world_numbers.specs.Decoding.{seatsOf}
 use Rattle.world_numbers.proofs.Seats.{next-seat}
 use Rattle.world_numbers.proofs.decoding.seats_of.Statement.{statement}
 use Rattle.world_numbers.proofs.decoding.seats_of.Tie as tie
 
 abbrev Inv-loop : tie.InvT-loop
-Inv-loop numbers slots₀ id₀ slots id = (id ≤ seats) × (length slots ≡ seats) × (take id slots ≡ seatsOf id (drop 18 numbers))
+Inv-loop numbers slots₀ id₀ slots id = (id ≤ seats) × (length slots ≡ seats) × (take id slots ≡ seatsOf id (drop tuningCount numbers))
 
 abbrev μ-loop : tie.MeasureT-loop
 μ-loop numbers slots₀ id₀ slots id = seats - id
@@ -49,7 +50,7 @@ returns : tie.Need-returns Inv-loop μ-loop
 returns c =
     let l = c .before in
     let e : l .loop .id ≡ seats = omega arith in
-    sym (take-all (l .loop .id) (l .loop .slots) (omega arith)) ∙ l .loop .inv .2 ∙ ap (λ (k : ℕ). seatsOf k (drop 18 (l .before .before .args .numbers .now))) e
+    sym (take-all (l .loop .id) (l .loop .slots) (omega arith)) ∙ l .loop .inv .2 ∙ ap (λ (k : ℕ). seatsOf k (drop tuningCount (l .before .before .args .numbers .now))) e
 
 pub seats-of-spec : {M : Type 1} → statement M
 seats-of-spec =

@@ -1,9 +1,9 @@
 -- `world_numbers::decoding::tunings_of` meets its contract. Assumes nothing.
-use mathlib.Core.Path.{sym, _∙_}
+use mathlib.Core.Path.{_∙_}
 use native.Mathlib.Omega.{arith}
-use lib.ListN.{take}
-use lib.Seq.{take-all, length-take-le}
-use Rattle.base_rows.proofs.Pastes.{first-row}
+use lib.Seq.{length-take-le}
+use Rattle.base_rows.proofs.Puts.{put-end}
+use Rattle.world.specs.World.{tuningCount}
 use borrow.Author.Needs.{needs}
 use Rattle.world_numbers.proofs.decoding.tunings_of.Statement.{statement}
 use Rattle.world_numbers.proofs.decoding.tunings_of.Tie as tie
@@ -25,9 +25,8 @@ copy-requires c κs = search needs
 
 returns : tie.Need-returns
 returns c =
-    let k = c .before .copy in
     let ns = c .before .before .before .before .args .numbers .now in
-    sym (take-all 18 (k .last .0) (omega (arith, k .kept .0))) ∙ first-row 18 _ (k .last .0) (take 18 ns) (length-take-le 18 ns (omega arith)) (k .ensures)
+    c .before .copy .ensures ∙ put-end _ 0 _ (omega (arith, length-take-le tuningCount ns (omega arith)))
 
 pub tunings-of-spec : {M : Type 1} → statement M
 tunings-of-spec =

@@ -1,0 +1,83 @@
+-- Laws of `put`, of numbers and of bytes alike: one element, one more, and one row after another. Assumes nothing.
+use Prim.Native.Nat.{ℕ, _+_, _≤_, _<_}
+use mathlib.Core.Path.{_≡_, refl, sym, ap, _∙_}
+use mathlib.Core.List.{List, [], _∷_, _++_, append-assoc, append-nil}
+use native.Mathlib.Omega.{arith}
+use native.Mathlib.Nat.{add-zero}
+use native.Mathlib.Numerals.{add-one}
+use lib.ListN.{length, take, drop, set, getD, length-append, length-drop, take-append-drop}
+use lib.Seq.{length-take-le, take-at, drop-at, drop-drop, drop-length, set-split, take-suc}
+use Rattle.base_rows.specs.Put.{put}
+
+module _ {A : Type 0} where
+  front : (d : List A) (at : ℕ) (w : List A) → at ≤ length d → length (take at d ++ w) ≡ at + length w
+  front d at w h = length-append (take at d) w ∙ ap (λ (n : ℕ). n + length w) (length-take-le at d h)
+
+  split : (d : List A) (at : ℕ) (w : List A) → put d at w ≡ (take at d ++ w) ++ drop (at + length w) d
+  unfolding put
+  split d at w = sym (append-assoc (take at d) w (drop (at + length w) d))
+
+  pub length-put : (d : List A) (at : ℕ) (w : List A) → at + length w ≤ length d → length (put d at w) ≡ length d
+  length-put d at w h =
+      let f = front d at w (omega arith) in
+      rw split (omega (arith, length-append (take at d ++ w) (drop (at + length w) d), length-drop (at + length w) d))
+
+  -- up to its end
+  pub take-put : (d : List A) (at : ℕ) (w : List A) (n : ℕ) → n ≡ at + length w → at ≤ length d → take n (put d at w) ≡ take at d ++ w
+  take-put d at w n e h = rw split (take-at (take at d ++ w) (drop (at + length w) d) n (front d at w h ∙ sym e))
+
+  -- a row that ends with the other
+  pub put-end : (d : List A) (at : ℕ) (w : List A) → at + length w ≡ length d → put d at w ≡ take at d ++ w
+  unfolding put
+  put-end d at w e = rw (e, drop-length d, append-nil w)
+
+  -- one row after another
+  pub put-put : (d : List A) (at : ℕ) (w v : List A) (n : ℕ) → n ≡ at + length w → at ≤ length d → put (put d at w) n v ≡ put d at (w ++ v)
+  put-put d at w v n e h =
+      let p : List A = take at d ++ w in
+      let f : length p ≡ n = front d at w h ∙ sym e in
+      let l : n + length v ≡ at + length (w ++ v) = omega (arith, length-append w v) in
+      ap (λ (q : List A). put q n v) (split d at w)
+      ∙ split (p ++ drop (at + length w) d) n v
+      ∙ ap (λ (q : List A). (q ++ v) ++ drop (n + length v) (p ++ drop (at + length w) d)) (take-at p (drop (at + length w) d) n f)
+      ∙ ap (λ (q : List A). (p ++ v) ++ q) (
+      sym (drop-drop (length v) n (p ++ drop (at + length w) d))
+      ∙ ap (drop (length v)) (drop-at p (drop (at + length w) d) n f ∙ ap (λ (k : ℕ). drop k d) (sym e))
+      ∙ drop-drop (length v) n d
+      ∙ ap (λ (k : ℕ). drop k d) l
+      )
+      ∙ ap (λ (q : List A). q ++ drop (at + length (w ++ v)) d) (append-assoc (take at d) w v)
+      ∙ sym (split d at (w ++ v))
+
+  pub put-none : (d : List A) (at : ℕ) → d ≡ put d at []
+  unfolding put
+  put-none d at = sym (ap (λ (n : ℕ). take at d ++ drop n d) (add-zero at) ∙ take-append-drop at d)
+
+  -- one element
+  pub put-one : (d : List A) (at : ℕ) (x : A) → at < length d → set d at x ≡ put d at (x ∷ [])
+  unfolding put
+  put-one d at x h = set-split d at x h ∙ ap (λ (n : ℕ). take at d ++ x ∷ drop n d) (sym (add-one at))
+
+  -- one after a row
+  pub put-snoc : (d : List A) (at : ℕ) (w : List A) (n : ℕ) (x : A) → n ≡ at + length w → at + length w < length d → set (put d at w) n x ≡ put d at (w ++ (x ∷ []))
+  put-snoc d at w n x e h =
+      put-one (put d at w) n x (omega (arith, length-put d at w (omega arith))) ∙ put-put d at w (x ∷ []) n e (omega arith)
+
+  -- one before a row
+  pub put-cons : (d : List A) (at : ℕ) (x : A) (w : List A) → at < length d → put (set d at x) (at + 1) w ≡ put d at (x ∷ w)
+  put-cons d at x w h = ap (λ (q : List A). put q (at + 1) w) (put-one d at x h) ∙ put-put d at (x ∷ []) w (at + 1) refl (omega arith)
+
+  -- the next of a row that is written one by one
+  pub put-next : (d : List A) (at : ℕ) (w : List A) (i : ℕ) (z : A) → at + i < length d → i < length w → set (put d at (take i w)) (at + i) (getD w i z) ≡ put d at (take (i + 1) w)
+  put-next d at w i z h g =
+      let n : length (take i w) ≡ i = length-take-le i w (omega arith) in
+      let f : take (i + 1) w ≡ take i w ++ (getD w i z ∷ []) = rw (add-one, take-suc w i z g) in
+      put-snoc d at (take i w) (at + i) (getD w i z) (omega arith) (omega arith) ∙ ap (put d at) (sym f)
+
+  -- a row after another, and one after both
+  pub put-then : (d : List A) (at : ℕ) (s w : List A) (next end : ℕ) (x : A) → next ≡ at + length s → end ≡ next + length w → end < length d → set (put (put d at s) next w) end x ≡ put d at (s ++ (w ++ (x ∷ [])))
+  put-then d at s w next end x e f h =
+      let l = length-append s w in
+      ap (λ (q : List A). set q end x) (put-put d at s w next e (omega arith))
+      ∙ put-snoc d at (s ++ w) end x (omega arith) (omega arith)
+      ∙ ap (put d at) (append-assoc s w (x ∷ []))
