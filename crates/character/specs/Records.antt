@@ -11,6 +11,7 @@ use Rattle.character_hook.specs.Hook.{netState, netPos, netDir, tickOf, netHook
 use Rattle.character.specs.declared.records.Net.{Net}
 use Rattle.character.specs.declared.records.Quantized.{Quantized}
 use Rattle.game_records.specs.declared.CharacterCore.{CharacterCore}
+use Rattle.game_refusals.specs.Refusals.{tickTooLarge}
 use Rattle.num_vec2.specs.Vec2.{vnew}
 use Rattle.num_convert.specs.Whole.{roundToI32}
 use Rattle.character.specs.declared.records.Net.the-variants as net
@@ -76,9 +77,9 @@ quantize c = back (toNet c)
 
 -- document 01's number of an answer
 abbrev pub netNumber : Net → ℕ
-netNumber net.TickTooLarge = 10
+netNumber net.TickTooLarge = tickTooLarge
 netNumber (net.Core n) = 0
 
 abbrev pub quantizedNumber : Quantized → ℕ
-quantizedNumber quantized.TickTooLarge = 10
+quantizedNumber quantized.TickTooLarge = tickTooLarge
 quantizedNumber (quantized.To c) = 0

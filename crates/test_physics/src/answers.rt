@@ -9,8 +9,11 @@ use character::Character;
 use character::Moved;
 use character::SEATS;
 use character::Slot;
+use character::Ticked;
+use character::after_pull;
 use character_hook::CharacterId;
 use game_records::PlayerInput;
+use game_refusals::TOO_FAR;
 use map_tiles::Sides;
 use test_common::after;
 use test_common::is_character;
@@ -26,25 +29,36 @@ const CHARACTER: usize = 233;
 
 const VELOCITIES: usize = 245;
 
-// The numbers of the answers that a move can have here.
+// The number of an answer that is not refused.
 const ACCEPTED: u32 = 0;
-
-const TOO_FAR: u32 = 9;
 
 pub fn tick_agrees(sides: Sides, tiles: &[u8], words: &[u8]) -> bool {
     let id = id_of(words);
-    let ticked = own_character(words).tick(
+    let number = nth(words, NUMBER);
+    let before = own_character(words);
+    let slots = slots_of(words);
+    let ticked = before.tick(
         CharacterId(id),
-        slots_of(words),
+        slots,
         sides,
         tiles,
         input_of(words),
         tunings_of(words),
     );
-    let slots = ticked.slots;
-    ticked.number == nth(words, NUMBER)
-        && is_character(ticked.me, after(words, CHARACTER))
-        && slots_agree(slots, words)
+    match ticked {
+        Ticked::BadMap => false,
+        Ticked::BadId => false,
+        Ticked::TooFar => number == TOO_FAR && all_agree(before, slots, words),
+        Ticked::To(after) => {
+            let me = after.me;
+            let pull = after.pull;
+            number == ACCEPTED && all_agree(me, after_pull(slots, pull), words)
+        }
+    }
+}
+
+fn all_agree(me: Character, slots: [Slot; SEATS], words: &[u8]) -> bool {
+    is_character(me, after(words, CHARACTER)) && slots_agree(slots, words)
 }
 
 pub fn move_agrees(sides: Sides, tiles: &[u8], words: &[u8]) -> bool {

@@ -20,8 +20,8 @@ use Rattle.game_records.specs.declared.CharacterCore.{CharacterCore}
 use Rattle.character_hook.specs.Hook.{tickOf}
 use Rattle.character.specs.declared.Character.{Character}
 use Rattle.character.specs.declared.Slot.{Slot}
-use Rattle.character.specs.declared.walk.Moved.{Moved}
-use Rattle.character.specs.declared.walk.Moved.the-variants as moved
+use Rattle.character.specs.declared.walk.MovedAt.{MovedAt}
+use Rattle.character.specs.declared.walk.MovedAt.the-variants as moved
 use Rattle.character.specs.Tick.{slotAt, nowhere, withCharacter}
 use Rattle.character_laws.specs.Faithful.{Faithful}
 use Rattle.character.specs.Records.{coreOf, toNet, fromNet, mostTick}
@@ -158,9 +158,7 @@ module _ (n : ℕ) (s : Sides) (ts : List ℕ) (t : Tuning) (map : T (isMap s ts
         named c net.TickTooLarge q w p z = absurd (stop-or-more 10 m' z)
         named c (net.Core core) q w p z = subst (Upto (suc i)) (same-more (after l p c core q (reads p c core q w)) m' z) (present l p c core q (reads p c core q w) (e ∙ sym z))
 
-        recorded : (d : Moved) → moveIn n s ts t (m .slots) i ≡ d → slotAt (m .slots) i .present ≡ true → publish m i (recordOf d) ≡ more m' → Upto (suc i) m'
-        recorded moved.BadMap q p z = absurd (stop-or-more 1 m' z)
-        recorded moved.BadId q p z = absurd (stop-or-more 2 m' z)
+        recorded : (d : MovedAt) → moveIn n s ts t (m .slots) i ≡ d → slotAt (m .slots) i .present ≡ true → publish m i (recordOf d) ≡ more m' → Upto (suc i) m'
         recorded moved.TooFar q p z = absurd (stop-or-more 9 m' z)
         recorded (moved.To c) q p z = named c (toNet c) q refl p z
 

@@ -7,7 +7,7 @@ use mathlib.Core.Logic.{_⊎_, inl, inr, ⊎-elim}
 use mathlib.Core.Path.{_≡_, refl, sym, ap, _∙_, subst}
 use lib.Dec.{ltb}
 use lib.ListN.{length, length-set}
-use borrow.Author.Tests.{eq-eqb, ne-eqb, ltb-false}
+use borrow.Author.Tests.{ltb-false}
 use Rattle.base_turns.specs.Turns.{Turn, more, stop, next, run}
 use Rattle.base_turns.proofs.Kept.{Ends, run-kept}
 use Rattle.character_hook.specs.Hook.{tickOf}
@@ -26,15 +26,17 @@ use Rattle.character.specs.declared.Character.{Character}
 use Rattle.character.specs.declared.Slot.{Slot}
 use Rattle.character.specs.declared.tick.HookFlight.{HookFlight}
 use Rattle.character.specs.declared.tick.HookFlight.the-variants.{TooFar, To}
-use Rattle.character.specs.declared.tick.Ticked.{Ticked}
-use Rattle.character.specs.Tick.{slotAt, nowhere, withCharacter, steer, flight, hooked, ticked, tickAt}
+use Rattle.character.specs.declared.tick.AfterTick.{AfterTick}
+use Rattle.character.specs.declared.tick.TickedAt.{TickedAt}
+use Rattle.character.specs.declared.tick.TickedAt.the-variants as ticked-at
+use Rattle.character.specs.Tick.{slotAt, nowhere, withCharacter, steer, flight, afterPull, hooked, ticked, tickAt}
 use Rattle.character_laws.proofs.Slots.{set-others}
-use Rattle.character_laws.proofs.Others.{tick-others, tick-length}
-use Rattle.map_walks.specs.declared.moves.BoxMove.{BoxMove}
-use Rattle.map_walks.specs.declared.moves.BoxMove.the-variants as box
+use Rattle.character_laws.proofs.Others.{Then, pulled-others, pulled-length}
+use Rattle.map_walks.specs.declared.moves.BoxWalk.{BoxWalk}
+use Rattle.map_walks.specs.declared.moves.BoxWalk.the-variants as box
 use Rattle.character_motion.specs.Walking.{rampedMove}
-use Rattle.character.specs.declared.walk.Moved.{Moved}
-use Rattle.character.specs.declared.walk.Moved.the-variants as moved
+use Rattle.character.specs.declared.walk.MovedAt.{MovedAt}
+use Rattle.character.specs.declared.walk.MovedAt.the-variants as moved
 use Rattle.character.specs.declared.walk.PlayerWalk.{PlayerWalk}
 use Rattle.character.specs.declared.walk.PlayerWalk.the-variants as among
 use Rattle.character.specs.Walk.{movedTo, playerWalk, rested, afterBox, moveAt}
@@ -62,15 +64,17 @@ hold-short (Retracting2 p) = omega arith
 abbrev Short : Slot → Type 0
 Short x = x .present ≡ true → tickOf (x .character .hook) ≤ maxHookGrabTime
 
--- a tick goes on with such a hook, or is refused with 9
-ticked-short : (n : ℕ) (before c : Character) (id : ℕ) (ss : List Slot) (t : Tuning) (f : HookFlight) → ((ticked n before c id ss t f .number ≡ 0) × (tickOf (ticked n before c id ss t f .me .hook) ≤ maxHookGrabTime)) ⊎ (ticked n before c id ss t f .number ≡ 9)
-unfolding hooked
-ticked-short n before c id ss t TooFar = inr refl
-ticked-short n before c id ss t (To h) = inl (refl, hold-short h)
+abbrev ShortAfter : AfterTick → Type 0
+ShortAfter a = tickOf (a .me .hook) ≤ maxHookGrabTime
 
-tick-short : (n : ℕ) (c : Character) (id : ℕ) (ss : List Slot) (s : Sides) (ts : List ℕ) (i : PlayerInput) (t : Tuning) → ((tickAt n c id ss s ts i t .number ≡ 0) × (tickOf (tickAt n c id ss s ts i t .me .hook) ≤ maxHookGrabTime)) ⊎ (tickAt n c id ss s ts i t .number ≡ 9)
-unfolding tickAt
-tick-short n c id ss s ts i t = let d = steer c (grounded s ts (c .pos)) i t in ticked-short n c d id ss t (flight n (d .hook) (c .pos) id ss s ts t)
+-- a tick that is not refused goes on with such a hook
+tick-short : (n : ℕ) (c : Character) (id : ℕ) (ss : List Slot) (s : Sides) (ts : List ℕ) (i : PlayerInput) (t : Tuning) → Then ShortAfter (tickAt n c id ss s ts i t)
+unfolding tickAt hooked
+tick-short n c id ss s ts i t = let d = steer c (grounded s ts (c .pos)) i t in go d (flight n (d .hook) (c .pos) id ss s ts t)
+  where
+    go : (d : Character) (f : HookFlight) → Then ShortAfter (ticked n d id ss t f)
+    go d TooFar = tt
+    go d (To h) = hold-short h
 
 module _ (n : ℕ) (s : Sides) (ts : List ℕ) (t : Tuning) where
   -- after i ticks, of n slots those that have ticked
@@ -78,26 +82,20 @@ module _ (n : ℕ) (s : Sides) (ts : List ℕ) (t : Tuning) where
   Ticks i us = (length us ≤ n) × ((k : ℕ) → k < i → Short (slotAt us k))
 
   tick-turn : (i : ℕ) (us : List Slot) → Ticks i us → Ends (Ticks (suc i)) (λ r. r ≡ 9) (tickTurn n s ts t i us)
-  tick-turn i us h = by-test (Ends (Ticks (suc i)) (λ r. r ≡ 9)) (slotAt us i .present) (λ p. ⊎-elim (ticks p) refuses (tick-short n c i us s ts (slotAt us i .input) t)) nobody
+  tick-turn i us h = by-test (Ends (Ticks (suc i)) (λ r. r ≡ 9)) (slotAt us i .present) (λ p. ticks p (tickAt n c i us s ts (slotAt us i .input) t) (tick-short n c i us s ts (slotAt us i .input) t)) nobody
     where
       c : Character
       c = slotAt us i .character
 
-      k : Ticked
-      k = tickAt n c i us s ts (slotAt us i .input) t
-
-      others : (j : ℕ) → j < i → Short (slotAt (k .slots) j)
-      others j l = subst Short (sym (tick-others us n c i s ts (slotAt us i .input) t j)) (h .1 j l)
-
-      ticks : slotAt us i .present ≡ true → (k .number ≡ 0) × (tickOf (k .me .hook) ≤ maxHookGrabTime) → Ends (Ticks (suc i)) (λ r. r ≡ 9) (afterTick i k)
-      ticks p z =
-          let a = present-within us i p in
-          let b = tick-length us n c i s ts (slotAt us i .input) t in
-          let e = length-set (k .slots) i (withCharacter (slotAt (k .slots) i) (k .me)) in
-          rw (eq-eqb (k .number) 0 (z .0)) (omega (arith, h .0), set-others (λ j x. j < suc i → Short x) (k .slots) i (withCharacter (slotAt (k .slots) i) (k .me)) nowhere (omega arith) (λ j d l. others j (omega arith)) (λ l q. z .1))
-
-      refuses : k .number ≡ 9 → Ends (Ticks (suc i)) (λ r. r ≡ 9) (afterTick i k)
-      refuses z = rw (ne-eqb (k .number) 0 (λ e. omega arith)) z
+      ticks : slotAt us i .present ≡ true → (k : TickedAt) → Then ShortAfter k → Ends (Ticks (suc i)) (λ r. r ≡ 9) (afterTick us i k)
+      ticks p ticked-at.TooFar z = refl
+      ticks p (ticked-at.To a) z =
+          let vs = afterPull us (a .pull) in
+          let l = present-within us i p in
+          let b = pulled-length us (a .pull) in
+          let e = length-set vs i (withCharacter (slotAt vs i) (a .me)) in
+          let others : (j : ℕ) → j < i → Short (slotAt vs j) = λ j q. subst Short (sym (pulled-others us (a .pull) j)) (h .1 j q) in
+          (omega (arith, h .0), set-others (λ j x. j < suc i → Short x) vs i (withCharacter (slotAt vs i) (a .me)) nowhere (omega arith) (λ j d q. others j (omega arith)) (λ q r. z))
 
       nobody : slotAt us i .present ≡ false → Ticks (suc i) us
       nobody p = (h .0, λ j l. ⊎-elim (λ e. λ q. absurd (true≢false (sym q ∙ ap (λ (m : ℕ). slotAt us m .present) e ∙ p))) (h .1 j) (last-or-below j i l))
@@ -111,12 +109,11 @@ module _ (n : ℕ) (s : Sides) (ts : List ℕ) (t : Tuning) where
 
 -- ---- moves
 -- a move goes on with the same hook, or is too far
-data Left (c : Character) : Moved → Type 0 where
+data Left (c : Character) : MovedAt → Type 0 where
   far : Left c moved.TooFar
   to : (d : Character) → d .hook ≡ c .hook → Left c (moved.To d)
 
-box-left : (n : ℕ) (c : Character) (id : ℕ) (ss : List Slot) (t : Tuning) (b : BoxMove) → Left c (afterBox n c id ss t b)
-box-left n c id ss t box.BadMap = far
+box-left : (n : ℕ) (c : Character) (id : ℕ) (ss : List Slot) (t : Tuning) (b : BoxWalk) → Left c (afterBox n c id ss t b)
 box-left n c id ss t box.TooFar = far
 box-left n c id ss t (box.To b) = walked (playerWalk n ss id (c .pos) (b .pos) (t .«player_collision»))
   where
@@ -146,7 +143,7 @@ module _ (n : ℕ) (s : Sides) (ts : List ℕ) (t : Tuning) where
           let f : tickOf (d .hook) ≤ maxHookGrabTime = subst (λ (x : Hook). tickOf x ≤ maxHookGrabTime) (sym e) (h i (omega arith) p) in
           rw (to-core d (omega arith)) (set-others (λ k x. suc i ≤ k → Short x) (m .slots) i (withCharacter (slotAt (m .slots) i) (fromNet (coreOf d))) nowhere (present-within (m .slots) i p) (λ k q l. h k (omega arith)) (λ l. absurd (omega arith)))
 
-      moves : slotAt (m .slots) i .present ≡ true → {o : Moved} → Left c o → Ends (Waits (suc i)) (λ r. r ≡ 9) (publish m i (recordOf o))
+      moves : slotAt (m .slots) i .present ≡ true → {o : MovedAt} → Left c o → Ends (Waits (suc i)) (λ r. r ≡ 9) (publish m i (recordOf o))
       moves p far = refl
       moves p (to d e) = records p d e
 

@@ -1,34 +1,33 @@
 -- What the ticks and the moves of a step leave of the slots, whatever player collision is. Assumes nothing.
 use Prim.Native.Nat.{ℕ, zero, suc, _<_}
 use native.Mathlib.Omega.{arith}
-use native.Mathlib.Nat.{pos-of-ne-zero, eq-or-lt-of-le}
+use native.Mathlib.Nat.{eq-or-lt-of-le}
 use mathlib.Core.Bool.{Bool, true, false, cond, true≢false}
 use mathlib.Core.List.{List, [], _∷_}
 use mathlib.Core.Logic.{_⊎_, ⊎-elim}
 use mathlib.Core.Path.{_≡_, refl, sym, ap, _∙_, subst}
-use lib.Dec.{eqb}
 use lib.ListN.{length, set, length-set}
-use borrow.Author.Tests.{eqb-false}
 use Rattle.base_turns.specs.Turns.{run}
 use Rattle.base_turns.proofs.Kept.{Ends, run-kept}
 use Rattle.map_tiles.specs.declared.tiles.Sides.{Sides}
 use Rattle.game_tuning.specs.declared.Tuning.{Tuning}
 use Rattle.game_records.specs.declared.CharacterCore.{CharacterCore}
-use Rattle.game_records.specs.declared.PlayerInput.{PlayerInput}
+use Rattle.character_motion.specs.declared.meeting.HookPull.{HookPull}
 use Rattle.character.specs.declared.Character.{Character}
 use Rattle.character.specs.declared.Slot.{Slot}
-use Rattle.character.specs.declared.tick.Ticked.{Ticked}
-use Rattle.character.specs.declared.walk.Moved.{Moved}
-use Rattle.character.specs.declared.walk.Moved.the-variants as moved
-use Rattle.character.specs.Tick.{slotAt, nowhere, withCharacter, tickAt}
+use Rattle.character.specs.declared.tick.TickedAt.{TickedAt}
+use Rattle.character.specs.declared.tick.TickedAt.the-variants as ticked
+use Rattle.character.specs.declared.walk.MovedAt.{MovedAt}
+use Rattle.character.specs.declared.walk.MovedAt.the-variants as moved
+use Rattle.character.specs.Tick.{slotAt, nowhere, withCharacter, afterPull, tickAt}
 use Rattle.character.specs.Records.{toNet, fromNet, quantize}
 use Rattle.character_laws.specs.Representable.{Representable}
 use Rattle.character.specs.declared.records.Net.{Net}
 use Rattle.character.specs.declared.records.Net.the-variants as net
 use Rattle.character_laws.proofs.FromNet.{quantized-representable}
 use Rattle.character_laws.proofs.Slots.{set-every, set-others}
-use Rattle.character_laws.proofs.Others.{tick-others, tick-absent, tick-length}
-use Rattle.world.specs.Step.{Moving, tickTurn, tickAll, ofNet, recordOf, publish, moveIn, moveTurn, movingFrom, moveAll}
+use Rattle.character_laws.proofs.Others.{Then, There, tick-there, pulled-others, pulled-absent, pulled-length}
+use Rattle.world.specs.Step.{Moving, afterTick, tickTurn, tickAll, ofNet, recordOf, publish, moveIn, moveTurn, movingFrom, moveAll}
 
 -- the last of the indices below i + 1, or one before it
 pub last-or-below : (k i : ℕ) → k < suc i → (k ≡ i) ⊎ (k < i)
@@ -76,26 +75,25 @@ same-set ss j c p = record {
   absent = set-every (λ k x. slotAt ss k .present ≡ false → x ≡ slotAt ss k) ss j (withCharacter (slotAt ss j) c) nowhere (λ k q. refl) (λ q. absurd (true≢false (sym p ∙ q)));
 }
 
+-- so may the velocity of whom a hook pulls
+pull-same : (ss : List Slot) (k : HookPull) → There ss k → Same ss (afterPull ss k)
+pull-same ss k h = record {
+  size = pulled-length ss k;
+  present = λ j. ap (λ (x : Slot). x .present) (pulled-others ss k j);
+  absent = pulled-absent ss k h;
+}
+
 module _ (n : ℕ) (s : Sides) (ts : List ℕ) (t : Tuning) where
   -- ---- the ticks
-  tick-same : (us : List Slot) (c : Character) (j : ℕ) (i : PlayerInput) → Same us (tickAt n c j us s ts i t .slots)
-  tick-same us c j i = record {
-    size = tick-length us n c j s ts i t;
-    present = λ k. ap (λ (x : Slot). x .present) (tick-others us n c j s ts i t k);
-    absent = tick-absent us n c j s ts i t;
-  }
-
   tick-turn : (ss : List Slot) (j : ℕ) (us : List Slot) → Same ss us → Ends (Same ss) (λ r. 0 < r) (tickTurn n s ts t j us)
-  tick-turn ss j us h = by-test (Ends (Same ss) (λ r. 0 < r)) (slotAt us j .present) (λ p. by-test (Ends (Same ss) (λ r. 0 < r)) (eqb (k .number) 0) (λ e. ticks p) (λ e. pos-of-ne-zero (eqb-false (k .number) 0 e))) (λ p. h)
+  tick-turn ss j us h = let x = slotAt us j in by-test (Ends (Same ss) (λ r. 0 < r)) (x .present) (λ p. ticks p (tickAt n (x .character) j us s ts (x .input) t) (tick-there n (x .character) j us s ts (x .input) t)) (λ p. h)
     where
-      k : Ticked
-      k = tickAt n (slotAt us j .character) j us s ts (slotAt us j .input) t
-
-      same : Same us (k .slots)
-      same = tick-same us (slotAt us j .character) j (slotAt us j .input)
-
-      ticks : slotAt us j .present ≡ true → Same ss (set (k .slots) j (withCharacter (slotAt (k .slots) j) (k .me)))
-      ticks p = same-on ss us _ h (same-on us (k .slots) _ same (same-set (k .slots) j (k .me) (same .present j ∙ p)))
+      ticks : slotAt us j .present ≡ true → (k : TickedAt) → Then (λ a. There us (a .pull)) k → Ends (Same ss) (λ r. 0 < r) (afterTick us j k)
+      ticks p ticked.TooFar z = omega arith
+      ticks p (ticked.To a) z =
+          let vs = afterPull us (a .pull) in
+          let same = pull-same us (a .pull) z in
+          same-on ss us _ h (same-on us vs _ same (same-set vs j (a .me) (same .present j ∙ p)))
 
   -- a number that refuses the ticks is not 0
   pub ticks-same : (ss : List Slot) → Ends (Same ss) (λ r. 0 < r) (tickAll n ss s ts t)
@@ -120,9 +118,7 @@ module _ (n : ℕ) (s : Sides) (ts : List ℕ) (t : Tuning) where
           moved = set-others (λ k x. k < suc i → x .present ≡ true → Representable (x .character)) (m .slots) i _ nowhere (present-within (m .slots) i p) (λ k d l. h .moved k (omega arith)) (λ l q. net-representable c core e);
         }
 
-        recorded : slotAt (m .slots) i .present ≡ true → (d : Moved) → Ends (Settling (suc i)) (λ r. 0 < r) (publish m i (recordOf d))
-        recorded p moved.BadMap = omega arith
-        recorded p moved.BadId = omega arith
+        recorded : slotAt (m .slots) i .present ≡ true → (d : MovedAt) → Ends (Settling (suc i)) (λ r. 0 < r) (publish m i (recordOf d))
         recorded p moved.TooFar = omega arith
         recorded p (moved.To c) = named p _ (toNet _) refl
 

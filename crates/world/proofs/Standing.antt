@@ -3,10 +3,9 @@ use Prim.Native.Nat.{ℕ}
 use mathlib.Core.Bool.{true}
 use mathlib.Core.List.{List}
 use mathlib.Core.Path.{_≡_, sym, subst}
-use lib.Dec.{T, eqb}
+use lib.Dec.{T}
 use lib.Ieee.{Float, binary32, fits}
 use lib.IntN.{ℤ}
-use lib.ListN.{set}
 use lib.Ieee.Fits.{ofInt-fits, div-fits}
 use Rattle.base_turns.proofs.Kept.{Ends, run-kept}
 use Rattle.num_convert.specs.Convert.{c256, i32ToF32, from256ths}
@@ -14,16 +13,18 @@ use Rattle.num_vec2.specs.declared.vec2.{vec2}
 use Rattle.game_records.specs.declared.PlayerInput.{PlayerInput}
 use Rattle.map_tiles.specs.declared.tiles.Sides.{Sides}
 use Rattle.game_tuning.specs.Tuning.{tuningOf}
+use Rattle.game_tuning.specs.declared.Tuning.{Tuning}
 use Rattle.map_tiles.specs.Box.{Clear, characterBox}
 use Rattle.character.specs.declared.Character.{Character}
 use Rattle.character.specs.declared.Slot.{Slot}
-use Rattle.character.specs.declared.tick.Ticked.{Ticked}
-use Rattle.character.specs.Tick.{slotAt, nowhere, withCharacter, tickAt}
+use Rattle.character.specs.declared.tick.TickedAt.{TickedAt}
+use Rattle.character.specs.declared.tick.TickedAt.the-variants as ticked
+use Rattle.character.specs.Tick.{slotAt, nowhere, withCharacter, afterPull, tickAt}
 use Rattle.character_laws.specs.Representable.{Pair, Representable}
 use Rattle.character_laws.proofs.Slots.{set-every}
-use Rattle.character_laws.proofs.Others.{SameButVel, tick-others, tick-pos}
-use Rattle.character_laws.proofs.FitsTick.{FitsPair, tick-fits}
-use Rattle.world.specs.Step.{tickTurn, tickAll}
+use Rattle.character_laws.proofs.Others.{Then, SameButVel, tick-pos, pulled-others}
+use Rattle.character_laws.proofs.FitsTick.{FitsPair, FitsAfter, tick-fits, after-pull-fits}
+use Rattle.world.specs.Step.{afterTick, tickTurn, tickAll}
 use Rattle.world.proofs.Seats.{by-test}
 
 -- ---- values of the format
@@ -59,7 +60,7 @@ module _ (s : Sides) (ts : List ℕ) where
   -- ---- a tick, and all of them
   module _ (n : ℕ) (tunings : List ℤ) where
     turn-stands : (j : ℕ) (us : List Slot) → Stands us → Ends Stands (λ r. Unit {0}) (tickTurn n s ts (tuningOf tunings) j us)
-    turn-stands j us h = by-test (Ends Stands (λ r. Unit {0})) (slotAt us j .present) (λ p. by-test (Ends Stands (λ r. Unit {0})) (eqb (k .number) 0) (λ e. ticks p) (λ e. tt)) (λ p. h)
+    turn-stands j us h = by-test (Ends Stands (λ r. Unit {0})) (slotAt us j .present) (λ p. ticks p (tickAt n c j us s ts i t) (tick-pos n c j us s ts i t) (tick-fits n c j us s ts i tunings (h j .vel-fits) (λ m. h m .vel-fits))) (λ p. h)
       where
         c : Character
         c = slotAt us j .character
@@ -67,27 +68,21 @@ module _ (s : Sides) (ts : List ℕ) where
         i : PlayerInput
         i = slotAt us j .input
 
-        k : Ticked
-        k = tickAt n c j us s ts i (tuningOf tunings)
+        t : Tuning
+        t = tuningOf tunings
 
-        stays : k .me .pos ≡ c .pos
-        stays = tick-pos n c j us s ts i (tuningOf tunings)
-
-        fit : FitsPair (k .me .vel) × ((m : ℕ) → FitsPair (slotAt (k .slots) m .character .vel))
-        fit = tick-fits n c j us s ts i tunings (h j .vel-fits) (λ m. h m .vel-fits)
-
-        me : slotAt us j .present ≡ true → Standing (withCharacter (slotAt (k .slots) j) (k .me))
-        me p = record {
-          clear = λ q. subst (λ (v : vec2). Clear s ts v characterBox) (sym stays) (h j .clear p);
-          pos-fits = λ q. subst FitsPair (sym stays) (h j .pos-fits p);
-          vel-fits = fit .0;
-        }
-
-        others : Stands (k .slots)
-        others m = same-standing (slotAt us m) (slotAt (k .slots) m) (tick-others us n c j s ts i (tuningOf tunings) m) (h m) (fit .1 m)
-
-        ticks : slotAt us j .present ≡ true → Stands (set (k .slots) j (withCharacter (slotAt (k .slots) j) (k .me)))
-        ticks p = set-every (λ m. Standing) (k .slots) j (withCharacter (slotAt (k .slots) j) (k .me)) nowhere others (me p)
+        ticks : slotAt us j .present ≡ true → (k : TickedAt) → Then (λ a. a .me .pos ≡ c .pos) k → Then FitsAfter k → Ends Stands (λ r. Unit {0}) (afterTick us j k)
+        ticks p ticked.TooFar stays fit = tt
+        ticks p (ticked.To a) stays fit =
+            let vs = afterPull us (a .pull) in
+            let fits = after-pull-fits us (a .pull) (λ m. h m .vel-fits) (fit .1) in
+            let others : Stands vs = λ m. same-standing (slotAt us m) (slotAt vs m) (pulled-others us (a .pull) m) (h m) (fits m) in
+            set-every (λ m. Standing) vs j (withCharacter (slotAt vs j) (a .me)) nowhere others
+            (record {
+              clear = λ q. subst (λ (v : vec2). Clear s ts v characterBox) (sym stays) (h j .clear p);
+              pos-fits = λ q. subst FitsPair (sym stays) (h j .pos-fits p);
+              vel-fits = fit .0;
+            })
 
     pub ticks-stand : (ss : List Slot) → Stands ss → Ends Stands (λ r. Unit {0}) (tickAll n ss s ts (tuningOf tunings))
     unfolding tickAll

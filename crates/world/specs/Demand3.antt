@@ -20,8 +20,8 @@ use Rattle.world.specs.declared.call.Call.{Call}
 use Rattle.world.specs.declared.call.Call.the-variants.{Join, Leave, Input, Step, Tune}
 use Rattle.character.specs.Tick.{slotAt}
 use Rattle.character.specs.declared.Slot.{Slot}
-use Rattle.character.specs.declared.walk.Moved.{Moved}
-use Rattle.character.specs.declared.walk.Moved.the-variants as moved
+use Rattle.character.specs.declared.walk.MovedAt.{MovedAt}
+use Rattle.character.specs.declared.walk.MovedAt.the-variants as moved
 use Rattle.character_laws.specs.Faithful.{Faithful}
 use Rattle.character.specs.Records.{quantize}
 use Rattle.character.specs.declared.records.Quantized.the-variants as quantized
@@ -72,21 +72,19 @@ pub record CornersClear (s : Sides) (ts : List ℕ) (p : vec2) : Type 0 where
 -- ---- every accepted step
 
 -- what `move_` gives the id j when its turn has come: those below it have moved and are quantized
-abbrev pub leftIn : ℕ → Sides → List ℕ → Tuning → ℕ → Turn Moving ℕ → Moved
+abbrev pub leftIn : ℕ → Sides → List ℕ → Tuning → ℕ → Turn Moving ℕ → MovedAt
 leftIn n s ts t j (more m) = moveIn n s ts t (m .slots) j
 leftIn n s ts t j (stop k) = moved.TooFar
 
-abbrev pub leftFrom : ℕ → Sides → List ℕ → Tuning → List Slot → ℕ → Moved
+abbrev pub leftFrom : ℕ → Sides → List ℕ → Tuning → List Slot → ℕ → MovedAt
 leftFrom n s ts t ss j = leftIn n s ts t j (run (moveTurn n s ts t) j 0 (movingFrom n ss))
 
 -- what the move left of j in a step on w
-abbrev pub left : ℕ → World → Sides → List ℕ → ℕ → Moved
+abbrev pub left : ℕ → World → Sides → List ℕ → ℕ → MovedAt
 left n w s ts j = let t = tuningOf (w .tunings) in leftIn n s ts t j (next (λ ss. run (moveTurn n s ts t) j 0 (movingFrom n ss)) (tickAll n (w .slots) s ts t))
 
 -- a record is within 1/2 and 1/512 of the position and velocity that the move left
-abbrev pub FaithfulTo : CharacterCore → Moved → Type 0
-FaithfulTo core moved.BadMap = ⊥
-FaithfulTo core moved.BadId = ⊥
+abbrev pub FaithfulTo : CharacterCore → MovedAt → Type 0
 FaithfulTo core moved.TooFar = ⊥
 FaithfulTo core (moved.To c) = Faithful core (c .pos) (c .vel)
 

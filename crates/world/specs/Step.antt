@@ -2,7 +2,6 @@
 use Prim.Native.Nat.{ℕ}
 use mathlib.Core.Bool.{true, false, cond}
 use mathlib.Core.List.{List}
-use lib.Dec.{eqb}
 use lib.IntN.{pos}
 use lib.ListN.{set, replicate}
 use Rattle.base_turns.specs.Turns.{Turn, more, stop, next, run}
@@ -11,14 +10,16 @@ use Rattle.map_tiles.specs.declared.tiles.Sides.{Sides}
 use Rattle.game_tuning.specs.Tuning.{tuningOf}
 use Rattle.game_tuning.specs.declared.Tuning.{Tuning}
 use Rattle.game_records.specs.declared.CharacterCore.{CharacterCore}
-use Rattle.character.specs.Tick.{slotAt, withCharacter, tickAt}
-use Rattle.character.specs.Walk.{moveAt, moveNumber}
+use Rattle.game_refusals.specs.Refusals.{badMap, tooFar, tickTooLarge}
+use Rattle.character.specs.Tick.{slotAt, withCharacter, afterPull, tickAt}
+use Rattle.character.specs.Walk.{moveAt}
 use Rattle.character.specs.declared.Character.{Character}
 use Rattle.character.specs.declared.Slot.{Slot}
-use Rattle.character.specs.declared.tick.Ticked.{Ticked}
-use Rattle.character.specs.declared.walk.Moved.{Moved}
-use Rattle.character.specs.declared.walk.Moved.the-variants as moved
-use Rattle.character.specs.Records.{toNet, fromNet, netNumber}
+use Rattle.character.specs.declared.tick.TickedAt.{TickedAt}
+use Rattle.character.specs.declared.tick.TickedAt.the-variants as ticked
+use Rattle.character.specs.declared.walk.MovedAt.{MovedAt}
+use Rattle.character.specs.declared.walk.MovedAt.the-variants as moved
+use Rattle.character.specs.Records.{toNet, fromNet}
 use Rattle.character.specs.declared.records.Net.{Net}
 use Rattle.character.specs.declared.records.Net.the-variants as net
 use Rattle.world.specs.declared.Published.{Published}
@@ -34,11 +35,12 @@ putBack ss j c = set ss j (withCharacter (slotAt ss j) c)
 -- ---- every present id by rising id ticks
 
 -- the slots after the tick of the id j, or the number that refuses it
-abbrev pub afterTick : ℕ → Ticked → Turn (List Slot) ℕ
-afterTick j k = cond (eqb (k .number) 0) (more (putBack (k .slots) j (k .me))) (stop (k .number))
+abbrev pub afterTick : List Slot → ℕ → TickedAt → Turn (List Slot) ℕ
+afterTick ss j ticked.TooFar = stop tooFar
+afterTick ss j (ticked.To a) = more (putBack (afterPull ss (a .pull)) j (a .me))
 
 abbrev pub tickTurn : ℕ → Sides → List ℕ → Tuning → ℕ → List Slot → Turn (List Slot) ℕ
-tickTurn n s ts t j ss = cond (slotAt ss j .present) (afterTick j (tickAt n (slotAt ss j .character) j ss s ts (slotAt ss j .input) t)) (more ss)
+tickTurn n s ts t j ss = cond (slotAt ss j .present) (afterTick ss j (tickAt n (slotAt ss j .character) j ss s ts (slotAt ss j .input) t)) (more ss)
 
 unfoldable pub tickAll : ℕ → List Slot → Sides → List ℕ → Tuning → Turn (List Slot) ℕ
 tickAll n ss s ts t = run (tickTurn n s ts t) n 0 ss
@@ -58,14 +60,12 @@ abbrev pub unpublished : Published
 unpublished = record { present = false; core = noCore }
 
 abbrev pub ofNet : Net → Recorded
-ofNet net.TickTooLarge = Refused (netNumber net.TickTooLarge)
+ofNet net.TickTooLarge = Refused tickTooLarge
 ofNet (net.Core core) = Core core
 
 -- the record of what a move left, or the number that refuses it
-unfoldable pub recordOf : Moved → Recorded
-recordOf moved.BadMap = Refused (moveNumber moved.BadMap)
-recordOf moved.BadId = Refused (moveNumber moved.BadId)
-recordOf moved.TooFar = Refused (moveNumber moved.TooFar)
+unfoldable pub recordOf : MovedAt → Recorded
+recordOf moved.TooFar = Refused tooFar
 recordOf (moved.To c) = ofNet (toNet c)
 
 -- the record is published, and the id j is what it reads as
@@ -74,7 +74,7 @@ publish m j (Refused k) = stop k
 publish m j (Core core) = more (record { slots = putBack (m .slots) j (fromNet core); records = set (m .records) j (record { present = true; core = core }) })
 
 -- what `move_` gives the id j among the slots as they stand
-abbrev pub moveIn : ℕ → Sides → List ℕ → Tuning → List Slot → ℕ → Moved
+abbrev pub moveIn : ℕ → Sides → List ℕ → Tuning → List Slot → ℕ → MovedAt
 moveIn n s ts t ss j = moveAt n (slotAt ss j .character) j ss s ts t
 
 abbrev pub moveTurn : ℕ → Sides → List ℕ → Tuning → ℕ → Moving → Turn Moving ℕ
@@ -102,4 +102,4 @@ stepOn n w s ts = let t = tuningOf (w .tunings) in stepAnswer n w (next (λ ss. 
 
 -- refused with 1 where the map is none
 unfoldable pub step : ℕ → World → Sides → List ℕ → Stepped
-step n w s ts = cond (isMap s ts) (stepOn n w s ts) (stepRefused n w 1)
+step n w s ts = cond (isMap s ts) (stepOn n w s ts) (stepRefused n w badMap)

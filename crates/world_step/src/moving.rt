@@ -1,5 +1,5 @@
 // The second half of a step: by rising id each moves and is quantized.
-use character::Moved;
+use character::MovedAt;
 use character::Net;
 use character::SEATS;
 use character::Slot;
@@ -7,6 +7,8 @@ use character::from_net;
 use character::to_net;
 use game_records::CharacterCore;
 use game_records::Tick;
+use game_refusals::TICK_TOO_LARGE;
+use game_refusals::TOO_FAR;
 use game_tuning::Tuning;
 use map_tiles::Sides;
 use world::Published;
@@ -94,14 +96,12 @@ pub fn move_all(slots: [Slot; SEATS], sides: Sides, tiles: &[u8], tuning: Tuning
 }
 
 // The record of what a move left, or the number that refuses it.
-fn record_of(moved: Moved) -> Recorded
+fn record_of(moved: MovedAt) -> Recorded
     ensures { λ r. ⌜ r ≡ recordOf moved ⌝ }
 {
     match moved {
-        Moved::BadMap => Recorded::Refused(1),
-        Moved::BadId => Recorded::Refused(2),
-        Moved::TooFar => Recorded::Refused(9),
-        Moved::To(left) => of_net(to_net(left)),
+        MovedAt::TooFar => Recorded::Refused(TOO_FAR),
+        MovedAt::To(left) => of_net(to_net(left)),
     }
 }
 
@@ -109,7 +109,7 @@ fn of_net(net: Net) -> Recorded
     ensures { λ r. ⌜ r ≡ ofNet net ⌝ }
 {
     match net {
-        Net::TickTooLarge => Recorded::Refused(10),
+        Net::TickTooLarge => Recorded::Refused(TICK_TOO_LARGE),
         Net::Core(core) => Recorded::Core(core),
     }
 }

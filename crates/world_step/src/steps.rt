@@ -3,6 +3,7 @@ use crate::moving::move_all;
 use crate::moving::unpublished;
 use crate::ticking::tick_all;
 use character::SEATS;
+use game_refusals::BAD_MAP;
 use game_tuning::tuning_of;
 use map_tiles::Sides;
 use map_tiles::is_map;
@@ -22,7 +23,7 @@ pub fn step(world: World, sides: Sides, tiles: &[u8]) -> Stepped
     if is_map(sides, tiles) {
         return step_on(world, sides, tiles);
     }
-    refused(world, 1)
+    refused(world, BAD_MAP)
 }
 
 fn refused(world: World, number: u32) -> Stepped

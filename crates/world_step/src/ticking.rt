@@ -1,13 +1,18 @@
 // The first half of a step: every present id by rising id ticks.
+use character::AfterTick;
 use character::SEATS;
 use character::Slot;
+use character::TickedAt;
+use character::after_pull;
+use game_refusals::TOO_FAR;
 use game_tuning::Tuning;
 use map_tiles::Sides;
 ghost use mathlib.Core.Path.{_≡_};
 ghost use lib.Dec.{T};
+ghost use Prim.Native.Nat.{_<_};
 ghost use Rattle.map_tiles.specs.Map.{isMap};
-ghost use Rattle.character.specs.Tick.{seats};
-ghost use Rattle.world.specs.Step.{tickAll};
+ghost use Rattle.character.specs.Tick.{seats, afterPull};
+ghost use Rattle.world.specs.Step.{putBack, tickAll};
 ghost use Rattle.world_step.specs.Ticks.{ticksOf};
 
 // The slots after all ticks; where one is refused, its number, and the slots as they were.
@@ -28,18 +33,14 @@ pub fn tick_all(slots: [Slot; SEATS], sides: Sides, tiles: &[u8], tuning: Tuning
         if slot.present {
             let me = slot.character;
             let ticked = me.tick_at(id, all, sides, tiles, slot.input, tuning);
-            if ticked.number != 0 {
+            let TickedAt::To(after) = ticked else {
                 return Ticks {
                     done: false,
-                    number: ticked.number,
+                    number: TOO_FAR,
                     slots,
                 };
-            }
-            all = ticked.slots;
-            let mut changed = all[id];
-            let after = ticked.me;
-            changed.character = after;
-            all[id] = changed;
+            };
+            all = after_tick(all, id, after);
         }
     }
     Ticks {
@@ -47,4 +48,18 @@ pub fn tick_all(slots: [Slot; SEATS], sides: Sides, tiles: &[u8], tuning: Tuning
         number: 0,
         slots: all,
     }
+}
+
+// The slots after the tick of the id: whom its hook pulls, and its own character.
+fn after_tick(slots: [Slot; SEATS], id: usize, after: AfterTick) -> [Slot; SEATS]
+    requires { ⌜ id < seats ⌝ }
+    ensures { λ r. ⌜ r ≡ putBack (afterPull slots (after .pull)) id (after .me) ⌝ }
+{
+    let pull = after.pull;
+    let mut all = after_pull(slots, pull);
+    let mut slot = all[id];
+    let me = after.me;
+    slot.character = me;
+    all[id] = slot;
+    all
 }

@@ -1,17 +1,11 @@
 -- `world_step::moving::record_of` meets its contract. Assumes nothing.
-use Rattle.world.specs.Step.{recordOf}
 use borrow.Author.Needs.{needs}
+use Rattle.world.specs.Step.{recordOf}
 use Rattle.world_step.proofs.moving.record_of.Statement.{statement}
 use Rattle.world_step.proofs.moving.record_of.Tie as tie
 
 enum-told : tie.Need-enum-told
 enum-told c = search needs
-
-enum-told-2 : tie.Need-enum-told-2
-enum-told-2 c = search needs
-
-enum-told-3 : tie.Need-enum-told-3
-enum-told-3 c = search needs
 
 enum-known-moved : tie.Need-enum-known-moved
 enum-known-moved c = search needs
@@ -28,27 +22,9 @@ returns c = simp (c .enum-told .given .1)
 
 returns-2 : tie.Need-returns-2
 unfolding recordOf
-returns-2 c = simp (c .enum-told2 .given .1)
-
-returns-3 : tie.Need-returns-3
-unfolding recordOf
-returns-3 c = simp (c .enum-told3 .given .1)
-
-returns-4 : tie.Need-returns-4
-unfolding recordOf
-returns-4 c = simp (c .before .before .before .moved .given .1, ← c .before .to-net .ensures, ← c .of-net .ensures)
+returns-2 c = simp (c .before .before .before .moved .given .1, ← c .before .to-net .ensures, ← c .of-net .ensures)
 
 pub record-of-spec : {M : Type 1} → statement M
 record-of-spec =
     tie.close
-    (tie.spec
-    enum-told
-    enum-told-2
-    enum-told-3
-    enum-known-moved
-    to-net-requires
-    of-net-requires
-    returns
-    returns-2
-    returns-3
-    returns-4)
+    (tie.spec enum-told enum-known-moved to-net-requires of-net-requires returns returns-2)

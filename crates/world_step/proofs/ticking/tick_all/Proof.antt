@@ -2,18 +2,20 @@
 use mathlib.Core.Bool.{true, false}
 use mathlib.Core.List.{List}
 use mathlib.Core.Logic.{⊎-elim}
-use mathlib.Core.Path.{_≡_, sym, ap}
+use mathlib.Core.Path.{_≡_, sym, ap, _∙_}
 use Prim.Native.Nat.{ℕ, _-_}
 use native.Mathlib.Omega.{arith}
 use borrow.Author.Needs.{needs}
-use borrow.Author.Tests.{eq-eqb, ne-eqb}
 use Rattle.base_turns.proofs.Loop.{Left, turn-first, turn-on, turn-off, turn-end}
 use Rattle.base_turns.specs.Turns.{more, stop}
 use Rattle.map_tiles.specs.declared.tiles.Sides.{Sides}
 use Rattle.game_tuning.specs.declared.Tuning.{Tuning}
-use Rattle.character.specs.Tick.{seats, slotAt, tickAt}
+use Rattle.character.specs.Tick.{seats, slotAt, afterPull, tickAt}
 use Rattle.character.specs.declared.Slot.{Slot}
-use Rattle.character.specs.declared.tick.Ticked.{Ticked}
+use Rattle.character.specs.declared.tick.AfterTick.{AfterTick}
+use Rattle.character.specs.declared.tick.TickedAt.{TickedAt}
+use Rattle.character.specs.declared.tick.TickedAt.the-variants as ticked
+use Rattle.game_refusals.specs.Refusals.{tooFar}
 use Rattle.world.specs.Step.{putBack, tickTurn, tickAll}
 use Rattle.world_step.specs.Ticks.{ticksOf}
 use Rattle.world_step.proofs.ticking.tick_all.Statement.{statement}
@@ -21,11 +23,11 @@ use Rattle.world_step.proofs.ticking.tick_all.Tie as tie
 
 -- a turn, on plain values: a tick; a tick that is refused; nobody
 module _ (s : Sides) (ts : List ℕ) (t : Tuning) (j : ℕ) (ss : List Slot) where
-  ticks : (k : Ticked) (us : List Slot) → slotAt ss j .present ≡ true → k ≡ tickAt seats (slotAt ss j .character) j ss s ts (slotAt ss j .input) t → k .number ≡ 0 → us ≡ putBack (k .slots) j (k .me) → tickTurn seats s ts t j ss ≡ more us
-  ticks k us p e z q = simp (p, ← e, eq-eqb (k .number) 0 z, q)
+  ticks : (k : TickedAt) (a : AfterTick) (us : List Slot) → slotAt ss j .present ≡ true → k ≡ tickAt seats (slotAt ss j .character) j ss s ts (slotAt ss j .input) t → k ≡ ticked.To a → us ≡ putBack (afterPull ss (a .pull)) j (a .me) → tickTurn seats s ts t j ss ≡ more us
+  ticks k a us p e z q = simp (p, ← e, z, q)
 
-  refuses : (k : Ticked) → slotAt ss j .present ≡ true → k ≡ tickAt seats (slotAt ss j .character) j ss s ts (slotAt ss j .input) t → (k .number ≡ 0 → ⊥) → tickTurn seats s ts t j ss ≡ stop (k .number)
-  refuses k p e z = simp (p, ← e, ne-eqb (k .number) 0 z)
+  refuses : (k : TickedAt) → slotAt ss j .present ≡ true → k ≡ tickAt seats (slotAt ss j .character) j ss s ts (slotAt ss j .input) t → k ≡ ticked.TooFar → tickTurn seats s ts t j ss ≡ stop tooFar
+  refuses k p e z = simp (p, ← e, z)
 
   nobody : (us : List Slot) → slotAt ss j .present ≡ false → us ≡ ss → tickTurn seats s ts t j ss ≡ more us
   nobody us p q = simp (p, q)
@@ -49,23 +51,20 @@ array-copy-out-slot c = omega arith
 tick-at-requires : tie.Need-tick-at-requires Inv-loop μ-loop
 tick-at-requires c κs = (c .before .before .before .before .before .before .pre, c .before .before .before .loop-test .taken)
 
+enum-known-ticked : tie.Need-enum-known-ticked Inv-loop μ-loop
+enum-known-ticked c = search needs
+
+enum-told : tie.Need-enum-told Inv-loop μ-loop
+enum-told c = search needs
+
 returns : tie.Need-returns Inv-loop μ-loop
 returns c =
     let a = c .before .before .before .before .before .before .before .before .before .args in
     let l = c .before .before .before .before .before .before .before .loop in
-    sym (ap (ticksOf (a .slots)) (turn-off (l .inv) (c .before .before .before .before .before .before .loop-test .taken) (refuses (a .sides) (a .tiles .now) (a .tuning) (l .id) (l .all) (c .before .before .tick-at .result) (c .before .before .before .before .if1 .taken) (c .before .before .tick-at .ensures) (c .if2 .taken))))
+    sym (ap (ticksOf (a .slots)) (turn-off (l .inv) (c .before .before .before .before .before .before .loop-test .taken) (refuses (a .sides) (a .tiles .now) (a .tuning) (l .id) (l .all) (c .before .before .tick-at .result) (c .before .before .before .before .if1 .taken) (c .before .before .tick-at .ensures) (c .enum-told .given .1))))
 
-mul-changed : tie.Need-mul-changed Inv-loop μ-loop
-mul-changed c = search needs
-
-array-copy-out-changed : tie.Need-array-copy-out-changed Inv-loop μ-loop
-array-copy-out-changed c = omega (arith, c .before .before .before .before .before .before .before .loop-test .taken)
-
-mul-all : tie.Need-mul-all Inv-loop μ-loop
-mul-all c = search needs
-
-array-set-from-all : tie.Need-array-set-from-all Inv-loop μ-loop
-array-set-from-all c = omega (arith, c .before .before .before .before .before .before .before .before .before .loop-test .taken)
+after-tick-requires : tie.Need-after-tick-requires Inv-loop μ-loop
+after-tick-requires c κs = omega (arith, c .before .before .before .before .before .before .before .loop-test .taken)
 
 add-id : tie.Need-add-id Inv-loop μ-loop
 add-id c = omega arith
@@ -78,7 +77,7 @@ loop-again c =
     let a = c .before .before .before .before .before .args in
     let l = c .before .before .before .loop in
     turn-on (l .inv) (c .before .before .loop-test .taken)
-    (⊎-elim (λ w. ticks (a .sides) (a .tiles .now) (a .tuning) (l .id) (l .all) (w .2 .result) _ (w .0 .taken) (w .2 .ensures) (w .4 .left) (w .8)) (λ w. nobody (a .sides) (a .tiles .now) (a .tuning) (l .id) (l .all) _ (w .0 .left) (w .1)) (c .if1 .came))
+    (⊎-elim (λ w. ticks (a .sides) (a .tiles .now) (a .tuning) (l .id) (l .all) (w .2 .result) (w .4 .given .0 .0) _ (w .0 .taken) (w .2 .ensures) (w .4 .given .1) (w .7 ∙ w .6 .ensures)) (λ w. nobody (a .sides) (a .tiles .now) (a .tuning) (l .id) (l .all) _ (w .0 .left) (w .1)) (c .if1 .came))
 
 returns-2 : tie.Need-returns-2 Inv-loop μ-loop
 returns-2 c = sym (ap (ticksOf (c .before .before .before .args .slots)) (turn-end (c .before .loop .inv) (c .loop-test .left)))
@@ -93,11 +92,10 @@ tick-all-spec =
     mul-slot
     array-copy-out-slot
     tick-at-requires
+    enum-known-ticked
+    enum-told
     returns
-    mul-changed
-    array-copy-out-changed
-    mul-all
-    array-set-from-all
+    after-tick-requires
     add-id
     loop-less
     loop-again
