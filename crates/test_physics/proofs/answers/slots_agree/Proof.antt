@@ -2,14 +2,15 @@
 use Prim.Native.Nat.{_-_, _≤_}
 use native.Mathlib.Omega.{arith}
 use borrow.Author.Needs.{needs}
+use Rattle.character.specs.Tick.{seats}
 use Rattle.test_physics.proofs.answers.slots_agree.Statement.{statement}
 use Rattle.test_physics.proofs.answers.slots_agree.Tie as tie
 
 abbrev Inv-loop : tie.InvT-loop
-Inv-loop words slots agree₀ j₀ agree j = j ≤ 16
+Inv-loop words slots before agree₀ j₀ agree j = j ≤ seats
 
 abbrev μ-loop : tie.MeasureT-loop
-μ-loop words slots agree₀ j₀ agree j = 16 - j
+μ-loop words slots before agree₀ j₀ agree j = seats - j
 
 loop-holds : tie.Need-loop-holds Inv-loop μ-loop
 loop-holds c = omega arith
@@ -19,6 +20,12 @@ mul-slot-agrees c = search needs
 
 array-copy-out-slot-agrees : tie.Need-array-copy-out-slot-agrees Inv-loop μ-loop
 array-copy-out-slot-agrees c = search needs
+
+mul-slot-agrees-2 : tie.Need-mul-slot-agrees-2 Inv-loop μ-loop
+mul-slot-agrees-2 c = search needs
+
+array-copy-out-slot-agrees-2 : tie.Need-array-copy-out-slot-agrees-2 Inv-loop μ-loop
+array-copy-out-slot-agrees-2 c = search needs
 
 slot-agrees-requires : tie.Need-slot-agrees-requires Inv-loop μ-loop
 slot-agrees-requires c κs = omega arith
@@ -44,6 +51,8 @@ slots-agree-spec =
     loop-holds
     mul-slot-agrees
     array-copy-out-slot-agrees
+    mul-slot-agrees-2
+    array-copy-out-slot-agrees-2
     slot-agrees-requires
     add-j
     loop-less
