@@ -1,6 +1,7 @@
-//! The calls on lent numbers: wrong lengths are refused, and any numbers are taken.
+//! The calls on lent numbers: wrong lengths are refused, any numbers are taken, and
+//! a seat where nobody is has zeros.
 
-use ponguriena::buffers::{self, RECORDS_NUMBERS, SEATS, WORLD_NUMBERS};
+use ponguriena::buffers::{self, RECORDS_NUMBERS, SEATS, TUNINGS, WORLD_NUMBERS};
 use ponguriena::{CORE_NUMBERS, INPUT_NUMBERS, Map, PlayerInput, Refusal};
 use reference::Xorshift;
 
@@ -75,6 +76,19 @@ fn answers_of_a_wrong_length() {
             assert!(numbers.iter().all(|&number| number == UNWRITTEN));
         }
     }
+    assert_eq!(world, fresh);
+}
+
+/// In a fresh world, and after somebody has left.
+#[test]
+fn nobody_is_zeros() {
+    let mut fresh = [UNWRITTEN; WORLD_NUMBERS];
+    assert_eq!(buffers::fresh(&mut fresh), Ok(()));
+    assert_eq!(fresh[TUNINGS..], [0; WORLD_NUMBERS - TUNINGS]);
+    let mut world = fresh;
+    assert_eq!(buffers::join(&mut world, &OPEN, 3, 16, 16), Ok(()));
+    assert_ne!(world, fresh);
+    assert_eq!(buffers::leave(&mut world, 3), Ok(()));
     assert_eq!(world, fresh);
 }
 

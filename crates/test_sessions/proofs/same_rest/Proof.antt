@@ -1,9 +1,9 @@
--- `test_sessions::files::same_rest` is safe and ends. Assumes nothing.
+-- `test_sessions::same_rest` is safe and ends. Assumes nothing.
 use Prim.Native.Nat.{_-_, _≤_}
 use native.Mathlib.Omega.{arith}
 use borrow.Author.Needs.{needs}
-use Rattle.test_sessions.proofs.files.same_rest.Statement.{statement}
-use Rattle.test_sessions.proofs.files.same_rest.Tie as tie
+use Rattle.test_sessions.proofs.same_rest.Statement.{statement}
+use Rattle.test_sessions.proofs.same_rest.Tie as tie
 
 abbrev Inv-loop : tie.InvT-loop
 Inv-loop first second counter₀ counter = counter ≤ 64
