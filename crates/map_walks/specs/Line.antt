@@ -5,6 +5,7 @@ use mathlib.Core.List.{List}
 use lib.Dec.{leb}
 use lib.IntN.{pos}
 use lib.Ieee.{Float, binary32, add, div}
+use Rattle.game_refusals.specs.Refusals.{badMap, tooFar}
 use Rattle.num_convert.specs.Whole.{truncToI32}
 use Rattle.num_convert.specs.Convert.{i32ToF32}
 use Rattle.num_convert.specs.Number.{c1}
@@ -51,7 +52,7 @@ checkLine s ts from to = cond (isMap s ts) (walkLine s ts from to) BadMap
 
 -- document 01's number of an answer
 abbrev pub lineNumber : LineCheck → ℕ
-lineNumber BadMap = 1
-lineNumber TooFar = 9
+lineNumber BadMap = badMap
+lineNumber TooFar = tooFar
 lineNumber Nothing = 0
 lineNumber (At p t) = 0

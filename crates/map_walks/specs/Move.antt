@@ -5,6 +5,7 @@ use mathlib.Core.List.{List}
 use lib.Dec.{leb}
 use lib.IntN.{pos}
 use lib.Ieee.{Float, binary32, div, lt, ofBits}
+use Rattle.game_refusals.specs.Refusals.{badMap, tooFar}
 use Rattle.num_convert.specs.Whole.{roundToI32}
 use Rattle.num_convert.specs.Convert.{i32ToF32}
 use Rattle.num_convert.specs.Number.{c0, c1}
@@ -65,6 +66,6 @@ moveBox s ts at vel box = cond (isMap s ts) (ofWalk (walkBox s ts at vel box)) B
 
 -- document 01's number of an answer
 abbrev pub boxNumber : BoxMove → ℕ
-boxNumber BadMap = 1
-boxNumber TooFar = 9
+boxNumber BadMap = badMap
+boxNumber TooFar = tooFar
 boxNumber (To b) = 0

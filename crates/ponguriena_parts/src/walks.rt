@@ -1,4 +1,6 @@
 // The walks of a line and of a box. Their answers are a refusal's number, or 0 with the values written through the references.
+use game_refusals::BAD_MAP;
+use game_refusals::TOO_FAR;
 use map_tiles::Sides;
 use map_tiles::Tile;
 use map_walks::BoxMove;
@@ -35,8 +37,8 @@ pub extern "C" fn ponguriena_move_box(
         vec2::new(box_x, box_y),
     );
     match moved {
-        BoxMove::BadMap => 1,
-        BoxMove::TooFar => 9,
+        BoxMove::BadMap => BAD_MAP,
+        BoxMove::TooFar => TOO_FAR,
         BoxMove::To(body) => {
             let pos = body.pos;
             let vel = body.vel;
@@ -74,8 +76,8 @@ pub extern "C" fn ponguriena_check_line(
         vec2::new(to_x, to_y),
     );
     match check {
-        LineCheck::BadMap => 1,
-        LineCheck::TooFar => 9,
+        LineCheck::BadMap => BAD_MAP,
+        LineCheck::TooFar => TOO_FAR,
         LineCheck::Nothing => {
             *tile = 0;
             0

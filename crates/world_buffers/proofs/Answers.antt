@@ -5,6 +5,7 @@ use mathlib.Core.Path.{_≡_, sym, ap, _∙_}
 use lib.IntN.{ℤ}
 use lib.ListN.{length}
 use borrow.Author.Tests.{eq-eqb, ne-eqb}
+use Rattle.game_refusals.specs.Refusals.{badLength}
 use Rattle.map_tiles.specs.declared.tiles.Sides.{Sides}
 use Rattle.character.specs.Tick.{seats}
 use Rattle.world.specs.Step.{step}
@@ -13,7 +14,7 @@ use Rattle.world.specs.declared.Stepped.{Stepped}
 use Rattle.world.specs.declared.World.{World}
 use Rattle.world_numbers.specs.Encoding.{worldCount, recordsCount, encoding, recordsEncoding}
 use Rattle.world_numbers.specs.Decoding.{decoding}
-use Rattle.world_buffers.specs.Buffers.{Left, LeftByStep, badLength, keep, callIn, keepStep, stepIn}
+use Rattle.world_buffers.specs.Buffers.{Left, LeftByStep, keep, callIn, keepStep, stepIn}
 
 -- ---- a call's answer
 module _ (l : List ℤ) (a : Answer) where

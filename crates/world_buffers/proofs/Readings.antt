@@ -7,6 +7,7 @@ use lib.IntN.{ℤ, pos}
 use lib.ListN.{length, getD}
 use lib.Seq.{getD-take}
 use borrow.Author.Tests.{eq-eqb, ne-eqb, lt-ltb, le-ltb}
+use Rattle.game_refusals.specs.Refusals.{badLength}
 use Rattle.character.specs.Tick.{seats, slotAt}
 use Rattle.character.specs.declared.Slot.{Slot}
 use Rattle.world.specs.Calls.{placeOf}
@@ -14,7 +15,6 @@ use Rattle.world.specs.World.{tuningCount}
 use Rattle.world.specs.declared.World.{World}
 use Rattle.world_numbers.specs.Encoding.{worldCount}
 use Rattle.world_numbers.specs.Decoding.{decoding}
-use Rattle.world_buffers.specs.Buffers.{badLength}
 use Rattle.world_buffers.specs.Readers.{Told, seatTold, readIn, tuningIn}
 
 -- ---- the seat k, which an id names

@@ -5,6 +5,7 @@ use mathlib.Core.List.{List}
 use lib.Dec.{eqb}
 use lib.IntN.{ℤ}
 use lib.ListN.{length}
+use Rattle.game_refusals.specs.Refusals.{badLength}
 use Rattle.map_tiles.specs.declared.tiles.Sides.{Sides}
 use Rattle.character.specs.Tick.{seats}
 use Rattle.world.specs.Step.{step}
@@ -13,10 +14,6 @@ use Rattle.world.specs.declared.Stepped.{Stepped}
 use Rattle.world.specs.declared.World.{World}
 use Rattle.world_numbers.specs.Encoding.{worldCount, recordsCount, encoding, recordsEncoding}
 use Rattle.world_numbers.specs.Decoding.{decoding}
-
--- the refusal of a buffer that has not as many numbers as it must
-abbrev pub badLength : ℕ
-badLength = 17
 
 -- whether a buffer has n numbers
 abbrev pub has : ℕ → List ℤ → Bool

@@ -5,6 +5,7 @@ use mathlib.Core.List.{List}
 use lib.Dec.{ltb}
 use lib.IntN.{ℤ, pos}
 use lib.ListN.{getD}
+use Rattle.game_refusals.specs.Refusals.{badId, badTuning, isAbsent, badLength}
 use Rattle.character.specs.Tick.{seats, slotAt}
 use Rattle.character.specs.declared.Slot.{Slot}
 use Rattle.character.specs.Records.{toNet}
@@ -14,7 +15,7 @@ use Rattle.world.specs.declared.World.{World}
 use Rattle.game_records.specs.Numbers.{coreNumbers, inputNumbers}
 use Rattle.world_numbers.specs.Encoding.{worldCount, netCore}
 use Rattle.world_numbers.specs.Decoding.{decoding}
-use Rattle.world_buffers.specs.Buffers.{badLength, has}
+use Rattle.world_buffers.specs.Buffers.{has}
 
 -- a reader's number, and what it leaves in the reader's buffer
 pub record Told : Type 0 where
@@ -26,8 +27,8 @@ unfoldable pub seatTold : (Slot → List ℤ) → World → ℤ → List ℤ →
 seatTold f w id out =
     let k = placeOf seats id in
     cond (ltb k seats)
-    (cond (slotAt (w .slots) k .present) (record { number = 0; numbers = f (slotAt (w .slots) k) }) (record { number = 8; numbers = out }))
-    (record { number = 2; numbers = out })
+    (cond (slotAt (w .slots) k .present) (record { number = 0; numbers = f (slotAt (w .slots) k) }) (record { number = isAbsent; numbers = out }))
+    (record { number = badId; numbers = out })
 
 -- n numbers f of the seat with an id, of the world that the numbers stand for
 unfoldable pub readIn : ℕ → (Slot → List ℤ) → List ℤ → ℤ → List ℤ → Told
@@ -51,5 +52,5 @@ unfoldable pub tuningIn : List ℤ → ℤ → ℤ → Tuned
 tuningIn l index z =
     let k = placeOf tuningCount index in
     cond (has worldCount l)
-    (cond (ltb k tuningCount) (record { number = 0; value = getD (decoding seats l .tunings) k (pos 0) }) (record { number = 3; value = z }))
+    (cond (ltb k tuningCount) (record { number = 0; value = getD (decoding seats l .tunings) k (pos 0) }) (record { number = badTuning; value = z }))
     (record { number = badLength; value = z })

@@ -1,5 +1,6 @@
 // The calls on a world that is kept as the numbers of a lent buffer. A refused call leaves every number of every buffer as it was.
 use game_records::PlayerInput;
+use game_refusals::BAD_LENGTH;
 use map_tiles::Sides;
 use world::Answer;
 use world::Stepped;
@@ -21,9 +22,6 @@ ghost use Rattle.world.specs.World.{fresh};
 ghost use Rattle.world.specs.Calls.{accepted, join, leave, input, tune};
 ghost use Rattle.world_numbers.specs.Encoding.{worldCount, recordsCount};
 ghost use Rattle.world_buffers.specs.Buffers.{keep, callIn, keepStep, stepIn};
-
-// The refusal of a buffer that has not as many numbers as it must.
-pub const BAD_LENGTH: u32 = 17;
 
 // Leaves the next world in the buffer where the call was accepted.
 fn keep(answer: Answer, world: &mut [i32]) -> u32

@@ -1,9 +1,12 @@
 // What is read of a world that is kept as the numbers of a lent buffer. A refused call leaves every number of the reader's buffer as it was.
-use crate::buffers::BAD_LENGTH;
 use base_rows::copy;
 use character::SEATS;
 use game_records::CORE;
 use game_records::INPUT;
+use game_refusals::ABSENT;
+use game_refusals::BAD_ID;
+use game_refusals::BAD_LENGTH;
+use game_refusals::BAD_TUNING;
 use game_tuning::TUNINGS;
 use world_calls::place_of;
 use world_numbers::RECORD;
@@ -33,9 +36,9 @@ fn seat_part(world: &[i32], id: i32, from: usize, to: usize, part: &mut [i32]) -
             copy(part, 0, &row[from..to]);
             return 0;
         }
-        return 8;
+        return ABSENT;
     }
-    2
+    BAD_ID
 }
 
 pub fn record_in(world: &[i32], id: i32, record: &mut [i32]) -> u32
@@ -73,5 +76,5 @@ pub fn tuning_in(world: &[i32], index: i32, value: &mut i32) -> u32
         *value = world[at];
         return 0;
     }
-    3
+    BAD_TUNING
 }
