@@ -5,9 +5,6 @@ mod cores;
 use character::Character;
 use character::Net;
 use character::Quantized;
-use character::from_net;
-use character::quantize;
-use character::to_net;
 use cores::core_of;
 use cores::is_core;
 use libc::STDIN_FILENO;
@@ -75,12 +72,12 @@ fn state_case(before: &[u8], number: u32, record: &[u8], after: &[u8]) -> bool {
 }
 
 fn record_case(number: u32, record: &[u8], after: &[u8]) -> bool {
-    let character = from_net(core_of(record));
+    let character = Character::from_net(core_of(record));
     is_character(character, after) && number_agrees(character, number)
 }
 
 fn net_agrees(character: Character, number: u32, record: &[u8]) -> bool {
-    let net = to_net(character);
+    let net = character.to_net();
     match net {
         Net::TickTooLarge => number == TICK_TOO_LARGE,
         Net::Core(core) => number == ACCEPTED && is_core(core, record),
@@ -88,7 +85,7 @@ fn net_agrees(character: Character, number: u32, record: &[u8]) -> bool {
 }
 
 fn number_agrees(character: Character, number: u32) -> bool {
-    let net = to_net(character);
+    let net = character.to_net();
     match net {
         Net::TickTooLarge => number == TICK_TOO_LARGE,
         Net::Core(_) => number == ACCEPTED,
@@ -96,7 +93,7 @@ fn number_agrees(character: Character, number: u32) -> bool {
 }
 
 fn quantize_agrees(character: Character, number: u32, after: &[u8]) -> bool {
-    let quantized = quantize(character);
+    let quantized = character.quantize();
     match quantized {
         Quantized::TickTooLarge => number == TICK_TOO_LARGE,
         Quantized::To(character) => number == ACCEPTED && is_character(character, after),

@@ -9,12 +9,12 @@ use lib.IntN.{ℤ, pos, negsuc}
 use lib.ListN.{length, drop, length-take}
 use lib.Seq.{getD-drop}
 use Rattle.num_convert.specs.Casts.{IsI32}
+use Rattle.character.specs.Slot.{emptySlot, joinedSlot, withCharacter, withInput}
 use Rattle.character.specs.Tick.{slotAt}
 use Rattle.character.specs.declared.Slot.{Slot}
 use Rattle.character.specs.Records.{fromNet}
 use Rattle.character_laws.specs.Representable.{Representable}
 use Rattle.character_laws.proofs.FromNet.{from-net-representable}
-use Rattle.world.specs.World.{emptySlot}
 use Rattle.world.specs.Settled.{Settled}
 use Rattle.world_numbers.specs.Decoding.{numberAt, isPresent, fromZero, readable, seatCore, seatInput, seatOf, seatsOf, decoding, AnyComesBack}
 use Rattle.world_numbers.proofs.Encoded.{Kept, decoding-encoding}
@@ -48,7 +48,7 @@ seat-kept : (l : List ℤ) → AllI32 l → Kept (seatOf l)
 unfolding seatOf emptySlot
 seat-kept l h = go (isPresent (numberAt l 0))
   where
-    go : (b : Bool) → Kept (cond b (record { present = true; character = fromNet (readable (seatCore l)); input = seatInput l }) emptySlot)
+    go : (b : Bool) → Kept (cond b (withInput (withCharacter (joinedSlot (fromNet (readable (seatCore l)) .pos)) (fromNet (readable (seatCore l)))) (seatInput l)) emptySlot)
     go true = record { somebody = λ e. seat-representable l h; nobody = λ e. absurd (true≢false e) }
     go false = record { somebody = λ e. absurd (true≢false (sym e)); nobody = λ e. refl }
 

@@ -3,7 +3,6 @@ use base_rows::copy;
 use character::Net;
 use character::SEATS;
 use character::Slot;
-use character::to_net;
 use game_records::CORE;
 use game_records::CharacterCore;
 use game_records::INPUT;
@@ -62,9 +61,10 @@ fn put_seat(numbers: &mut [i32], at: usize, slot: Slot)
     requires { ⌜ at + seatCount ≤ length (now numbers) ⌝ }
     ensures { λ _. ⌜ now (numbers .exit) ≡ paste (now (numbers .entry)) at (seatNumbers slot) (length (seatNumbers slot)) ⌝ }
 {
+    let character = slot.character;
     let published = Published {
         present: slot.present,
-        core: core_in(to_net(slot.character)),
+        core: core_in(character.to_net()),
     };
     let row = input_numbers(slot.input);
     put_record(numbers, at, published);

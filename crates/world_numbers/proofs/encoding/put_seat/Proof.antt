@@ -43,7 +43,7 @@ same-length c = search needs
 returns : tie.Need-returns
 unfolding recordNumbers seatNumbers
 returns c =
-    let a = c .before .before .before .before .before .before .before .before .before .before .args in
+    let a = c .before .before .before .before .before .before .before .before .before .before .before .args in
     let d = a .numbers .now in
     let r = c .before .before .before .before .before .before .before .input-numbers in
     let n = c .before .before .before .before .before .before .before .before .core-in in
