@@ -1,4 +1,5 @@
 pub mod Character
+pub mod Slot
 pub mod Tick
 pub mod Walk
 pub mod Records

@@ -4,7 +4,7 @@ use mathlib.Core.Bool.{Bool, false, cond}
 use mathlib.Core.List.{List}
 use lib.Dec.{eqb, ltb}
 use lib.ListN.{getD, set}
-use lib.IntN.{ℤ, pos}
+use lib.IntN.{ℤ}
 use lib.Ieee.{Float, nan, binary32, add, ne}
 use Rattle.base_turns.specs.Turns.{fold}
 use Rattle.num_convert.specs.Number.{c0}
@@ -33,6 +33,7 @@ use Rattle.character_hook.specs.declared.flying.Way.the-variants as way
 use Rattle.character_motion.specs.Meeting.{meet, pullOn}
 use Rattle.character_motion.specs.declared.meeting.HookPull.{HookPull}
 use Rattle.character_motion.specs.declared.meeting.HookPull.the-variants as pull
+use Rattle.character.specs.Slot.{noInput, withCharacter}
 use Rattle.character.specs.declared.Character.{Character}
 use Rattle.character.specs.declared.Slot.{Slot}
 use Rattle.character.specs.declared.tick.AfterTick.{AfterTick}
@@ -49,20 +50,17 @@ seats = 16
 
 -- what an index past the end reads, which no call does: the value that the logic takes for it
 abbrev pub nowhere : Slot
-nowhere = record { present = false; character = record { pos = vnew nan nan; vel = vnew nan nan; hook = Retracted; «jumped_already» = false; «used_airjump» = false; angle = record { radians = nan }; «move_direction» = Left }; input = record { direction = pos 0; «target_x» = pos 0; «target_y» = pos 0; jump = pos 0; hook = pos 0 } }
+nowhere = record { present = false; character = record { pos = vnew nan nan; vel = vnew nan nan; hook = Retracted; «jumped_already» = false; «used_airjump» = false; angle = record { radians = nan }; «move_direction» = Left }; input = noInput }
 
 abbrev pub slotAt : List Slot → ℕ → Slot
 slotAt ss j = getD ss j nowhere
 
--- c with another hook, with another velocity; s with another character
+-- c with another hook, with another velocity
 abbrev pub withHook : Character → Hook → Character
 withHook c h = record { pos = c .pos; vel = c .vel; hook = h; «jumped_already» = c .«jumped_already»; «used_airjump» = c .«used_airjump»; angle = c .angle; «move_direction» = c .«move_direction» }
 
 abbrev pub withVel : Character → vec2 → Character
 withVel c v = record { pos = c .pos; vel = v; hook = c .hook; «jumped_already» = c .«jumped_already»; «used_airjump» = c .«used_airjump»; angle = c .angle; «move_direction» = c .«move_direction» }
-
-abbrev pub withCharacter : Slot → Character → Slot
-withCharacter s c = record { present = s .present; character = c; input = s .input }
 
 -- direction and angle, gravity and jump, the hook's button, walking and friction
 unfoldable pub steer : Character → Bool → PlayerInput → Tuning → Character

@@ -2,7 +2,6 @@
 use crate::Character;
 use crate::records::Net;
 use crate::records::Quantized;
-use crate::to_record::to_net;
 use character_hook::Hook;
 use game_input::Angle;
 use game_input::MoveDirection;
@@ -40,32 +39,34 @@ fn pair_of_256ths(x: i32, y: i32) -> vec2
     vec2::new(from_256ths(x), from_256ths(y))
 }
 
-pub fn from_net(core: CharacterCore) -> Character
-    ensures { λ r. ⌜ r ≡ fromNet core ⌝ }
-{
-    Character {
-        pos: whole_pair(core.x, core.y),
-        vel: pair_of_256ths(core.vel_x, core.vel_y),
-        hook: Hook::from_net(
-            core.hook_state,
-            whole_pair(core.hook_x, core.hook_y),
-            pair_of_256ths(core.hook_dx, core.hook_dy),
-            core.hooked_player,
-            core.hook_tick,
-        ),
-        jumped_already: jumped_already_from_net(core.jumped),
-        used_airjump: used_airjump_from_net(core.jumped),
-        angle: Angle::from_net(core.angle),
-        move_direction: MoveDirection::from_int(core.direction),
+impl Character {
+    pub fn from_net(core: CharacterCore) -> Character
+        ensures { λ r. ⌜ r ≡ fromNet core ⌝ }
+    {
+        Character {
+            pos: whole_pair(core.x, core.y),
+            vel: pair_of_256ths(core.vel_x, core.vel_y),
+            hook: Hook::from_net(
+                core.hook_state,
+                whole_pair(core.hook_x, core.hook_y),
+                pair_of_256ths(core.hook_dx, core.hook_dy),
+                core.hooked_player,
+                core.hook_tick,
+            ),
+            jumped_already: jumped_already_from_net(core.jumped),
+            used_airjump: used_airjump_from_net(core.jumped),
+            angle: Angle::from_net(core.angle),
+            move_direction: MoveDirection::from_int(core.direction),
+        }
     }
-}
 
-pub fn quantize(c: Character) -> Quantized
-    ensures { λ r. ⌜ r ≡ quantize c ⌝ }
-{
-    let net = to_net(c);
-    match net {
-        Net::TickTooLarge => Quantized::TickTooLarge,
-        Net::Core(core) => Quantized::To(from_net(core)),
+    pub fn quantize(self) -> Quantized
+        ensures { λ r. ⌜ r ≡ quantize self ⌝ }
+    {
+        let net = self.to_net();
+        match net {
+            Net::TickTooLarge => Quantized::TickTooLarge,
+            Net::Core(core) => Quantized::To(Character::from_net(core)),
+        }
     }
 }

@@ -7,8 +7,6 @@ mod to_record;
 mod walk;
 
 use character_hook::Hook;
-pub use from_record::from_net;
-pub use from_record::quantize;
 use game_input::Angle;
 use game_input::MoveDirection;
 use game_records::PlayerInput;
@@ -19,7 +17,6 @@ pub use slots::after_pull;
 pub use tick::AfterTick;
 pub use tick::Ticked;
 pub use tick::TickedAt;
-pub use to_record::to_net;
 pub use walk::Moved;
 pub use walk::MovedAt;
 ghost use mathlib.Core.Path.{_≡_};

@@ -1,19 +1,67 @@
-// A slot with its character at another velocity, and the slots after somebody is pulled.
+// A slot: empty, joined, and with one of its parts set; and the slots after somebody is pulled.
+use crate::Character;
 use crate::SEATS;
 use crate::Slot;
 use character_motion::HookPull;
+use game_records::PlayerInput;
 use num_vec2::vec2;
 ghost use mathlib.Core.Path.{_≡_};
-ghost use Rattle.character.specs.Tick.{withVel, withCharacter, afterPull};
+ghost use Rattle.character.specs.Slot.{noInput, emptySlot, joinedSlot, withCharacter, withInput};
+ghost use Rattle.character.specs.Tick.{withVel, afterPull};
 
 impl Slot {
-    fn with_vel(mut self, vel: vec2) -> Slot
+    pub fn empty() -> Slot
+        ensures { λ r. ⌜ r ≡ emptySlot ⌝ }
+    {
+        Slot {
+            present: false,
+            character: Character::spawn(vec2::new(0.0, 0.0)),
+            input: no_input(),
+        }
+    }
+
+    pub fn joined(pos: vec2) -> Slot
+        ensures { λ r. ⌜ r ≡ joinedSlot pos ⌝ }
+    {
+        Slot {
+            present: true,
+            character: Character::spawn(pos),
+            input: no_input(),
+        }
+    }
+
+    pub fn with_character(mut self, character: Character) -> Slot
+        ensures { λ r. ⌜ r ≡ withCharacter self character ⌝ }
+    {
+        self.character = character;
+        self
+    }
+
+    pub fn with_input(mut self, input: PlayerInput) -> Slot
+        ensures { λ r. ⌜ r ≡ withInput self input ⌝ }
+    {
+        self.input = input;
+        self
+    }
+
+    fn with_vel(self, vel: vec2) -> Slot
         ensures { λ r. ⌜ r ≡ withCharacter self (withVel (self .character) vel) ⌝ }
     {
         let mut character = self.character;
         character.vel = vel;
-        self.character = character;
-        self
+        self.with_character(character)
+    }
+}
+
+fn no_input() -> PlayerInput
+    ensures { λ r. ⌜ r ≡ noInput ⌝ }
+{
+    PlayerInput {
+        direction: 0,
+        target_x: 0,
+        target_y: 0,
+        jump: 0,
+        hook: 0,
     }
 }
 

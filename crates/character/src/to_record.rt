@@ -23,14 +23,16 @@ fn net_jumped(c: Character) -> i32
     }
 }
 
-pub fn to_net(c: Character) -> Net
-    ensures { λ r. ⌜ r ≡ toNet c ⌝ }
-{
-    let hook = c.hook;
-    if hook.tick() > MOST_TICK {
-        return Net::TickTooLarge;
+impl Character {
+    pub fn to_net(self) -> Net
+        ensures { λ r. ⌜ r ≡ toNet self ⌝ }
+    {
+        let hook = self.hook;
+        if hook.tick() > MOST_TICK {
+            return Net::TickTooLarge;
+        }
+        Net::Core(core_of(self))
     }
-    Net::Core(core_of(c))
 }
 
 // The record of a character whose tick fits it.

@@ -29,12 +29,13 @@ use Rattle.character_hook.specs.Dragging.{disableHookDistance, hookVel, drag, d
 use Rattle.character_motion.specs.Meeting as meeting
 use Rattle.character_motion.specs.declared.meeting.HookPull.{HookPull}
 use Rattle.character_motion.specs.declared.meeting.HookPull.the-variants as pull
+use Rattle.character.specs.Slot.{withCharacter}
 use Rattle.character.specs.declared.Character.{Character}
 use Rattle.character.specs.declared.Slot.{Slot}
 use Rattle.character.specs.declared.tick.AfterTick.{AfterTick}
 use Rattle.character.specs.declared.tick.HookFlight.{HookFlight}
 use Rattle.character.specs.declared.tick.HookFlight.the-variants.{TooFar, To}
-use Rattle.character.specs.Tick.{slotAt, nowhere, withVel, withCharacter, steer, flight, meetTurn, meetAll, pullFrom, pullOf, afterPull, hooked, ticked, tickAt}
+use Rattle.character.specs.Tick.{slotAt, nowhere, withVel, steer, flight, meetTurn, meetAll, pullFrom, pullOf, afterPull, hooked, ticked, tickAt}
 use Rattle.character_laws.proofs.Choices.{either, on-attached, on-grabbed}
 use Rattle.character_laws.proofs.Others.{Then}
 use Rattle.character_laws.proofs.Slots.{set-every}

@@ -17,6 +17,7 @@ use Rattle.character_hook.specs.Hooking.{hold}
 use Rattle.character_motion.specs.Meeting.{drags, pullOn}
 use Rattle.character_motion.specs.declared.meeting.HookPull.{HookPull}
 use Rattle.character_motion.specs.declared.meeting.HookPull.the-variants.{Nobody, Of}
+use Rattle.character.specs.Slot.{withCharacter}
 use Rattle.character.specs.declared.Character.{Character}
 use Rattle.character.specs.declared.Slot.{Slot}
 use Rattle.character.specs.declared.tick.AfterTick.{AfterTick}
@@ -24,7 +25,7 @@ use Rattle.character.specs.declared.tick.HookFlight.{HookFlight}
 use Rattle.character.specs.declared.tick.HookFlight.the-variants.{TooFar, To}
 use Rattle.character.specs.declared.tick.TickedAt.{TickedAt}
 use Rattle.character.specs.declared.tick.TickedAt.the-variants as at
-use Rattle.character.specs.Tick.{slotAt, nowhere, withVel, withCharacter, steer, flight, pullFrom, pullOf, afterPull, hooked, ticked, tickAt}
+use Rattle.character.specs.Tick.{slotAt, nowhere, withVel, steer, flight, pullFrom, pullOf, afterPull, hooked, ticked, tickAt}
 use Rattle.character_laws.proofs.Choices.{either, on-grabbed}
 use Rattle.character_laws.proofs.Slots.{set-every}
 

@@ -3,9 +3,6 @@
 use character::Character;
 use character::Net;
 use character::Quantized;
-use character::from_net;
-use character::quantize;
-use character::to_net;
 use game_records::CORE;
 use game_records::core_numbers;
 use game_records::core_of;
@@ -78,12 +75,12 @@ fn state_case(before: &[u8], number: u32, record: &[u8], after: &[u8]) -> bool {
 fn record_case(number: u32, record: &[u8], after: &[u8]) -> bool {
     let mut numbers = [0i32; CORE];
     read_numbers(record, &mut numbers);
-    let character = from_net(core_of(&numbers));
+    let character = Character::from_net(core_of(&numbers));
     is_character(character, after) && number_agrees(character, number)
 }
 
 fn net_agrees(character: Character, number: u32, record: &[u8]) -> bool {
-    let net = to_net(character);
+    let net = character.to_net();
     match net {
         Net::TickTooLarge => number == TICK_TOO_LARGE,
         Net::Core(core) => {
@@ -94,7 +91,7 @@ fn net_agrees(character: Character, number: u32, record: &[u8]) -> bool {
 }
 
 fn number_agrees(character: Character, number: u32) -> bool {
-    let net = to_net(character);
+    let net = character.to_net();
     match net {
         Net::TickTooLarge => number == TICK_TOO_LARGE,
         Net::Core(_) => number == ACCEPTED,
@@ -102,7 +99,7 @@ fn number_agrees(character: Character, number: u32) -> bool {
 }
 
 fn quantize_agrees(character: Character, number: u32, after: &[u8]) -> bool {
-    let quantized = quantize(character);
+    let quantized = character.quantize();
     match quantized {
         Quantized::TickTooLarge => number == TICK_TOO_LARGE,
         Quantized::To(character) => number == ACCEPTED && is_character(character, after),

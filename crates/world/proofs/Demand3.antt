@@ -15,12 +15,13 @@ use Rattle.map_tiles.specs.Box.{Clear, characterBox}
 use Rattle.map_tiles.proofs.Corners.{character-corners}
 use Rattle.world.specs.declared.call.Call.{Call}
 use Rattle.world.specs.declared.call.Call.the-variants.{Join, Leave, Input, Step, Tune}
+use Rattle.character.specs.Slot.{emptySlot, joinedSlot, withInput}
 use Rattle.character.specs.Character.{spawn}
 use Rattle.character.specs.Tick.{slotAt, nowhere}
 use Rattle.character.specs.declared.Slot.{Slot}
 use Rattle.character_laws.proofs.Back.{representable-back}
 use Rattle.character_laws.proofs.Slots.{set-others, replicate-every}
-use Rattle.world.specs.World.{emptySlot, fresh, tuningCount, playerCollision, withSlot, withTuning}
+use Rattle.world.specs.World.{fresh, tuningCount, playerCollision, withSlot, withTuning}
 use Rattle.world.specs.Calls.{refused, accepted, placeOf, pointOf}
 use Rattle.world.specs.Calls as calls
 use Rattle.world.specs.Run.{inputOf, ran, after}
@@ -31,7 +32,7 @@ use Rattle.world.specs.declared.World.{World}
 use Rattle.world.proofs.Standing.{Standing, representable-fits}
 use Rattle.world.proofs.Reached.{Reached, set-reached, empty-standing, fresh-reached, steps}
 use Rattle.world.proofs.Settled.{joined-representable, answer-settled, after-settled}
-use Rattle.world.proofs.Outcomes.{Outcome, no, yes, joined, Joins, join-outcome, Seated, leave-outcome, input-outcome}
+use Rattle.world.proofs.Outcomes.{Outcome, no, yes, Joins, join-outcome, Seated, leave-outcome, input-outcome}
 
 abbrev isStep : Call → Bool
 isStep (Join id x y) = false
@@ -74,7 +75,7 @@ module _ (n : ℕ) (s : Sides) (ts : List ℕ) where
     same : (k : ℕ) → slotAt (ran n s ts w c .world .slots) k .present ≡ presentAfter n k (slotAt (w .slots) k .present) (ran n s ts w c) c
     told : c ≡ Step → ran n s ts w c .number ≡ 0 → StepFaithful n w s ts (λ k. slotAt (w .slots) k .present)
 
-  joined-stands : (w : World) (id x y : ℤ) → Joins n w s ts id x y → Standing s ts (joined (pointOf x y))
+  joined-stands : (w : World) (id x y : ℤ) → Joins n w s ts id x y → Standing s ts (joinedSlot (pointOf x y))
   unfolding spawn
   joined-stands w id x y f = let g = representable-fits (spawn (pointOf x y)) (joined-representable n w s ts id x y f) in record { clear = λ e. f .clear; pos-fits = λ e. g .0; vel-fits = g .1 }
 
@@ -84,8 +85,8 @@ module _ (n : ℕ) (s : Sides) (ts : List ℕ) where
       let a = calls.join n w s ts id x y in
       let o = join-outcome n w s ts id x y in
       record {
-        reached = slot-reached z w j (joined (pointOf x y)) a o h (joined-stands w id x y);
-        same = flags n w (g .seats) j (joined (pointOf x y)) a o (λ f. f .seat);
+        reached = slot-reached z w j (joinedSlot (pointOf x y)) a o h (joined-stands w id x y);
+        same = flags n w (g .seats) j (joinedSlot (pointOf x y)) a o (λ f. f .seat);
         told = λ e. absurd (not-step (Join id x y) refl e);
       }
 
@@ -101,16 +102,16 @@ module _ (n : ℕ) (s : Sides) (ts : List ℕ) where
         told = λ e. absurd (not-step (Leave id) refl e);
       }
 
-  -- an input leaves who is present: somebody was there
-  same-flag : (w : World) (j k : ℕ) (b : Bool) → slotAt (w .slots) j .present ≡ true → eqb j k ≡ b → cond b true (slotAt (w .slots) k .present) ≡ slotAt (w .slots) k .present
-  same-flag w j k true p e = sym p ∙ ap (λ (i : ℕ). slotAt (w .slots) i .present) (eqb-true j k e)
-  same-flag w j k false p e = refl
+  -- an input leaves who is present
+  same-flag : (w : World) (j k : ℕ) (b : Bool) → eqb j k ≡ b → cond b (slotAt (w .slots) j .present) (slotAt (w .slots) k .present) ≡ slotAt (w .slots) k .present
+  same-flag w j k true e = ap (λ (i : ℕ). slotAt (w .slots) i .present) (eqb-true j k e)
+  same-flag w j k false e = refl
 
   input-next : (z : ℤ) (w : World) (id a b c d e : ℤ) → Settled n w → Reached n s ts z w → Next z w (Input id a b c d e)
   input-next z w id a b c d e g h =
       let j = placeOf n id in
       let i = inputOf a b c d e in
-      let x : Slot = record { present = true; character = slotAt (w .slots) j .character; input = i } in
+      let x = withInput (slotAt (w .slots) j) i in
       record {
         reached = slot-reached z w j x (calls.input n w id i) (input-outcome n w id i) h (λ f. record { clear = λ q. h .stands j .clear (f .there); pos-fits = λ q. h .stands j .pos-fits (f .there); vel-fits = h .stands j .vel-fits });
         same = stays (calls.input n w id i) (input-outcome n w id i);
@@ -118,11 +119,11 @@ module _ (n : ℕ) (s : Sides) (ts : List ℕ) where
       }
     where
       new : Slot
-      new = record { present = true; character = slotAt (w .slots) (placeOf n id) .character; input = inputOf a b c d e }
+      new = withInput (slotAt (w .slots) (placeOf n id)) (inputOf a b c d e)
 
       stays : (o : Answer) → Outcome w (withSlot w (placeOf n id) new) (Seated n w id) o → (k : ℕ) → slotAt (o .world .slots) k .present ≡ slotAt (w .slots) k .present
       stays o (no r q) k = rw q
-      stays o (yes f q) k = rw q (set-flag n w (g .seats) (placeOf n id) new (f .seat) k ∙ same-flag w (placeOf n id) k (eqb (placeOf n id) k) (f .there) refl)
+      stays o (yes f q) k = rw q (set-flag n w (g .seats) (placeOf n id) new (f .seat) k ∙ same-flag w (placeOf n id) k (eqb (placeOf n id) k) refl)
 
   -- ---- tune
   module _ (z : ℤ) (w : World) (g : Settled n w) (h : Reached n s ts z w) (k : ℕ) (v : ℤ) where

@@ -3,6 +3,7 @@ pub mod Standing
 pub mod Moves
 pub mod Reached
 pub mod Outcomes
+pub mod Vacated
 pub mod Settled
 pub mod Numbers
 pub mod Demand1

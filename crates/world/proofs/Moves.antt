@@ -18,11 +18,12 @@ use Rattle.game_tuning.specs.declared.Tuning.{Tuning}
 use Rattle.map_tiles.specs.Box.{Clear, characterBox}
 use Rattle.game_records.specs.declared.CharacterCore.{CharacterCore}
 use Rattle.character_hook.specs.Hook.{tickOf}
+use Rattle.character.specs.Slot.{withCharacter}
 use Rattle.character.specs.declared.Character.{Character}
 use Rattle.character.specs.declared.Slot.{Slot}
 use Rattle.character.specs.declared.walk.MovedAt.{MovedAt}
 use Rattle.character.specs.declared.walk.MovedAt.the-variants as moved
-use Rattle.character.specs.Tick.{slotAt, nowhere, withCharacter}
+use Rattle.character.specs.Tick.{slotAt, nowhere}
 use Rattle.character_laws.specs.Faithful.{Faithful}
 use Rattle.character.specs.Records.{coreOf, toNet, fromNet, mostTick}
 use Rattle.character_laws.specs.Representable.{Representable}

@@ -20,6 +20,7 @@ use Rattle.map_tiles.specs.declared.tiles.Sides.{Sides}
 use Rattle.map_tiles.specs.Map.{isMap}
 use Rattle.game_tuning.specs.Tuning.{tuningOf}
 use Rattle.game_tuning.specs.declared.Tuning.{Tuning}
+use Rattle.character.specs.Slot.{withCharacter}
 use Rattle.character.specs.Records.{coreOf, toNet, fromNet}
 use Rattle.character_laws.proofs.Back.{to-core}
 use Rattle.character.specs.declared.Character.{Character}
@@ -29,7 +30,7 @@ use Rattle.character.specs.declared.tick.HookFlight.the-variants.{TooFar, To}
 use Rattle.character.specs.declared.tick.AfterTick.{AfterTick}
 use Rattle.character.specs.declared.tick.TickedAt.{TickedAt}
 use Rattle.character.specs.declared.tick.TickedAt.the-variants as ticked-at
-use Rattle.character.specs.Tick.{slotAt, nowhere, withCharacter, steer, flight, afterPull, hooked, ticked, tickAt}
+use Rattle.character.specs.Tick.{slotAt, nowhere, steer, flight, afterPull, hooked, ticked, tickAt}
 use Rattle.character_laws.proofs.Slots.{set-others}
 use Rattle.character_laws.proofs.Others.{Then, pulled-others, pulled-length}
 use Rattle.map_walks.specs.declared.moves.BoxWalk.{BoxWalk}

@@ -7,17 +7,15 @@ use mathlib.Core.Path.{_≡_, refl}
 use lib.Dec.{ltb}
 use lib.IntN.{ℤ, pos, negsuc}
 use borrow.Author.Tests.{ltb-true, leb-true}
-use Rattle.num_vec2.specs.declared.vec2.{vec2}
 use Rattle.map_tiles.specs.Map.{isMap}
 use Rattle.map_tiles.specs.declared.tiles.Sides.{Sides}
 use Rattle.map_tiles.specs.Box.{checkBox, Clear, characterBox}
 use Rattle.game_records.specs.declared.PlayerInput.{PlayerInput}
-use Rattle.character.specs.Character.{spawn}
+use Rattle.character.specs.Slot.{joinedSlot, withInput}
 use Rattle.character.specs.Tick.{slotAt}
-use Rattle.character.specs.declared.Slot.{Slot}
 use Rattle.num_convert.specs.Casts.{IsI32}
-use Rattle.world.specs.World.{noInput, emptySlot, withSlot}
-use Rattle.world.specs.Calls.{refused, accepted, placeOf, inReach, pointOf, joinAt, join, ifPresent, leave, input}
+use Rattle.world.specs.World.{withSlot}
+use Rattle.world.specs.Calls.{refused, accepted, placeOf, inReach, pointOf, joinAt, join, ifPresent, vacate, leave, input}
 use Rattle.world.specs.declared.Answer.{Answer}
 use Rattle.world.specs.declared.World.{World}
 
@@ -33,9 +31,6 @@ reach-i32 (pos k) e = let h : k ≤ 100000 = leb-true k 100000 e in omega arith
 reach-i32 (negsuc k) e = let h : suc k ≤ 100000 = leb-true (suc k) 100000 e in omega arith
 
 -- ---- join
-abbrev pub joined : vec2 → Slot
-joined p = record { present = true; character = spawn p; input = noInput }
-
 module _ (n : ℕ) (w : World) (s : Sides) (ts : List ℕ) where
   -- what an accepted join has been tested for
   pub record Joins (id x y : ℤ) : Type 0 where
@@ -44,20 +39,20 @@ module _ (n : ℕ) (w : World) (s : Sides) (ts : List ℕ) where
     pub y-reach : inReach y ≡ true
     pub clear : Clear s ts (pointOf x y) characterBox
 
-  join-at : (id x y : ℤ) → placeOf n id < n → inReach x ≡ true → inReach y ≡ true → Outcome w (withSlot w (placeOf n id) (joined (pointOf x y))) (Joins id x y) (joinAt w s ts (placeOf n id) (pointOf x y))
+  join-at : (id x y : ℤ) → placeOf n id < n → inReach x ≡ true → inReach y ≡ true → Outcome w (withSlot w (placeOf n id) (joinedSlot (pointOf x y))) (Joins id x y) (joinAt w s ts (placeOf n id) (pointOf x y))
   unfolding joinAt
   join-at id x y l a b = go (checkBox s ts (pointOf x y) characterBox) (slotAt (w .slots) (placeOf n id) .present) refl
     where
-      go : (c d : Bool) → checkBox s ts (pointOf x y) characterBox ≡ c → Outcome w (withSlot w (placeOf n id) (joined (pointOf x y))) (Joins id x y) (cond c (refused w 5) (cond d (refused w 7) (accepted (withSlot w (placeOf n id) (joined (pointOf x y))))))
+      go : (c d : Bool) → checkBox s ts (pointOf x y) characterBox ≡ c → Outcome w (withSlot w (placeOf n id) (joinedSlot (pointOf x y))) (Joins id x y) (cond c (refused w 5) (cond d (refused w 7) (accepted (withSlot w (placeOf n id) (joinedSlot (pointOf x y))))))
       go true d e = no 4 refl
       go false true e = no 6 refl
       go false false e = yes (record { seat = l; x-reach = a; y-reach = b; clear = e }) refl
 
-  pub join-outcome : (id x y : ℤ) → Outcome w (withSlot w (placeOf n id) (joined (pointOf x y))) (Joins id x y) (join n w s ts id x y)
+  pub join-outcome : (id x y : ℤ) → Outcome w (withSlot w (placeOf n id) (joinedSlot (pointOf x y))) (Joins id x y) (join n w s ts id x y)
   unfolding join
   join-outcome id x y = go (isMap s ts) (ltb (placeOf n id) n) (inReach x) (inReach y) refl refl refl
     where
-      go : (b c d e : Bool) → ltb (placeOf n id) n ≡ c → inReach x ≡ d → inReach y ≡ e → Outcome w (withSlot w (placeOf n id) (joined (pointOf x y))) (Joins id x y) (cond b (cond c (cond (d && e) (joinAt w s ts (placeOf n id) (pointOf x y)) (refused w 4)) (refused w 2)) (refused w 1))
+      go : (b c d e : Bool) → ltb (placeOf n id) n ≡ c → inReach x ≡ d → inReach y ≡ e → Outcome w (withSlot w (placeOf n id) (joinedSlot (pointOf x y))) (Joins id x y) (cond b (cond c (cond (d && e) (joinAt w s ts (placeOf n id) (pointOf x y)) (refused w 4)) (refused w 2)) (refused w 1))
       go false c d e l p q = no 0 refl
       go true false d e l p q = no 1 refl
       go true true false e l p q = no 3 refl
@@ -79,10 +74,10 @@ module _ (n : ℕ) (w : World) where
       go true false l p = no 7 refl
       go true true l p = yes (record { seat = ltb-true (placeOf n id) n l; there = p }) refl
 
-  pub leave-outcome : (id : ℤ) → Outcome w (withSlot w (placeOf n id) emptySlot) (Seated id) (leave n w id)
+  pub leave-outcome : (id : ℤ) → Outcome w (vacate w (placeOf n id)) (Seated id) (leave n w id)
   unfolding leave
-  leave-outcome id = seated id (withSlot w (placeOf n id) emptySlot)
+  leave-outcome id = seated id (vacate w (placeOf n id))
 
-  pub input-outcome : (id : ℤ) (i : PlayerInput) → Outcome w (withSlot w (placeOf n id) (record { present = true; character = slotAt (w .slots) (placeOf n id) .character; input = i })) (Seated id) (input n w id i)
+  pub input-outcome : (id : ℤ) (i : PlayerInput) → Outcome w (withSlot w (placeOf n id) (withInput (slotAt (w .slots) (placeOf n id)) i)) (Seated id) (input n w id i)
   unfolding input
-  input-outcome id i = seated id (withSlot w (placeOf n id) (record { present = true; character = slotAt (w .slots) (placeOf n id) .character; input = i }))
+  input-outcome id i = seated id (withSlot w (placeOf n id) (withInput (slotAt (w .slots) (placeOf n id)) i))

@@ -18,11 +18,12 @@ use Rattle.map_tiles.specs.Map.{isMap}
 use Rattle.map_tiles.specs.declared.tiles.Sides.{Sides}
 use Rattle.game_tuning.specs.Tuning.{tuningAt, tuningOf}
 use Rattle.game_tuning.specs.declared.Tuning.{Tuning}
+use Rattle.character.specs.Slot.{emptySlot}
 use Rattle.character.specs.Character.{spawn}
 use Rattle.character.specs.Tick.{slotAt, nowhere}
 use Rattle.character.specs.declared.Slot.{Slot}
 use Rattle.character_laws.proofs.Slots.{set-every, replicate-every}
-use Rattle.world.specs.World.{emptySlot, freshTunings, fresh, playerCollision, withSlot}
+use Rattle.world.specs.World.{freshTunings, fresh, playerCollision, withSlot}
 use Rattle.world.specs.Step.{Moving, tickAll, moveAll, moveTurn, movingFrom, stepRefused, stepAnswer, stepOn, step}
 use Rattle.world.specs.Demand3.{left, leftIn, leftFrom, recordAt, FaithfulTo}
 use Rattle.world.specs.declared.Stepped.{Stepped}

@@ -13,13 +13,14 @@ use Rattle.map_tiles.specs.declared.tiles.Sides.{Sides}
 use Rattle.game_tuning.specs.declared.Tuning.{Tuning}
 use Rattle.game_records.specs.declared.CharacterCore.{CharacterCore}
 use Rattle.character_motion.specs.declared.meeting.HookPull.{HookPull}
+use Rattle.character.specs.Slot.{withCharacter}
 use Rattle.character.specs.declared.Character.{Character}
 use Rattle.character.specs.declared.Slot.{Slot}
 use Rattle.character.specs.declared.tick.TickedAt.{TickedAt}
 use Rattle.character.specs.declared.tick.TickedAt.the-variants as ticked
 use Rattle.character.specs.declared.walk.MovedAt.{MovedAt}
 use Rattle.character.specs.declared.walk.MovedAt.the-variants as moved
-use Rattle.character.specs.Tick.{slotAt, nowhere, withCharacter, afterPull, tickAt}
+use Rattle.character.specs.Tick.{slotAt, nowhere, afterPull, tickAt}
 use Rattle.character.specs.Records.{toNet, fromNet, quantize}
 use Rattle.character_laws.specs.Representable.{Representable}
 use Rattle.character.specs.declared.records.Net.{Net}

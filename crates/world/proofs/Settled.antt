@@ -14,13 +14,14 @@ use Rattle.game_tuning.specs.Tuning.{tuningOf}
 use Rattle.game_tuning.specs.declared.Tuning.{Tuning}
 use Rattle.world.specs.declared.call.Call.{Call}
 use Rattle.world.specs.declared.call.Call.the-variants.{Join, Leave, Input, Step, Tune}
+use Rattle.character.specs.Slot.{emptySlot, joinedSlot, withInput}
 use Rattle.character.specs.Character.{spawn}
 use Rattle.character.specs.Tick.{slotAt, nowhere}
 use Rattle.character.specs.declared.Slot.{Slot}
 use Rattle.character_laws.specs.Representable.{Representable}
 use Rattle.character_laws.proofs.FromNet.{spawn-representable}
 use Rattle.character_laws.proofs.Slots.{set-every}
-use Rattle.world.specs.World.{emptySlot, freshTunings, fresh, tuningCount, withSlot, withTuning}
+use Rattle.world.specs.World.{freshTunings, fresh, tuningCount, withSlot, withTuning}
 use Rattle.world.specs.Calls.{placeOf, pointOf, tune}
 use Rattle.world.specs.Step.{Moving, tickAll, moveAll, stepAnswer, stepOn, step}
 use Rattle.world.specs.Run.{inputOf, ran, after}
@@ -28,7 +29,7 @@ use Rattle.world.specs.Settled.{Settled, AfterSettled}
 use Rattle.world.specs.declared.Answer.{Answer}
 use Rattle.world.specs.declared.Stepped.{Stepped}
 use Rattle.world.specs.declared.World.{World}
-use Rattle.world.proofs.Outcomes.{Outcome, no, yes, reach-i32, joined, Joins, join-outcome, leave-outcome, input-outcome}
+use Rattle.world.proofs.Outcomes.{Outcome, no, yes, reach-i32, Joins, join-outcome, leave-outcome, input-outcome}
 use Rattle.world.proofs.Seats.{by-test, Same, Settling, same-on, ticks-same, moves-settle}
 
 -- where an accepted join puts somebody
@@ -95,9 +96,9 @@ module _ (n : ℕ) where
   module _ (s : Sides) (ts : List ℕ) where
     pub answer-settled : (w : World) (c : Call) → Settled n w → Settled n (ran n s ts w c .world)
     unfolding emptySlot
-    answer-settled w (Join id x y) h = slot-settled w (placeOf n id) (joined (pointOf x y)) _ (join-outcome n w s ts id x y) h (λ f. (λ e. joined-representable n w s ts id x y f, λ e. absurd (true≢false e)))
+    answer-settled w (Join id x y) h = slot-settled w (placeOf n id) (joinedSlot (pointOf x y)) _ (join-outcome n w s ts id x y) h (λ f. (λ e. joined-representable n w s ts id x y f, λ e. absurd (true≢false e)))
     answer-settled w (Leave id) h = slot-settled w (placeOf n id) emptySlot _ (leave-outcome n w id) h (λ f. (λ e. absurd (true≢false (sym e)), λ e. refl))
-    answer-settled w (Input id d x y j k) h = slot-settled w (placeOf n id) (record { present = true; character = slotAt (w .slots) (placeOf n id) .character; input = inputOf d x y j k }) _ (input-outcome n w id (inputOf d x y j k)) h (λ f. (λ e. h .representable (placeOf n id) (f .seat) (f .there), λ e. absurd (true≢false e)))
+    answer-settled w (Input id d x y j k) h = slot-settled w (placeOf n id) (withInput (slotAt (w .slots) (placeOf n id)) (inputOf d x y j k)) _ (input-outcome n w id (inputOf d x y j k)) h (λ f. (λ e. h .representable (placeOf n id) (f .seat) (f .there), λ e. absurd (true≢false (sym (f .there) ∙ e))))
     answer-settled w Step h = step-settled s ts w h
     answer-settled w (Tune index z) h = tune-settled w index z h
 

@@ -15,11 +15,12 @@ use Rattle.map_tiles.specs.declared.tiles.Sides.{Sides}
 use Rattle.game_tuning.specs.Tuning.{tuningOf}
 use Rattle.game_tuning.specs.declared.Tuning.{Tuning}
 use Rattle.map_tiles.specs.Box.{Clear, characterBox}
+use Rattle.character.specs.Slot.{withCharacter}
 use Rattle.character.specs.declared.Character.{Character}
 use Rattle.character.specs.declared.Slot.{Slot}
 use Rattle.character.specs.declared.tick.TickedAt.{TickedAt}
 use Rattle.character.specs.declared.tick.TickedAt.the-variants as ticked
-use Rattle.character.specs.Tick.{slotAt, nowhere, withCharacter, afterPull, tickAt}
+use Rattle.character.specs.Tick.{slotAt, nowhere, afterPull, tickAt}
 use Rattle.character_laws.specs.Representable.{Pair, Representable}
 use Rattle.character_laws.proofs.Slots.{set-every}
 use Rattle.character_laws.proofs.Others.{Then, SameButVel, tick-pos, pulled-others}

@@ -1,6 +1,6 @@
 -- Join, leave, input and tune on a world of n slots, with the numbers of document 01's refusals. Definitions only.
 use Prim.Native.Nat.{ℕ}
-use mathlib.Core.Bool.{Bool, true, cond, _&&_}
+use mathlib.Core.Bool.{Bool, cond, _&&_}
 use mathlib.Core.List.{List}
 use lib.Dec.{leb, ltb}
 use lib.IntN.{ℤ, pos, negsuc, natAbs}
@@ -11,9 +11,10 @@ use Rattle.map_tiles.specs.Map.{isMap}
 use Rattle.map_tiles.specs.declared.tiles.Sides.{Sides}
 use Rattle.map_tiles.specs.Box.{checkBox, characterBox}
 use Rattle.game_records.specs.declared.PlayerInput.{PlayerInput}
-use Rattle.character.specs.Character.{spawn}
+use Rattle.game_refusals.specs.Refusals.{badMap, badId, badTuning, outOfReach, notClear, isPresent, isAbsent}
+use Rattle.character.specs.Slot.{emptySlot, joinedSlot, withInput}
 use Rattle.character.specs.Tick.{slotAt}
-use Rattle.world.specs.World.{noInput, emptySlot, tuningCount, withSlot, withTuning}
+use Rattle.world.specs.World.{tuningCount, withSlot, withTuning}
 use Rattle.world.specs.declared.Answer.{Answer}
 use Rattle.world.specs.declared.World.{World}
 
@@ -40,28 +41,31 @@ pointOf x y = vnew (i32ToF32 x) (i32ToF32 y)
 -- join of a seat at a point: 5 where the box isn't clear, 7 where somebody is there
 unfoldable pub joinAt : World → Sides → List ℕ → ℕ → vec2 → Answer
 joinAt w s ts k p =
-    cond (checkBox s ts p characterBox) (refused w 5)
-    (cond (slotAt (w .slots) k .present) (refused w 7) (accepted (withSlot w k (record { present = true; character = spawn p; input = noInput }))))
+    cond (checkBox s ts p characterBox) (refused w notClear)
+    (cond (slotAt (w .slots) k .present) (refused w isPresent) (accepted (withSlot w k (joinedSlot p))))
 
 -- 1 where the map is none, 2 where the id has no slot, 4 where x or y is out of reach
 unfoldable pub join : ℕ → World → Sides → List ℕ → ℤ → ℤ → ℤ → Answer
 join n w s ts id x y =
     cond (isMap s ts)
-    (cond (ltb (placeOf n id) n) (cond (inReach x && inReach y) (joinAt w s ts (placeOf n id) (pointOf x y)) (refused w 4)) (refused w 2))
-    (refused w 1)
+    (cond (ltb (placeOf n id) n) (cond (inReach x && inReach y) (joinAt w s ts (placeOf n id) (pointOf x y)) (refused w outOfReach)) (refused w badId))
+    (refused w badMap)
 
 -- what leave and input do at a seat: 8 where nobody is there
 abbrev pub ifPresent : World → ℕ → World → Answer
-ifPresent w k next = cond (slotAt (w .slots) k .present) (accepted next) (refused w 8)
+ifPresent w k next = cond (slotAt (w .slots) k .present) (accepted next) (refused w isAbsent)
 
--- its slot is again as every fresh one; hooks that hold it are not touched
+-- the slot k is again as every fresh one; hooks that hold it are not touched
+abbrev pub vacate : World → ℕ → World
+vacate w k = withSlot w k emptySlot
+
 unfoldable pub leave : ℕ → World → ℤ → Answer
-leave n w id = let k = placeOf n id in cond (ltb k n) (ifPresent w k (withSlot w k emptySlot)) (refused w 2)
+leave n w id = let k = placeOf n id in cond (ltb k n) (ifPresent w k (vacate w k)) (refused w badId)
 
 -- stored
 unfoldable pub input : ℕ → World → ℤ → PlayerInput → Answer
-input n w id i = let k = placeOf n id in cond (ltb k n) (ifPresent w k (withSlot w k (record { present = true; character = slotAt (w .slots) k .character; input = i }))) (refused w 2)
+input n w id i = let k = placeOf n id in cond (ltb k n) (ifPresent w k (withSlot w k (withInput (slotAt (w .slots) k) i))) (refused w badId)
 
 -- any i32; 3 where the index has no tuning
 unfoldable pub tune : World → ℤ → ℤ → Answer
-tune w index z = let k = placeOf tuningCount index in cond (ltb k tuningCount) (accepted (withTuning w k z)) (refused w 3)
+tune w index z = let k = placeOf tuningCount index in cond (ltb k tuningCount) (accepted (withTuning w k z)) (refused w badTuning)

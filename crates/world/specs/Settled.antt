@@ -6,9 +6,10 @@ use mathlib.Core.Path.{_≡_}
 use lib.ListN.{length}
 use Rattle.map_tiles.specs.declared.tiles.Sides.{Sides}
 use Rattle.world.specs.declared.call.Call.{Call}
+use Rattle.character.specs.Slot.{emptySlot}
 use Rattle.character.specs.Tick.{slotAt}
 use Rattle.character_laws.specs.Representable.{Representable}
-use Rattle.world.specs.World.{emptySlot, tuningCount, fresh}
+use Rattle.world.specs.World.{tuningCount, fresh}
 use Rattle.world.specs.Run.{after}
 use Rattle.world.specs.declared.World.{World}
 

@@ -11,7 +11,8 @@ use Rattle.game_tuning.specs.Tuning.{tuningOf}
 use Rattle.game_tuning.specs.declared.Tuning.{Tuning}
 use Rattle.game_records.specs.declared.CharacterCore.{CharacterCore}
 use Rattle.game_refusals.specs.Refusals.{badMap, tooFar, tickTooLarge}
-use Rattle.character.specs.Tick.{slotAt, withCharacter, afterPull, tickAt}
+use Rattle.character.specs.Slot.{withCharacter}
+use Rattle.character.specs.Tick.{slotAt, afterPull, tickAt}
 use Rattle.character.specs.Walk.{moveAt}
 use Rattle.character.specs.declared.Character.{Character}
 use Rattle.character.specs.declared.Slot.{Slot}

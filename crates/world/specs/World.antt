@@ -1,23 +1,11 @@
 -- A world of n slots: fresh, and with one of its slots or tunings set. Definitions only.
 use Prim.Native.Nat.{ℕ}
-use mathlib.Core.Bool.{false}
 use mathlib.Core.List.{List, [], _∷_}
 use lib.IntN.{ℤ, pos}
 use lib.ListN.{set, replicate}
-use Rattle.num_convert.specs.Number.{c0}
-use Rattle.num_vec2.specs.Vec2.{vnew}
-use Rattle.game_records.specs.declared.PlayerInput.{PlayerInput}
-use Rattle.character.specs.Character.{spawn}
+use Rattle.character.specs.Slot.{emptySlot}
 use Rattle.character.specs.declared.Slot.{Slot}
 use Rattle.world.specs.declared.World.{World}
-
--- an input that is all 0
-abbrev pub noInput : PlayerInput
-noInput = record { direction = pos 0; «target_x» = pos 0; «target_y» = pos 0; jump = pos 0; hook = pos 0 }
-
--- nobody is there: spawn at (0, 0)
-unfoldable pub emptySlot : Slot
-emptySlot = record { present = false; character = spawn (vnew c0 c0); input = noInput }
 
 -- the tunings of Teeworlds 0.6, in hundredths: ground speed, accel, friction; ground jump, air jump; air speed, accel, friction; hook
 -- length, fire speed, drag accel, drag speed; gravity; ramp start, range, curvature; player collision, player hooking

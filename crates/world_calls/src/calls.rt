@@ -1,11 +1,14 @@
 // The calls of a world that need no map: leave, input and tune.
 use crate::seats::accepted;
-use crate::seats::empty_slot;
 use crate::seats::place_of;
 use crate::seats::refused;
+use crate::seats::vacate;
 use crate::seats::with_slot;
 use character::SEATS;
 use game_records::PlayerInput;
+use game_refusals::ABSENT;
+use game_refusals::BAD_ID;
+use game_refusals::BAD_TUNING;
 use game_tuning::TUNINGS;
 use world::Answer;
 use world::World;
@@ -22,11 +25,11 @@ pub fn leave(world: World, id: i32) -> Answer
     if at < SEATS {
         let slot = world.slots[at];
         if slot.present {
-            return accepted(with_slot(world, at, empty_slot()));
+            return accepted(vacate(world, at));
         }
-        return refused(world, 8);
+        return refused(world, ABSENT);
     }
-    refused(world, 2)
+    refused(world, BAD_ID)
 }
 
 pub fn input(world: World, id: i32, values: PlayerInput) -> Answer
@@ -36,12 +39,12 @@ pub fn input(world: World, id: i32, values: PlayerInput) -> Answer
     if at < SEATS {
         let mut slot = world.slots[at];
         if slot.present {
-            slot.input = values;
+            slot = slot.with_input(values);
             return accepted(with_slot(world, at, slot));
         }
-        return refused(world, 8);
+        return refused(world, ABSENT);
     }
-    refused(world, 2)
+    refused(world, BAD_ID)
 }
 
 pub fn tune(world: World, index: i32, value: i32) -> Answer
@@ -51,7 +54,7 @@ pub fn tune(world: World, index: i32, value: i32) -> Answer
     if at < TUNINGS {
         return accepted(with_tuning(world, at, value));
     }
-    refused(world, 3)
+    refused(world, BAD_TUNING)
 }
 
 fn with_tuning(mut world: World, at: usize, value: i32) -> World

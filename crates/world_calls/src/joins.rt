@@ -1,12 +1,15 @@
 // Join: somebody takes a seat.
 use crate::seats::accepted;
-use crate::seats::no_input;
 use crate::seats::place_of;
 use crate::seats::refused;
 use crate::seats::with_slot;
-use character::Character;
 use character::SEATS;
 use character::Slot;
+use game_refusals::BAD_ID;
+use game_refusals::BAD_MAP;
+use game_refusals::NOT_CLEAR;
+use game_refusals::OUT_OF_REACH;
+use game_refusals::PRESENT;
 use map_tiles::Sides;
 use map_tiles::check_box;
 use map_tiles::is_map;
@@ -38,11 +41,11 @@ pub fn join(world: World, sides: Sides, tiles: &[u8], id: i32, x: i32, y: i32) -
                 let pos = vec2::new(i32_to_f32(x), i32_to_f32(y));
                 return join_at(world, sides, tiles, at, pos);
             }
-            return refused(world, 4);
+            return refused(world, OUT_OF_REACH);
         }
-        return refused(world, 2);
+        return refused(world, BAD_ID);
     }
-    refused(world, 1)
+    refused(world, BAD_MAP)
 }
 
 fn join_at(world: World, sides: Sides, tiles: &[u8], at: usize, pos: vec2) -> Answer
@@ -51,16 +54,11 @@ fn join_at(world: World, sides: Sides, tiles: &[u8], at: usize, pos: vec2) -> An
 {
     let box_ = vec2::new(CHARACTER_SIZE, CHARACTER_SIZE);
     if check_box(sides, tiles, pos, box_) {
-        return refused(world, 5);
+        return refused(world, NOT_CLEAR);
     }
     let slot = world.slots[at];
     if slot.present {
-        return refused(world, 7);
+        return refused(world, PRESENT);
     }
-    let joined = Slot {
-        present: true,
-        character: Character::spawn(pos),
-        input: no_input(),
-    };
-    accepted(with_slot(world, at, joined))
+    accepted(with_slot(world, at, Slot::joined(pos)))
 }

@@ -7,7 +7,6 @@ pub use calls::input;
 pub use calls::leave;
 pub use calls::tune;
 pub use joins::join;
-pub use seats::empty_slot;
 pub use seats::fresh;
 pub use seats::place_of;
 pub use seats::slot_at;

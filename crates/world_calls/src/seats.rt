@@ -1,23 +1,20 @@
-// A world's seats: which one a number names, an empty one, one read and set; a fresh world; and the two forms of a call's answer.
-use character::Character;
+// A world's seats: which one a number names, one read, set and vacated; a fresh world; and the two forms of a call's answer.
 use character::SEATS;
 use character::Slot;
-use game_records::PlayerInput;
 use game_tuning::TUNINGS;
-use num_vec2::vec2;
 use world::Answer;
 use world::World;
 ghost use mathlib.Core.Path.{_≡_};
 ghost use Prim.Native.Nat.{_<_};
 ghost use Rattle.character.specs.Tick.{seats, slotAt};
-ghost use Rattle.world.specs.World.{noInput, emptySlot, freshTunings, fresh, withSlot};
-ghost use Rattle.world.specs.Calls.{refused, accepted, placeOf};
+ghost use Rattle.world.specs.World.{freshTunings, fresh, withSlot};
+ghost use Rattle.world.specs.Calls.{refused, accepted, placeOf, vacate};
 
 pub fn fresh() -> World
     ensures { λ r. ⌜ r ≡ fresh seats ⌝ }
 {
     World {
-        slots: [empty_slot(); SEATS],
+        slots: [Slot::empty(); SEATS],
         tunings: fresh_tunings(),
     }
 }
@@ -48,28 +45,6 @@ fn fresh_tunings() -> [i32; TUNINGS]
     ]
 }
 
-pub fn no_input() -> PlayerInput
-    ensures { λ r. ⌜ r ≡ noInput ⌝ }
-{
-    PlayerInput {
-        direction: 0,
-        target_x: 0,
-        target_y: 0,
-        jump: 0,
-        hook: 0,
-    }
-}
-
-pub fn empty_slot() -> Slot
-    ensures { λ r. ⌜ r ≡ emptySlot ⌝ }
-{
-    Slot {
-        present: false,
-        character: Character::spawn(vec2::new(0.0, 0.0)),
-        input: no_input(),
-    }
-}
-
 // Which of `count` places z names; `count` where it names none.
 pub fn place_of(count: usize, z: i32) -> usize
     ensures { λ r. ⌜ r ≡ placeOf count z ⌝ }
@@ -95,6 +70,14 @@ pub fn with_slot(mut world: World, at: usize, slot: Slot) -> World
 {
     world.slots[at] = slot;
     world
+}
+
+// Whoever left: the slot is as every fresh one.
+pub fn vacate(world: World, at: usize) -> World
+    requires { ⌜ at < seats ⌝ }
+    ensures { λ r. ⌜ r ≡ vacate world at ⌝ }
+{
+    with_slot(world, at, Slot::empty())
 }
 
 pub fn refused(world: World, number: u32) -> Answer

@@ -9,12 +9,13 @@ use lib.IntN.{ℤ, pos, negsuc}
 use lib.ListN.{length, drop, length-take}
 use lib.Seq.{getD-drop}
 use Rattle.num_convert.specs.Casts.{IsI32}
+use Rattle.character.specs.Slot.{emptySlot, joinedSlot, withCharacter, withInput}
 use Rattle.character.specs.Tick.{slotAt}
 use Rattle.character.specs.Records.{fromNet}
 use Rattle.character_laws.specs.Representable.{Representable}
 use Rattle.character_laws.proofs.FromNet.{from-net-representable}
 use Rattle.game_records.specs.Numbers.{numberAt, coreIn, inputIn}
-use Rattle.world.specs.World.{tuningCount, emptySlot}
+use Rattle.world.specs.World.{tuningCount}
 use Rattle.world.specs.Settled.{Settled}
 use Rattle.world_numbers.specs.Encoding.{recordCount, seatCount}
 use Rattle.world_numbers.specs.Decoding.{isPresent, fromZero, readable, seatOf, seatsOf, decoding, AnyComesBack}
@@ -49,7 +50,7 @@ seat-kept : (l : List ℤ) → AllI32 l → Kept (seatOf l)
 unfolding seatOf emptySlot
 seat-kept l h = go (isPresent (numberAt l 0))
   where
-    go : (b : Bool) → Kept (cond b (record { present = true; character = fromNet (readable (coreIn (drop 1 l))); input = inputIn (drop recordCount l) }) emptySlot)
+    go : (b : Bool) → Kept (cond b (withInput (withCharacter (joinedSlot (fromNet (readable (coreIn (drop 1 l))) .pos)) (fromNet (readable (coreIn (drop 1 l))))) (inputIn (drop recordCount l))) emptySlot)
     go true = record { somebody = λ e. seat-representable (drop 1 l) (drop-i32 1 l h); nobody = λ e. absurd (true≢false e) }
     go false = record { somebody = λ e. absurd (true≢false (sym e)); nobody = λ e. refl }
 

@@ -10,6 +10,7 @@ use lib.ListN.{length, drop}
 use lib.Seq.{take-at, drop-at}
 use borrow.Author.Tests.{leb-true}
 use Rattle.game_records.specs.Numbers.{coreNumbers, inputNumbers, coreIn, inputIn}
+use Rattle.character.specs.Slot.{emptySlot, joinedSlot, withCharacter, withInput}
 use Rattle.character.specs.Tick.{slotAt}
 use Rattle.character.specs.declared.Character.{Character}
 use Rattle.character.specs.declared.Slot.{Slot}
@@ -19,7 +20,7 @@ use Rattle.character_laws.specs.Representable.{Representable}
 use Rattle.character_laws.proofs.Back.{from-core, to-core, representable-back}
 use Rattle.character.specs.declared.records.Net.{Net}
 use Rattle.character.specs.declared.records.Quantized.the-variants as quantized
-use Rattle.world.specs.World.{tuningCount, emptySlot, fresh}
+use Rattle.world.specs.World.{tuningCount, fresh}
 use Rattle.world.specs.Run.{after}
 use Rattle.world.specs.Settled.{Settled}
 use Rattle.world.proofs.Settled.{after-settled}
@@ -56,7 +57,7 @@ unfolding seatOf seatNumbers presentNumbers recordNumbers coreNumbers inputNumbe
 seat-back s l k = go (s .present) refl
   where
     go : (b : Bool) → s .present ≡ b → seatOf (seatNumbers s ++ l) ≡ s
-    go true e = rw e (ap (λ (c : Character). record { present = true; character = c; input = s .input }) (record-back (s .character) (k .somebody e)))
+    go true e = rw e (ap (λ (c : Character). withInput (withCharacter (joinedSlot (c .pos)) c) (s .input)) (record-back (s .character) (k .somebody e)))
     go false e = rw e (sym (k .nobody e) ∙ ap (λ (b : Bool). record { present = b; character = s .character; input = s .input }) e)
 
 -- the numbers of a seat are passed

@@ -10,9 +10,10 @@ use Rattle.map_tiles.specs.declared.tiles.Sides.{Sides}
 use Rattle.world.specs.declared.call.Call.{Call}
 use Rattle.game_records.specs.declared.CharacterCore.{CharacterCore}
 use Rattle.game_records.specs.Numbers.{numberAt, coreIn, inputIn}
+use Rattle.character.specs.Slot.{emptySlot, joinedSlot, withCharacter, withInput}
 use Rattle.character.specs.declared.Slot.{Slot}
 use Rattle.character.specs.Records.{fromNet}
-use Rattle.world.specs.World.{tuningCount, emptySlot, fresh}
+use Rattle.world.specs.World.{tuningCount, fresh}
 use Rattle.world.specs.Run.{after}
 use Rattle.world.specs.declared.World.{World}
 use Rattle.world_numbers.specs.Encoding.{recordCount, seatCount, encoding}
@@ -38,7 +39,7 @@ readable n = withTicks n (fromZero (n .«hook_tick» .0))
 
 -- the seat whose numbers l starts with; where nobody is there the rest of them says nothing
 unfoldable pub seatOf : List ℤ → Slot
-seatOf l = cond (isPresent (numberAt l 0)) (record { present = true; character = fromNet (readable (coreIn (drop 1 l))); input = inputIn (drop recordCount l) }) emptySlot
+seatOf l = let c = fromNet (readable (coreIn (drop 1 l))) in cond (isPresent (numberAt l 0)) (withInput (withCharacter (joinedSlot (c .pos)) c) (inputIn (drop recordCount l))) emptySlot
 
 -- n seats, one after the other
 unfoldable pub seatsOf : ℕ → List ℤ → List Slot

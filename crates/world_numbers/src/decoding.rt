@@ -2,16 +2,15 @@
 use crate::encoding::RECORD;
 use crate::encoding::SEAT;
 use base_rows::copy;
+use character::Character;
 use character::SEATS;
 use character::Slot;
-use character::from_net;
 use game_records::CharacterCore;
 use game_records::Tick;
 use game_records::core_of;
 use game_records::input_of;
 use game_tuning::TUNINGS;
 use world::World;
-use world_calls::empty_slot;
 ghost use mathlib.Core.Path.{_≡_};
 ghost use Prim.Native.Nat.{_+_, _*_, _≤_, _<_};
 ghost use lib.ListN.{length, take, drop};
@@ -48,13 +47,12 @@ fn seat_of(seat: &[i32]) -> Slot
     ensures { λ r. ⌜ r ≡ seatOf (now (seat .entry)) ⌝ }
 {
     if is_present(seat[0]) {
-        Slot {
-            present: true,
-            character: from_net(readable(core_of(&seat[1..]))),
-            input: input_of(&seat[RECORD..]),
-        }
+        let character = Character::from_net(readable(core_of(&seat[1..])));
+        Slot::joined(character.pos)
+            .with_character(character)
+            .with_input(input_of(&seat[RECORD..]))
     } else {
-        empty_slot()
+        Slot::empty()
     }
 }
 
@@ -71,7 +69,7 @@ fn seats_of(numbers: &[i32]) -> [Slot; SEATS]
     requires { ⌜ length (now numbers) ≡ worldCount ⌝ }
     ensures { λ r. ⌜ r ≡ seatsOf seats (drop tuningCount (now (numbers .entry))) ⌝ }
 {
-    let mut slots = [empty_slot(); SEATS];
+    let mut slots = [Slot::empty(); SEATS];
     for id in 0..SEATS {
         slots[id] = seat_at(numbers, id);
     }

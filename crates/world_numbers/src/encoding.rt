@@ -4,7 +4,6 @@ use base_rows::copy;
 use character::Net;
 use character::SEATS;
 use character::Slot;
-use character::to_net;
 use game_records::CORE;
 use game_records::CharacterCore;
 use game_records::INPUT;
@@ -60,9 +59,10 @@ fn record_numbers(published: Published) -> [i32; RECORD]
 pub fn present_numbers(slot: Slot) -> [i32; SEAT]
     ensures { λ r. ⌜ r ≡ presentNumbers slot ⌝ }
 {
+    let character = slot.character;
     let record = record_numbers(Published {
         present: true,
-        core: net_core(to_net(slot.character)),
+        core: net_core(character.to_net()),
     });
     let input = input_numbers(slot.input);
     let mut row = [0i32; SEAT];

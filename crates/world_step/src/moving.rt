@@ -1,10 +1,9 @@
 // The second half of a step: by rising id each moves and is quantized.
+use character::Character;
 use character::MovedAt;
 use character::Net;
 use character::SEATS;
 use character::Slot;
-use character::from_net;
-use character::to_net;
 use game_records::CharacterCore;
 use game_records::Tick;
 use game_refusals::TICK_TOO_LARGE;
@@ -75,9 +74,7 @@ pub fn move_all(slots: [Slot; SEATS], sides: Sides, tiles: &[u8], tuning: Tuning
                     };
                 }
                 Recorded::Core(core) => {
-                    let mut changed = slot;
-                    changed.character = from_net(core);
-                    all[j] = changed;
+                    all[j] = slot.with_character(Character::from_net(core));
                     let record = Published {
                         present: true,
                         core,
@@ -101,7 +98,7 @@ fn record_of(moved: MovedAt) -> Recorded
 {
     match moved {
         MovedAt::TooFar => Recorded::Refused(TOO_FAR),
-        MovedAt::To(left) => of_net(to_net(left)),
+        MovedAt::To(left) => of_net(left.to_net()),
     }
 }
 

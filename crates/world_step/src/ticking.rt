@@ -57,9 +57,8 @@ fn after_tick(slots: [Slot; SEATS], id: usize, after: AfterTick) -> [Slot; SEATS
 {
     let pull = after.pull;
     let mut all = after_pull(slots, pull);
-    let mut slot = all[id];
+    let slot = all[id];
     let me = after.me;
-    slot.character = me;
-    all[id] = slot;
+    all[id] = slot.with_character(me);
     all
 }

@@ -2,8 +2,9 @@
 use mathlib.Core.Path.{refl, _∙_, ap}
 use lib.ListN.{length, length-replicate}
 use borrow.Author.Needs.{needs}
+use Rattle.character.specs.Slot.{emptySlot}
 use Rattle.character.specs.Tick.{seats}
-use Rattle.world.specs.World.{emptySlot, fresh}
+use Rattle.world.specs.World.{fresh}
 use Rattle.world.specs.declared.World.{World}
 use Rattle.world_lent.proofs.unread.Statement.{statement}
 use Rattle.world_lent.proofs.unread.Tie as tie

@@ -17,6 +17,9 @@ mul-slot c = search needs
 element-copy-out-slot : tie.Need-element-copy-out-slot
 element-copy-out-slot c = search needs
 
+with-input-requires : tie.Need-with-input-requires
+with-input-requires c κs = search needs
+
 with-slot-requires : tie.Need-with-slot-requires
 with-slot-requires c κs = search needs
 
@@ -26,8 +29,8 @@ accepted-requires c κs = search needs
 returns : tie.Need-returns
 unfolding input
 returns c =
-    let p : c .before .before .before .before .before .place-of .result ≡ placeOf seats (c .before .before .before .before .before .before .args .id) = c .before .before .before .before .before .place-of .ensures ∙ ap (placeOf seats) (toZ-ofZ (c .before .before .before .before .before .before .fits .id)) in
-    simp (← p, lt-ltb _ _ (c .before .before .before .before .if1 .taken), c .before .before .if2 .taken, c .accepted .ensures, c .before .with-slot .ensures)
+    let p : c .before .before .before .before .before .before .place-of .result ≡ placeOf seats (c .before .before .before .before .before .before .before .args .id) = c .before .before .before .before .before .before .place-of .ensures ∙ ap (placeOf seats) (toZ-ofZ (c .before .before .before .before .before .before .before .fits .id)) in
+    simp (← p, lt-ltb _ _ (c .before .before .before .before .before .if1 .taken), c .before .before .before .if2 .taken, c .accepted .ensures, c .before .with-slot .ensures, c .before .before .with-input .ensures)
 
 refused-requires : tie.Need-refused-requires
 refused-requires c κs = search needs
@@ -54,6 +57,7 @@ input-spec =
     place-of-requires
     mul-slot
     element-copy-out-slot
+    with-input-requires
     with-slot-requires
     accepted-requires
     returns

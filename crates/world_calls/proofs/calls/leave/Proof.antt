@@ -17,11 +17,8 @@ mul-slot c = search needs
 element-copy-out-slot : tie.Need-element-copy-out-slot
 element-copy-out-slot c = search needs
 
-empty-slot-requires : tie.Need-empty-slot-requires
-empty-slot-requires c κs = search needs
-
-with-slot-requires : tie.Need-with-slot-requires
-with-slot-requires c κs = search needs
+vacate-requires : tie.Need-vacate-requires
+vacate-requires c κs = search needs
 
 accepted-requires : tie.Need-accepted-requires
 accepted-requires c κs = search needs
@@ -29,8 +26,8 @@ accepted-requires c κs = search needs
 returns : tie.Need-returns
 unfolding leave
 returns c =
-    let p : c .before .before .before .before .before .before .place-of .result ≡ placeOf seats (c .before .before .before .before .before .before .before .args .id) = c .before .before .before .before .before .before .place-of .ensures ∙ ap (placeOf seats) (toZ-ofZ (c .before .before .before .before .before .before .before .fits .id)) in
-    simp (← p, lt-ltb _ _ (c .before .before .before .before .before .if1 .taken), c .before .before .before .if2 .taken, c .accepted .ensures, c .before .with-slot .ensures, c .before .before .empty-slot .ensures)
+    let p : c .before .before .before .before .before .place-of .result ≡ placeOf seats (c .before .before .before .before .before .before .args .id) = c .before .before .before .before .before .place-of .ensures ∙ ap (placeOf seats) (toZ-ofZ (c .before .before .before .before .before .before .fits .id)) in
+    simp (← p, lt-ltb _ _ (c .before .before .before .before .if1 .taken), c .before .before .if2 .taken, c .accepted .ensures, c .before .vacate .ensures)
 
 refused-requires : tie.Need-refused-requires
 refused-requires c κs = search needs
@@ -57,8 +54,7 @@ leave-spec =
     place-of-requires
     mul-slot
     element-copy-out-slot
-    empty-slot-requires
-    with-slot-requires
+    vacate-requires
     accepted-requires
     returns
     refused-requires

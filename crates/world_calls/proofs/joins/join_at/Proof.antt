@@ -30,11 +30,8 @@ returns-2 : tie.Need-returns-2
 unfolding joinAt
 returns-2 c = simp (← c .before .before .before .before .before .new .ensures, ← c .before .before .before .before .check-box .ensures, c .before .before .before .if1 .left, c .before .if2 .taken, ← c .refused2 .ensures)
 
-spawn-requires : tie.Need-spawn-requires
-spawn-requires c κs = search needs
-
-no-input-requires : tie.Need-no-input-requires
-no-input-requires c κs = search needs
+joined-requires : tie.Need-joined-requires
+joined-requires c κs = search needs
 
 with-slot-requires : tie.Need-with-slot-requires
 with-slot-requires c κs = search needs
@@ -44,7 +41,7 @@ accepted-requires c κs = search needs
 
 returns-3 : tie.Need-returns-3
 unfolding joinAt
-returns-3 c = simp (← c .before .before .before .before .before .before .before .before .new .ensures, ← c .before .before .before .before .before .before .before .check-box .ensures, c .before .before .before .before .before .before .if1 .left, c .before .before .before .before .if2 .left, c .accepted .ensures, c .before .with-slot .ensures, c .before .before .no-input .ensures, c .before .before .before .spawn .ensures)
+returns-3 c = simp (← c .before .before .before .before .before .before .before .new .ensures, ← c .before .before .before .before .before .before .check-box .ensures, c .before .before .before .before .before .if1 .left, c .before .before .before .if2 .left, c .accepted .ensures, c .before .with-slot .ensures, c .before .before .joined .ensures)
 
 pub join-at-spec : {M : Type 1} → statement M
 join-at-spec =
@@ -58,8 +55,7 @@ join-at-spec =
     element-copy-out-slot
     refused-requires-2
     returns-2
-    spawn-requires
-    no-input-requires
+    joined-requires
     with-slot-requires
     accepted-requires
     returns-3)

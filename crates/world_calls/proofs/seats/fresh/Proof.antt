@@ -4,15 +4,15 @@ use borrow.Author.Needs.{needs}
 use Rattle.world_calls.proofs.seats.fresh.Statement.{statement}
 use Rattle.world_calls.proofs.seats.fresh.Tie as tie
 
-empty-slot-requires : tie.Need-empty-slot-requires
-empty-slot-requires c κs = search needs
+empty-requires : tie.Need-empty-requires
+empty-requires c κs = search needs
 
 fresh-tunings-requires : tie.Need-fresh-tunings-requires
 fresh-tunings-requires c κs = search needs
 
 returns : tie.Need-returns
 unfolding fresh
-returns c = simp (c .before .empty-slot .ensures, c .fresh-tunings .ensures)
+returns c = simp (c .before .empty .ensures, c .fresh-tunings .ensures)
 
 pub fresh-spec : {M : Type 1} → statement M
-fresh-spec = tie.close (tie.spec empty-slot-requires fresh-tunings-requires returns)
+fresh-spec = tie.close (tie.spec empty-requires fresh-tunings-requires returns)

@@ -43,6 +43,12 @@ readable-requires c κs = search needs
 from-net-requires : tie.Need-from-net-requires
 from-net-requires c κs = search needs
 
+joined-requires : tie.Need-joined-requires
+joined-requires c κs = search needs
+
+with-character-requires : tie.Need-with-character-requires
+with-character-requires c κs = search needs
+
 sub-input-of : tie.Need-sub-input-of
 sub-input-of c = search needs
 
@@ -55,25 +61,29 @@ part-input-of-end c = search needs
 input-of-requires : tie.Need-input-of-requires
 input-of-requires c κs = search needs
 
-empty-slot-requires : tie.Need-empty-slot-requires
-empty-slot-requires c κs = search needs
+with-input-requires : tie.Need-with-input-requires
+with-input-requires c κs = search needs
+
+empty-requires : tie.Need-empty-requires
+empty-requires c κs = search needs
 
 returns : tie.Need-returns
 unfolding seatOf
 returns c =
-    let s = c .before .before .before .before .before .before .before .before .before .args .seat .now in
-    let z = c .before .before .before .before .before .before .before .is-present in
-    let e : isPresent (numberAt s 0) ≡ true = sym (z .ensures ∙ ap isPresent (again (c .before .before .before .before .before .before .before .before .is-present-arg .given))) ∙ c .before .before .before .before .before .before .if1 .taken in
-    let n = c .before .before .before .before .core-of .ensures ∙ ap coreIn (from 1 s (omega arith)) in
-    let i = c .input-of .ensures ∙ ap inputIn (from recordCount s (omega arith)) in
-    simp (e, ← n, ← c .before .before .before .readable .ensures, ← c .before .before .from-net .ensures, ← i)
+    let s = c .before .before .before .before .before .before .before .before .before .before .before .before .args .seat .now in
+    let room = c .before .before .before .before .before .before .before .before .before .before .before .before .pre in
+    let z = c .before .before .before .before .before .before .before .before .before .before .is-present in
+    let e : isPresent (numberAt s 0) ≡ true = sym (z .ensures ∙ ap isPresent (again (c .before .before .before .before .before .before .before .before .before .before .before .is-present-arg .given))) ∙ c .before .before .before .before .before .before .before .before .before .if1 .taken in
+    let n = c .before .before .before .before .before .before .before .core-of .ensures ∙ ap coreIn (from 1 s (omega arith)) in
+    let i = c .before .input-of .ensures ∙ ap inputIn (from recordCount s (omega arith)) in
+    simp (e, ← n, ← c .before .before .before .before .before .before .readable .ensures, ← c .before .before .before .before .before .from-net .ensures, ← i, c .with-input .ensures, c .before .before .before .with-character .ensures, c .before .before .before .before .joined .ensures)
 
 returns-2 : tie.Need-returns-2
 unfolding seatOf
 returns-2 c =
     let z = c .before .before .is-present in
     let e : isPresent (numberAt (c .before .before .before .before .args .seat .now) 0) ≡ false = sym (z .ensures ∙ ap isPresent (again (c .before .before .before .is-present-arg .given))) ∙ c .before .if1 .left in
-    simp (e, ← c .empty-slot .ensures)
+    simp (e, ← c .empty .ensures)
 
 pub seat-of-spec : {M : Type 1} → statement M
 seat-of-spec =
@@ -87,10 +97,13 @@ seat-of-spec =
     core-of-requires
     readable-requires
     from-net-requires
+    joined-requires
+    with-character-requires
     sub-input-of
     part-input-of-start
     part-input-of-end
     input-of-requires
-    empty-slot-requires
+    with-input-requires
+    empty-requires
     returns
     returns-2)

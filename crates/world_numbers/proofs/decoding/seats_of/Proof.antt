@@ -18,8 +18,8 @@ Inv-loop numbers slots₀ id₀ slots id = (id ≤ seats) × (length slots ≡ s
 abbrev μ-loop : tie.MeasureT-loop
 μ-loop numbers slots₀ id₀ slots id = seats - id
 
-empty-slot-requires : tie.Need-empty-slot-requires Inv-loop μ-loop
-empty-slot-requires c κs = search needs
+empty-requires : tie.Need-empty-requires Inv-loop μ-loop
+empty-requires c κs = search needs
 
 loop-holds : tie.Need-loop-holds Inv-loop μ-loop
 unfolding seatsOf
@@ -58,7 +58,7 @@ seats-of-spec =
     (tie.spec
     Inv-loop
     μ-loop
-    empty-slot-requires
+    empty-requires
     loop-holds
     seat-at-requires
     mul-slots

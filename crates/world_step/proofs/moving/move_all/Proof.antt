@@ -78,17 +78,20 @@ enum-known-core c = search needs
 from-net-requires : tie.Need-from-net-requires Inv-loop μ-loop
 from-net-requires c κs = search needs
 
+with-character-requires : tie.Need-with-character-requires Inv-loop μ-loop
+with-character-requires c κs = search needs
+
 mul-all : tie.Need-mul-all Inv-loop μ-loop
-mul-all c = search needs
+mul-all c = omega (arith, c .before .before .before .before .before .before .before .before .before .before .loop-test .taken)
 
 array-set-from-all : tie.Need-array-set-from-all Inv-loop μ-loop
-array-set-from-all c = omega (arith, c .before .before .before .before .before .before .before .before .before .loop-test .taken)
+array-set-from-all c = omega (arith, c .before .before .before .before .before .before .before .before .before .before .loop-test .taken)
 
 mul-records : tie.Need-mul-records Inv-loop μ-loop
-mul-records c = search needs
+mul-records c = omega (arith, c .before .before .before .before .before .before .before .before .before .before .loop-test .taken)
 
 array-set-from-records : tie.Need-array-set-from-records Inv-loop μ-loop
-array-set-from-records c = omega arith
+array-set-from-records c = omega (arith, c .before .before .before .before .before .before .before .before .before .before .loop-test .taken)
 
 add-j : tie.Need-add-j Inv-loop μ-loop
 add-j c = omega arith
@@ -101,7 +104,7 @@ loop-again c =
     let a = c .before .before .before .before .before .before .args in
     let l = c .before .before .before .loop in
     turn-on (l .inv) (c .before .before .loop-test .taken)
-    (⊎-elim (λ w. records (a .sides) (a .tiles .now) (a .tuning) (l .j) (l .all) (l .records) (w .5 .given .0 .0) _ _ (w .0 .taken) (ap recordOf (sym (w .2 .ensures)) ∙ sym (w .3 .ensures) ∙ w .5 .given .1) (w .8 ∙ ap (putBack (l .all) (l .j)) (w .7 .ensures)) (w .9)) (λ w. nobody (a .sides) (a .tiles .now) (a .tuning) (l .j) (l .all) (l .records) _ _ (w .0 .left) (w .1) (w .2)) (c .if1 .came))
+    (⊎-elim (λ w. records (a .sides) (a .tiles .now) (a .tuning) (l .j) (l .all) (l .records) (w .5 .given .0 .0) _ _ (w .0 .taken) (ap recordOf (sym (w .2 .ensures)) ∙ sym (w .3 .ensures) ∙ w .5 .given .1) (w .9 ∙ ap (set (l .all) (l .j)) (w .8 .ensures) ∙ ap (putBack (l .all) (l .j)) (w .7 .ensures)) (w .10)) (λ w. nobody (a .sides) (a .tiles .now) (a .tuning) (l .j) (l .all) (l .records) _ _ (w .0 .left) (w .1) (w .2)) (c .if1 .came))
 
 returns-2 : tie.Need-returns-2 Inv-loop μ-loop
 returns-2 c = sym (ap (movesOf (movingFrom seats (c .before .before .before .before .args .slots))) (turn-end (c .before .loop .inv) (c .loop-test .left)))
@@ -122,6 +125,7 @@ move-all-spec =
     returns
     enum-known-core
     from-net-requires
+    with-character-requires
     mul-all
     array-set-from-all
     mul-records

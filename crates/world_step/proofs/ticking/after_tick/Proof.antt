@@ -13,6 +13,9 @@ mul-slot c = search needs
 array-copy-out-slot : tie.Need-array-copy-out-slot
 array-copy-out-slot c = search needs
 
+with-character-requires : tie.Need-with-character-requires
+with-character-requires c κs = search needs
+
 mul-all : tie.Need-mul-all
 mul-all c = search needs
 
@@ -20,9 +23,9 @@ array-set-from-all : tie.Need-array-set-from-all
 array-set-from-all c = search needs
 
 returns : tie.Need-returns
-returns c = simp (← c .before .before .after-pull .ensures)
+returns c = simp (c .with-character .ensures, ← c .before .before .before .after-pull .ensures)
 
 pub after-tick-spec : {M : Type 1} → statement M
 after-tick-spec =
     tie.close
-    (tie.spec after-pull-requires mul-slot array-copy-out-slot mul-all array-set-from-all returns)
+    (tie.spec after-pull-requires mul-slot array-copy-out-slot with-character-requires mul-all array-set-from-all returns)

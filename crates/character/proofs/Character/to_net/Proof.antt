@@ -1,8 +1,8 @@
--- `character::to_record::to_net` meets its contract. Assumes nothing.
+-- `character::Character::to_net` meets its contract. Assumes nothing.
 use borrow.Author.Needs.{needs}
 use borrow.Author.Tests.{lt-leb, le-leb}
-use Rattle.character.proofs.to_record.to_net.Statement.{statement}
-use Rattle.character.proofs.to_record.to_net.Tie as tie
+use Rattle.character.proofs.Character.to_net.Statement.{statement}
+use Rattle.character.proofs.Character.to_net.Tie as tie
 use Rattle.character.specs.Records.{toNet}
 
 tick-requires : tie.Need-tick-requires

@@ -1,8 +1,8 @@
--- `character::from_record::quantize` meets its contract. Assumes nothing.
+-- `character::Character::quantize` meets its contract. Assumes nothing.
 use borrow.Author.Needs.{needs}
 use Rattle.character.specs.Records.{quantize}
-use Rattle.character.proofs.from_record.quantize.Statement.{statement}
-use Rattle.character.proofs.from_record.quantize.Tie as tie
+use Rattle.character.proofs.Character.quantize.Statement.{statement}
+use Rattle.character.proofs.Character.quantize.Tie as tie
 
 to-net-requires : tie.Need-to-net-requires
 to-net-requires c κs = search needs

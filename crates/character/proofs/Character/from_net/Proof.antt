@@ -1,9 +1,9 @@
--- `character::from_record::from_net` meets its contract. Assumes nothing.
+-- `character::Character::from_net` meets its contract. Assumes nothing.
 use borrow.Author.Needs.{needs}
 use Rattle.num_convert.proofs.Signed.{read}
 use Rattle.character.specs.Records.{fromNet}
-use Rattle.character.proofs.from_record.from_net.Statement.{statement}
-use Rattle.character.proofs.from_record.from_net.Tie as tie
+use Rattle.character.proofs.Character.from_net.Statement.{statement}
+use Rattle.character.proofs.Character.from_net.Tie as tie
 
 whole-pair-requires : tie.Need-whole-pair-requires
 whole-pair-requires c κs = search needs

@@ -1,0 +1,16 @@
+-- `world_calls::seats::vacate` meets its contract. Assumes nothing.
+use borrow.Author.Needs.{needs}
+use Rattle.world_calls.proofs.seats.vacate.Statement.{statement}
+use Rattle.world_calls.proofs.seats.vacate.Tie as tie
+
+empty-requires : tie.Need-empty-requires
+empty-requires c κs = search needs
+
+with-slot-requires : tie.Need-with-slot-requires
+with-slot-requires c κs = search needs
+
+returns : tie.Need-returns
+returns c = simp (c .with-slot .ensures, c .before .empty .ensures)
+
+pub vacate-spec : {M : Type 1} → statement M
+vacate-spec = tie.close (tie.spec empty-requires with-slot-requires returns)
