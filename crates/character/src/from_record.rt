@@ -13,7 +13,7 @@ use num_vec2::vec2;
 ghost use mathlib.Core.Path.{_≡_};
 ghost use Rattle.num_convert.specs.Convert.{i32ToF32, from256ths};
 ghost use Rattle.num_vec2.specs.Vec2.{vnew};
-ghost use Rattle.character.specs.Records.{usedAirjumpFromNet, jumpedAlreadyFromNet, fromNet, quantize};
+ghost use Rattle.character.specs.Records.{usedAirjumpFromNet, jumpedAlreadyFromNet, fromNet, quantize, toNet, netNumber, quantizedNumber};
 
 fn used_airjump_from_net(jumped: i32) -> bool
     ensures { λ r. ⌜ r ≡ usedAirjumpFromNet jumped ⌝ }
@@ -61,7 +61,7 @@ impl Character {
     }
 
     pub fn quantize(self) -> Quantized
-        ensures { λ r. ⌜ r ≡ quantize self ⌝ }
+        ensures { λ r. ⌜ (r ≡ quantize self) × (quantizedNumber r ≡ netNumber (toNet self)) ⌝ }
     {
         let net = self.to_net();
         match net {

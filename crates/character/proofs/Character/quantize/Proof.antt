@@ -18,11 +18,11 @@ from-net-requires c κs = search needs
 
 returns : tie.Need-returns
 unfolding quantize
-returns c = simp (← c .before .before .to-net .ensures, c .enum-told .given .1)
+returns c = (simp (← c .before .before .to-net .ensures, c .enum-told .given .1), simp (← c .before .before .to-net .ensures, c .enum-told .given .1))
 
 returns-2 : tie.Need-returns-2
 unfolding quantize
-returns-2 c = simp (← c .before .before .before .before .to-net .ensures, c .before .before .net .given .1, ← c .from-net .ensures)
+returns-2 c = (simp (← c .before .before .before .before .to-net .ensures, c .before .before .net .given .1, ← c .from-net .ensures), simp (← c .before .before .before .before .to-net .ensures, c .before .before .net .given .1))
 
 pub quantize-spec : {M : Type 1} → statement M
 quantize-spec =
