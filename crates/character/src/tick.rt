@@ -6,11 +6,6 @@ use character_hook::CharacterId;
 use character_hook::Hook;
 use character_hook::Nearest;
 use character_hook::Way;
-use character_hook::dragged;
-use character_hook::fire_at_target;
-use character_hook::flown;
-use character_hook::grab;
-use character_hook::hold;
 use character_hook::nearer;
 use character_motion::HookPull;
 use character_motion::JumpState;
@@ -106,7 +101,7 @@ impl Character {
         let steered = self.steer(grounded(sides, tiles, pos), input, tuning);
         let fired = steered.hook;
         let flight = caught(
-            flown(fired, pos, sides, tiles, tuning),
+            fired.flown(pos, sides, tiles, tuning),
             id,
             slots,
             tuning.player_hooking,
@@ -123,8 +118,8 @@ impl Character {
     {
         let pos = self.pos;
         let direction = self.move_direction;
-        let vel = dragged(hook, pos, self.vel, direction, tuning);
-        let held = hold(hook);
+        let vel = hook.dragged(pos, self.vel, direction, tuning);
+        let held = hook.hold();
         let met = meet_all(slots, id, pos, vel, held, tuning);
         let clamped = clamp_speed(met);
         let pull = pull_of(slots, id, pos, held, tuning);
@@ -146,7 +141,7 @@ impl Character {
             used_airjump: self.used_airjump,
         };
         let jumped = jump(before, jumps(input), grounded, tuning);
-        let hook = fire_at_target(idle, pos, input);
+        let hook = idle.fire_at_target(pos, input);
         let vel_x = walk(self.vel.x, direction, control_of(grounded, tuning));
         Character {
             pos: pos,
@@ -187,7 +182,7 @@ fn caught(way: Way, id: usize, slots: [Slot; SEATS], player_hooking: f32) -> Hoo
         Way::Still(hook) => HookFlight::To(hook),
         Way::Along(from, to, hook) => {
             if player_hooking != 0.0 {
-                return HookFlight::To(grab(hook, nearest(slots, id, from, to)));
+                return HookFlight::To(hook.grab(nearest(slots, id, from, to)));
             }
             HookFlight::To(hook)
         },

@@ -9,14 +9,16 @@ ghost use Rattle.character_hook.specs.Dragging.{lifted, helped, hookVel,
 // Where a hook is nearer, it does not drag.
 pub const DISABLE_HOOK_DISTANCE: f32 = 46.0;
 
-// The velocity of a character whose hook is attached, where it is.
-pub fn dragged(hook: Hook, pos: vec2, vel: vec2, direction: MoveDirection, tuning: Tuning) -> vec2
-    ensures { λ r. ⌜ r ≡ dragged hook pos vel direction tuning ⌝ }
-{
-    let Hook::Attached(hook_pos) = hook else {
-        return vel;
-    };
-    drag(pos, vel, hook_pos, direction, tuning)
+impl Hook {
+    // The velocity of a character whose hook is attached, where it is.
+    pub fn dragged(self, pos: vec2, vel: vec2, direction: MoveDirection, tuning: Tuning) -> vec2
+        ensures { λ r. ⌜ r ≡ dragged self pos vel direction tuning ⌝ }
+    {
+        let Hook::Attached(hook_pos) = self else {
+            return vel;
+        };
+        drag(pos, vel, hook_pos, direction, tuning)
+    }
 }
 
 // The velocity that a hook at hook_pos drags to.

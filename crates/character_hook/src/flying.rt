@@ -1,9 +1,6 @@
 // What the button does to a hook in a tick, how far it flies, and what it strikes on its way.
 use crate::hook::Hook;
-use crate::hooking::fire;
 use crate::hooking::fly;
-use crate::hooking::retract;
-use crate::hooking::strike;
 use game_input::hooks;
 use game_input::target_dir;
 use game_records::PlayerInput;
@@ -26,33 +23,35 @@ pub enum Way {
     Along(vec2, vec2, Hook),
 }
 
-// The hook's button. Most ticks fire nothing: the target's direction, a root, is found only for a hook that is fired.
-pub fn fire_at_target(hook: Hook, pos: vec2, input: PlayerInput) -> Hook
-    ensures { λ r. ⌜ r ≡ fire hook (hooks input) pos (targetDir input) ⌝ }
-{
-    if hooks(input) {
-        let Hook::Idle = hook else {
-            return hook;
-        };
-        return fire(hook, true, pos, target_dir(input));
+impl Hook {
+    // The hook's button. Most ticks fire nothing: the target's direction, a root, is found only for a hook that is fired.
+    pub fn fire_at_target(self, pos: vec2, input: PlayerInput) -> Hook
+        ensures { λ r. ⌜ r ≡ fire self (hooks input) pos (targetDir input) ⌝ }
+    {
+        if hooks(input) {
+            let Hook::Idle = self else {
+                return self;
+            };
+            return self.fire(true, pos, target_dir(input));
+        }
+        Hook::Idle
     }
-    Hook::Idle
-}
 
-// A hook that isn't flying leaves early. One that is goes its way, and may strike a tile on it.
-pub fn flown(hook: Hook, pos: vec2, sides: Sides, tiles: &[u8], tuning: Tuning) -> Way
-    requires { ⌜ T (isMap sides (now tiles)) ⌝ }
-    ensures { λ r. ⌜ r ≡ flown hook pos sides (now (tiles .entry)) tuning ⌝ }
-{
-    let Hook::Flying(from, dir) = hook else {
-        return Way::Still(retract(hook));
-    };
-    let flight = fly(from, dir, pos, tuning);
-    let to = flight.to;
-    let flying = flight.hook;
-    let check = walk_line(sides, tiles, from, to);
-    if let LineCheck::TooFar = check {
-        return Way::TooFar;
+    // A hook that isn't flying leaves early. One that is goes its way, and may strike a tile on it.
+    pub fn flown(self, pos: vec2, sides: Sides, tiles: &[u8], tuning: Tuning) -> Way
+        requires { ⌜ T (isMap sides (now tiles)) ⌝ }
+        ensures { λ r. ⌜ r ≡ flown self pos sides (now (tiles .entry)) tuning ⌝ }
+    {
+        let Hook::Flying(from, dir) = self else {
+            return Way::Still(self.retract());
+        };
+        let flight = fly(from, dir, pos, tuning);
+        let to = flight.to;
+        let flying = flight.hook;
+        let check = walk_line(sides, tiles, from, to);
+        if let LineCheck::TooFar = check {
+            return Way::TooFar;
+        }
+        Way::Along(from, to, flying.strike(check))
     }
-    Way::Along(from, to, strike(flying, check))
 }

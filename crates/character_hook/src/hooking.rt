@@ -18,14 +18,65 @@ pub struct Flight {
     pub hook: Hook,
 }
 
-// A pressed button fires an idle hook, a released one takes any hook back.
-pub fn fire(hook: Hook, pressed: bool, pos: vec2, target_dir: vec2) -> Hook
-    ensures { λ r. ⌜ r ≡ fire hook pressed pos «target_dir» ⌝ }
-{
-    if pressed {
-        return fired(hook, pos, target_dir);
+impl Hook {
+    // A pressed button fires an idle hook, a released one takes any hook back.
+    pub fn fire(self, pressed: bool, pos: vec2, target_dir: vec2) -> Hook
+        ensures { λ r. ⌜ r ≡ fire self pressed pos «target_dir» ⌝ }
+    {
+        if pressed {
+            return fired(self, pos, target_dir);
+        }
+        Hook::Idle
     }
-    Hook::Idle
+
+    // What the tiles on the way make of it, also where it has reached its length.
+    pub fn strike(self, check: LineCheck) -> Hook
+        ensures { λ r. ⌜ r ≡ strike self check ⌝ }
+    {
+        let LineCheck::At(p, tile) = check else {
+            return self;
+        };
+        match tile {
+            Tile::Open => self,
+            Tile::Normal => Hook::Attached(p),
+            Tile::Unhookable => Hook::Retracting0(p),
+        }
+    }
+
+    // Whoever is met is grabbed.
+    pub fn grab(self, nearest: Nearest) -> Hook
+        ensures { λ r. ⌜ r ≡ grab self nearest ⌝ }
+    {
+        let Nearest::At(_, cid) = nearest else {
+            return self;
+        };
+        Hook::Grabbed(cid, 0)
+    }
+
+    // A hook that comes back does so in three ticks.
+    pub fn retract(self) -> Hook
+        ensures { λ r. ⌜ r ≡ retract self ⌝ }
+    {
+        match self {
+            Hook::Retracting0(pos) => Hook::Retracting1(pos),
+            Hook::Retracting1(pos) => Hook::Retracting2(pos),
+            Hook::Retracting2(_) => Hook::Retracted,
+            _ => self,
+        }
+    }
+
+    // One more tick of holding somebody, the one in which it began included. The largest tick can't be counted up: it is beyond the time.
+    pub fn hold(self) -> Hook
+        ensures { λ r. ⌜ r ≡ hold self ⌝ }
+    {
+        let Hook::Grabbed(hooked, tick) = self else {
+            return self;
+        };
+        if tick >= MAX_HOOK_GRAB_TIME {
+            return Hook::Retracted;
+        }
+        Hook::Grabbed(hooked, tick + 1)
+    }
 }
 
 fn fired(hook: Hook, pos: vec2, target_dir: vec2) -> Hook
@@ -52,20 +103,6 @@ pub fn fly(pos: vec2, dir: vec2, character: vec2, tuning: Tuning) -> Flight
     Flight {
         to: new_pos,
         hook: Hook::Flying(new_pos, dir),
-    }
-}
-
-// What the tiles on the way make of it, also where it has reached its length.
-pub fn strike(hook: Hook, check: LineCheck) -> Hook
-    ensures { λ r. ⌜ r ≡ strike hook check ⌝ }
-{
-    let LineCheck::At(p, tile) = check else {
-        return hook;
-    };
-    match tile {
-        Tile::Open => hook,
-        Tile::Normal => Hook::Attached(p),
-        Tile::Unhookable => Hook::Retracting0(p),
     }
 }
 
@@ -96,39 +133,4 @@ fn closer(best: Nearest, cid: CharacterId, distance: f32) -> Nearest
         return best;
     }
     Nearest::At(distance, cid)
-}
-
-// Whoever is met is grabbed.
-pub fn grab(hook: Hook, nearest: Nearest) -> Hook
-    ensures { λ r. ⌜ r ≡ grab hook nearest ⌝ }
-{
-    let Nearest::At(_, cid) = nearest else {
-        return hook;
-    };
-    Hook::Grabbed(cid, 0)
-}
-
-// A hook that comes back does so in three ticks.
-pub fn retract(hook: Hook) -> Hook
-    ensures { λ r. ⌜ r ≡ retract hook ⌝ }
-{
-    match hook {
-        Hook::Retracting0(pos) => Hook::Retracting1(pos),
-        Hook::Retracting1(pos) => Hook::Retracting2(pos),
-        Hook::Retracting2(_) => Hook::Retracted,
-        _ => hook,
-    }
-}
-
-// One more tick of holding somebody, the one in which it began included. The largest tick can't be counted up: it is beyond the time.
-pub fn hold(hook: Hook) -> Hook
-    ensures { λ r. ⌜ r ≡ hold hook ⌝ }
-{
-    let Hook::Grabbed(hooked, tick) = hook else {
-        return hook;
-    };
-    if tick >= MAX_HOOK_GRAB_TIME {
-        return Hook::Retracted;
-    }
-    Hook::Grabbed(hooked, tick + 1)
 }

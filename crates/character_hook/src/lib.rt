@@ -4,13 +4,8 @@ mod flying;
 mod hook;
 mod hooking;
 
-pub use dragging::dragged;
 pub use flying::Way;
-pub use flying::fire_at_target;
-pub use flying::flown;
 pub use hook::CharacterId;
 pub use hook::Hook;
 pub use hooking::Nearest;
-pub use hooking::grab;
-pub use hooking::hold;
 pub use hooking::nearer;

@@ -1,8 +1,8 @@
--- `character_hook::hooking::grab` meets its contract. Assumes nothing.
+-- `character_hook::hook::Hook::grab` meets its contract. Assumes nothing.
 use borrow.Author.Needs.{needs}
 use Rattle.character_hook.specs.Hooking.{grab}
-use Rattle.character_hook.proofs.hooking.grab.Statement.{statement}
-use Rattle.character_hook.proofs.hooking.grab.Tie as tie
+use Rattle.character_hook.proofs.hook.Hook.grab.Statement.{statement}
+use Rattle.character_hook.proofs.hook.Hook.grab.Tie as tie
 
 enum-known-nearest : tie.Need-enum-known-nearest
 enum-known-nearest c = search needs

@@ -1,8 +1,8 @@
--- `character_hook::hooking::fire` meets its contract. Assumes nothing.
+-- `character_hook::hook::Hook::fire` meets its contract. Assumes nothing.
 use borrow.Author.Needs.{needs}
 use Rattle.character_hook.specs.Hooking.{fire}
-use Rattle.character_hook.proofs.hooking.fire.Statement.{statement}
-use Rattle.character_hook.proofs.hooking.fire.Tie as tie
+use Rattle.character_hook.proofs.hook.Hook.fire.Statement.{statement}
+use Rattle.character_hook.proofs.hook.Hook.fire.Tie as tie
 
 fired-requires : tie.Need-fired-requires
 fired-requires c κs = search needs

@@ -1,13 +1,13 @@
--- `character_hook::flying::flown` meets its contract. Assumes nothing.
+-- `character_hook::hook::Hook::flown` meets its contract. Assumes nothing.
 use borrow.Author.Needs.{needs}
 use Rattle.character_hook.proofs.TooFar.{not-too-far}
 use Rattle.character_hook.specs.Flying.{flown}
 use Rattle.character_hook.proofs.Variants.{not-flying}
-use Rattle.character_hook.proofs.flying.flown.Statement.{statement}
-use Rattle.character_hook.proofs.flying.flown.Tie as tie
+use Rattle.character_hook.proofs.hook.Hook.flown.Statement.{statement}
+use Rattle.character_hook.proofs.hook.Hook.flown.Tie as tie
 
-enum-known-hook : tie.Need-enum-known-hook
-enum-known-hook c = search needs
+enum-known-self : tie.Need-enum-known-self
+enum-known-self c = search needs
 
 retract-requires : tie.Need-retract-requires
 retract-requires c κs = search needs
@@ -27,20 +27,20 @@ enum-told c = search needs
 
 returns-2 : tie.Need-returns-2
 unfolding flown
-returns-2 c = simp (c .before .before .before .before .before .before .hook .given .1, ← c .before .before .before .before .fly .ensures, ← c .before .before .walk-line .ensures, c .enum-told .given .1)
+returns-2 c = simp (c .before .before .before .before .before .before .self .given .1, ← c .before .before .before .before .fly .ensures, ← c .before .before .walk-line .ensures, c .enum-told .given .1)
 
 strike-requires : tie.Need-strike-requires
 strike-requires c κs = search needs
 
 returns-3 : tie.Need-returns-3
 unfolding flown
-returns-3 c = simp (c .before .before .before .before .before .before .hook .given .1, ← c .before .before .before .before .fly .ensures, ← c .before .before .walk-line .ensures, not-too-far (c .before .before .walk-line .result) (c .before .match2 .keys2), ← c .strike .ensures)
+returns-3 c = simp (c .before .before .before .before .before .before .self .given .1, ← c .before .before .before .before .fly .ensures, ← c .before .before .walk-line .ensures, not-too-far (c .before .before .walk-line .result) (c .before .match2 .keys2), ← c .strike .ensures)
 
 pub flown-spec : {M : Type 1} → statement M
 flown-spec =
     tie.close
     (tie.spec
-    enum-known-hook
+    enum-known-self
     retract-requires
     returns
     fly-requires

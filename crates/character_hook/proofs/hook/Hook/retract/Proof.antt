@@ -1,26 +1,26 @@
--- `character_hook::hooking::retract` meets its contract. Assumes nothing.
+-- `character_hook::hook::Hook::retract` meets its contract. Assumes nothing.
 use borrow.Author.Needs.{needs}
 use Rattle.character_hook.proofs.Unchanged.{not-retracting}
 use Rattle.character_hook.specs.Hooking.{retract}
-use Rattle.character_hook.proofs.hooking.retract.Statement.{statement}
-use Rattle.character_hook.proofs.hooking.retract.Tie as tie
+use Rattle.character_hook.proofs.hook.Hook.retract.Statement.{statement}
+use Rattle.character_hook.proofs.hook.Hook.retract.Tie as tie
 
-enum-known-hook : tie.Need-enum-known-hook
-enum-known-hook c = search needs
+enum-known-self : tie.Need-enum-known-self
+enum-known-self c = search needs
 
-enum-known-hook-2 : tie.Need-enum-known-hook-2
-enum-known-hook-2 c = search needs
+enum-known-self-2 : tie.Need-enum-known-self-2
+enum-known-self-2 c = search needs
 
 enum-told : tie.Need-enum-told
 enum-told c = search needs
 
 returns : tie.Need-returns
 unfolding retract
-returns c = simp (c .before .hook .given .1)
+returns c = simp (c .before .self .given .1)
 
 returns-2 : tie.Need-returns-2
 unfolding retract
-returns-2 c = simp (c .before .hook2 .given .1)
+returns-2 c = simp (c .before .self2 .given .1)
 
 returns-3 : tie.Need-returns-3
 unfolding retract
@@ -33,4 +33,4 @@ returns-4 c = not-retracting _ (c .match .keys4)
 pub retract-spec : {M : Type 1} → statement M
 retract-spec =
     tie.close
-    (tie.spec enum-known-hook enum-known-hook-2 enum-told returns returns-2 returns-3 returns-4)
+    (tie.spec enum-known-self enum-known-self-2 enum-told returns returns-2 returns-3 returns-4)

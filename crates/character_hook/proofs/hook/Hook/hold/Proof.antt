@@ -1,4 +1,4 @@
--- `character_hook::hooking::hold` meets its contract. Assumes nothing.
+-- `character_hook::hook::Hook::hold` meets its contract. Assumes nothing.
 use mathlib.Core.Path.{_≡_}
 use Prim.Native.Nat.{ℕ, _+_, _≤_, _<_}
 use native.Mathlib.Omega.{arith}
@@ -9,11 +9,11 @@ use Rattle.character_hook.specs.declared.hook.CharacterId.{CharacterId}
 use Rattle.character_hook.specs.declared.hook.Hook.{Hook}
 use Rattle.character_hook.specs.declared.hook.Hook.the-variants.{Retracted, Grabbed}
 use Rattle.character_hook.specs.Hooking.{maxHookGrabTime, hold}
-use Rattle.character_hook.proofs.hooking.hold.Statement.{statement}
-use Rattle.character_hook.proofs.hooking.hold.Tie as tie
+use Rattle.character_hook.proofs.hook.Hook.hold.Statement.{statement}
+use Rattle.character_hook.proofs.hook.Hook.hold.Tie as tie
 
-enum-known-hook : tie.Need-enum-known-hook
-enum-known-hook c = search needs
+enum-known-self : tie.Need-enum-known-self
+enum-known-self c = search needs
 
 full : (h : Hook) (c : CharacterId) (t : ℕ) → h ≡ Grabbed c t → maxHookGrabTime ≤ t → Retracted ≡ hold h
 unfolding hold
@@ -28,13 +28,13 @@ unfolding hold
 returns c = rw (not-grabbed _ _ _ (c .match .keys2))
 
 returns-2 : tie.Need-returns-2
-returns-2 c = full _ _ _ (c .before .before .hook .given .1) (c .if1 .taken)
+returns-2 c = full _ _ _ (c .before .before .self .given .1) (c .if1 .taken)
 
 add-t5 : tie.Need-add-t5
 add-t5 c = search needs
 
 returns-3 : tie.Need-returns-3
-returns-3 c = counted _ _ _ (c .before .before .hook .given .1) (c .if1 .left)
+returns-3 c = counted _ _ _ (c .before .before .self .given .1) (c .if1 .left)
 
 pub hold-spec : {M : Type 1} → statement M
-hold-spec = tie.close (tie.spec enum-known-hook returns returns-2 add-t5 returns-3)
+hold-spec = tie.close (tie.spec enum-known-self returns returns-2 add-t5 returns-3)

@@ -1,15 +1,15 @@
--- `character_hook::hooking::strike` meets its contract. Assumes nothing.
+-- `character_hook::hook::Hook::strike` meets its contract. Assumes nothing.
 use borrow.Author.Needs.{needs}
 use Rattle.character_hook.proofs.Unchanged.{not-struck}
 use Rattle.character_hook.specs.Hooking.{strike}
-use Rattle.character_hook.proofs.hooking.strike.Statement.{statement}
-use Rattle.character_hook.proofs.hooking.strike.Tie as tie
+use Rattle.character_hook.proofs.hook.Hook.strike.Statement.{statement}
+use Rattle.character_hook.proofs.hook.Hook.strike.Tie as tie
 
 enum-known-check : tie.Need-enum-known-check
 enum-known-check c = search needs
 
 returns : tie.Need-returns
-returns c = not-struck (c .before .args .hook) (c .before .args .check) (c .match .keys2)
+returns c = not-struck (c .before .args .self) (c .before .args .check) (c .match .keys2)
 
 enum-told : tie.Need-enum-told
 enum-told c = search needs

@@ -1,10 +1,10 @@
--- `character_hook::flying::fire_at_target` meets its contract. Assumes nothing.
+-- `character_hook::hook::Hook::fire_at_target` meets its contract. Assumes nothing.
 use borrow.Author.Needs.{needs}
 use Rattle.game_input.specs.Inputs.{hooks}
 use Rattle.character_hook.specs.Hooking.{fire}
 use Rattle.character_hook.proofs.Unchanged.{not-idle}
-use Rattle.character_hook.proofs.flying.fire_at_target.Statement.{statement}
-use Rattle.character_hook.proofs.flying.fire_at_target.Tie as tie
+use Rattle.character_hook.proofs.hook.Hook.fire_at_target.Statement.{statement}
+use Rattle.character_hook.proofs.hook.Hook.fire_at_target.Tie as tie
 
 hooks-requires : tie.Need-hooks-requires
 hooks-requires c κs = search needs
