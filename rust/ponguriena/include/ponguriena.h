@@ -28,7 +28,8 @@ enum {
     PONGURIENA_PRESENT = 7,       /* a join of an id that is present */
     PONGURIENA_ABSENT = 8,        /* an id that is absent */
     PONGURIENA_TOO_FAR = 9,       /* a walk of 65,537 turns or more */
-    PONGURIENA_BAD_LENGTH = 17    /* a buffer of the wrong length; found before all else */
+    PONGURIENA_BAD_LENGTH = 17    /* a buffer of the wrong length; comes before the lower numbers:
+                                     without a world there is no call to decline */
 };
 
 /* Lengths, in numbers. */

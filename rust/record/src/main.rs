@@ -1,4 +1,4 @@
-//! Prints test vectors for the program `float_vectors`. A line is the number
+//! Prints test vectors for the program `test_floats`. A line is the number
 //! that it has for a function, then the argument's and the answer's bits, each
 //! as 8 hex digits.
 

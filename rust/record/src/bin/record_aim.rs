@@ -1,4 +1,4 @@
-//! Prints test vectors for the program `aim_vectors`, after those that
+//! Prints test vectors for the program `test_aim`, after those that
 //! `tools/angle_entries` prints. A line is the number that the program has for a
 //! function, then the bits of the arguments and of the answer, 8 hex digits each
 //! and five in all: 0 where there are fewer.

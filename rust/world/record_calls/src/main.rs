@@ -1,4 +1,4 @@
-//! Prints test vectors for the program `world_vectors`: a call on each line. All
+//! Prints test vectors for the program `test_world`: a call on each line. All
 //! lines have the same length.
 
 use record_calls::all_sequences;

@@ -1,4 +1,4 @@
-//! Prints test vectors for the program `physics_vectors`: ticks and moves with
+//! Prints test vectors for the program `test_physics`: ticks and moves with
 //! the answers of libtw2. All lines have the same length.
 
 mod case;

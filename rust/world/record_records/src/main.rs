@@ -1,4 +1,4 @@
-//! Prints test vectors for the program `records_vectors`: states and records with
+//! Prints test vectors for the program `test_records`: states and records with
 //! what libtw2 makes of them. All lines have the same length.
 
 mod case;

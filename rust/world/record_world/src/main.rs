@@ -1,4 +1,4 @@
-//! Prints test vectors for the program `tiles_vectors`: calls of `check_line` and
+//! Prints test vectors for the program `test_tiles`: calls of `check_line` and
 //! `move_box` with the answers of libtw2. All lines have the same length.
 
 mod boxes;
