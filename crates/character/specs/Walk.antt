@@ -12,7 +12,8 @@ use Rattle.num_vec2.specs.Vec2.{vdistance, vmix}
 use Rattle.num_vec2.specs.declared.vec2.{vec2}
 use Rattle.character_hook.specs.declared.hook.CharacterId.{CharacterId}
 use Rattle.game_refusals.specs.Refusals.{badMap, badId, tooFar}
-use Rattle.map_tiles.specs.Map.{isMap, mostTurns}
+use Rattle.map_tiles.specs.Map.{isMap}
+use Rattle.map_walks.specs.Limit.{mostTurns}
 use Rattle.map_tiles.specs.declared.tiles.Sides.{Sides}
 use Rattle.game_tuning.specs.Tuning.{tuningOf}
 use Rattle.game_tuning.specs.declared.Tuning.{Tuning}

@@ -1,6 +1,7 @@
 -- How an attached hook pulls, in `tick` of lib.rs. Definitions only.
 use mathlib.Core.Bool.{cond}
 use lib.Ieee.{Float, binary32, mul, lt, ofBits}
+use Rattle.game_constants.specs.Constants.{disableHookDistance}
 use Rattle.num_convert.specs.Number.{c0, c0·75}
 use Rattle.num_vec2.specs.Vec2.{vnew, vadd, vsub, vmul, vlength, vnormalize, vdistance}
 use Rattle.num_vec2.specs.declared.vec2.{vec2}
@@ -9,10 +10,6 @@ use Rattle.game_input.specs.declared.direction.MoveDirection.{MoveDirection}
 use Rattle.character_hook.specs.Hook.{onAttached}
 use Rattle.character_hook.specs.declared.hook.Hook.{Hook}
 use Rattle.game_tuning.specs.declared.Tuning.{Tuning}
-
--- DISABLE_HOOK_DISTANCE, 46.0
-abbrev pub disableHookDistance : Float
-disableHookDistance = ofBits binary32 0x4238_0000
 
 -- 0.3 and 0.95
 abbrev pub c0·3 : Float

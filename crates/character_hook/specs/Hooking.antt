@@ -3,7 +3,9 @@ use Prim.Native.Nat.{ℕ, _+_}
 use mathlib.Core.Bool.{Bool, cond}
 use lib.Dec.{ltb}
 use lib.Ieee.{Float, lt}
-use Rattle.num_convert.specs.Number.{characterSize, c1·5}
+use Rattle.game_constants.specs.Constants.{maxHookGrabTime}
+use Rattle.num_convert.specs.Number.{c1·5}
+use Rattle.game_constants.specs.Constants.{characterSize}
 use Rattle.num_vec2.specs.Vec2.{vadd, vsub, vmul, vnormalize, vdistance, closestPointOnLine}
 use Rattle.num_vec2.specs.declared.vec2.{vec2}
 use Rattle.character_hook.specs.Hook.{onGrabbed}
@@ -78,10 +80,6 @@ retract (Attached p) = Attached p
 retract (Retracting0 p) = Retracting1 p
 retract (Retracting1 p) = Retracting2 p
 retract (Retracting2 p) = Retracted
-
--- MAX_HOOK_GRAB_TIME
-abbrev pub maxHookGrabTime : ℕ
-maxHookGrabTime = 60
 
 -- one more tick of holding, up to that
 abbrev pub held : CharacterId → ℕ → Hook

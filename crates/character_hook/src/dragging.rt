@@ -1,13 +1,11 @@
 // What an attached hook does to the velocity of its character.
 use crate::hook::Hook;
+use game_constants::DISABLE_HOOK_DISTANCE;
 use game_input::MoveDirection;
 use game_tuning::Tuning;
 use num_vec2::vec2;
 ghost use mathlib.Core.Path.{_≡_};
 ghost use Rattle.character_hook.specs.Dragging.{lifted, helped, hookVel, drag, dragged};
-
-// Where a hook is nearer, it does not drag.
-pub const DISABLE_HOOK_DISTANCE: f32 = 46.0;
 
 impl Hook {
     // The velocity of a character whose hook is attached, where it is.

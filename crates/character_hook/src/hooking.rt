@@ -1,16 +1,14 @@
 // What becomes of a hook in a tick, and whom it meets on its way.
 use crate::hook::CharacterId;
 use crate::hook::Hook;
+use game_constants::CHARACTER_SIZE;
+use game_constants::MAX_HOOK_GRAB_TIME;
 use game_tuning::Tuning;
 use map_tiles::Tile;
 use map_walks::LineCheck;
-use num_convert::CHARACTER_SIZE;
 use num_vec2::vec2;
 ghost use mathlib.Core.Path.{_≡_};
 ghost use Rattle.character_hook.specs.Hooking.{fired, fire, fly, strike, closer, nearer, grab, retract, hold};
-
-// For how many ticks a hook holds somebody: 1.2 s with 50 ticks a second.
-pub const MAX_HOOK_GRAB_TIME: u32 = 60;
 
 // Where a hook flies to, and what it is there.
 pub struct Flight {

@@ -13,7 +13,7 @@ use Rattle.num_convert.specs.Number.{c0, c1}
 use Rattle.num_convert.specs.Convert.{i32ToF32}
 use Rattle.num_vec2.specs.Vec2.{vnew, vadd, vmul, vlength}
 use Rattle.num_vec2.specs.declared.vec2.{vec2}
-use Rattle.map_tiles.specs.Map.{mostTurns}
+use Rattle.map_walks.specs.Limit.{mostTurns}
 use Rattle.map_tiles.specs.declared.tiles.Sides.{Sides}
 use Rattle.game_tuning.specs.declared.Tuning.{Tuning}
 use Rattle.map_tiles.specs.Box.{checkBox, characterBox}

@@ -21,11 +21,13 @@ use Rattle.game_records.specs.declared.PlayerInput.{PlayerInput}
 use Rattle.map_tiles.specs.declared.tiles.Sides.{Sides}
 use Rattle.game_tuning.specs.Tuning.{tuningAt, tuningOf}
 use Rattle.game_tuning.specs.declared.Tuning.{Tuning}
-use Rattle.character_motion.specs.Controls.{maxVelocity, grounded, controlOf, jump, slowed, walk, clampSpeed}
+use Rattle.character_motion.specs.Controls.{grounded, controlOf, jump, slowed, walk, clampSpeed}
+use Rattle.game_constants.specs.Constants.{maxVelocity}
 use Rattle.character_motion.specs.declared.controls.Control.{Control}
 use Rattle.character_motion.specs.declared.controls.JumpState.{JumpState}
 use Rattle.character_hook.specs.Hooking.{hold}
-use Rattle.character_hook.specs.Dragging.{disableHookDistance, hookVel, drag, dragged}
+use Rattle.character_hook.specs.Dragging.{hookVel, drag, dragged}
+use Rattle.game_constants.specs.Constants.{disableHookDistance}
 use Rattle.character_motion.specs.Meeting as meeting
 use Rattle.character_motion.specs.declared.meeting.HookPull.{HookPull}
 use Rattle.character_motion.specs.declared.meeting.HookPull.the-variants as pull

@@ -10,7 +10,8 @@ use lib.Ieee.Fits.{add-fits}
 use borrow.Author.Tests.{le-ltb}
 use Rattle.num_root.specs.Root.{root, rootOf, isqrt}
 use Rattle.num_root.proofs.Monotone.{root-mono}
-use Rattle.num_convert.specs.Number.{c0, characterSize}
+use Rattle.num_convert.specs.Number.{c0}
+use Rattle.game_constants.specs.Constants.{characterSize}
 use Rattle.num_vec2.specs.declared.vec2.{vec2}
 use Rattle.num_vec2.specs.Vec2.{vsub, vdot, vlength, vdistance}
 use Rattle.character_motion.specs.Touching.{touches}

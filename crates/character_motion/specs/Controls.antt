@@ -3,6 +3,7 @@ use Prim.Native.Nat.{ℕ}
 use mathlib.Core.Bool.{Bool, true, false, cond, _||_}
 use mathlib.Core.List.{List}
 use lib.Ieee.{Float, binary32, neg, mul, lt, ofBits}
+use Rattle.game_constants.specs.Constants.{maxVelocity}
 use Rattle.num_convert.specs.Number.{saturatedAdd}
 use Rattle.num_vec2.specs.Vec2.{vnew, vadd, vmul, vlength, vnormalize}
 use Rattle.num_vec2.specs.declared.vec2.{vec2}
@@ -19,10 +20,6 @@ use Rattle.character_motion.specs.declared.controls.JumpState.{JumpState
 -- 19.0: 5 below half of CHARACTER_SIZE
 abbrev pub c19 : Float
 c19 = ofBits binary32 0x4198_0000
-
--- MAX_VELOCITY, 6000.0
-abbrev pub maxVelocity : Float
-maxVelocity = ofBits binary32 0x45bb_8000
 
 -- whether there is a solid tile 5 below one of the lower corners
 unfoldable pub grounded : Sides → List ℕ → vec2 → Bool

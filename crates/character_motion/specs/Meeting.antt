@@ -3,7 +3,8 @@ use Prim.Native.Nat.{ℕ}
 use mathlib.Core.Bool.{Bool, cond, _&&_}
 use lib.Dec.{eqb}
 use lib.Ieee.{Float, binary32, neg, add, sub, mul, div, lt, ne, ofBits}
-use Rattle.num_convert.specs.Number.{c0, c1, saturatedAdd, characterSize, c1·5, c0·75}
+use Rattle.num_convert.specs.Number.{c0, c1, saturatedAdd, c1·5, c0·75}
+use Rattle.game_constants.specs.Constants.{characterSize}
 use Rattle.num_vec2.specs.Vec2.{vnew, vadd, vsub, vmul, vlength, vnormalize, vdistance, vdot}
 use Rattle.num_vec2.specs.declared.vec2.{vec2}
 use Rattle.character_hook.specs.Hook.{onGrabbed}

@@ -1,4 +1,5 @@
 // What a character does by itself in a tick: it stands or not, jumps and walks.
+use game_constants::MAX_VELOCITY;
 use game_input::MoveDirection;
 use game_tuning::Tuning;
 use map_tiles::Sides;
@@ -9,9 +10,6 @@ ghost use mathlib.Core.Path.{_≡_};
 ghost use lib.Dec.{T};
 ghost use Rattle.map_tiles.specs.Map.{isMap};
 ghost use Rattle.character_motion.specs.Controls.{grounded, controlOf, jump, landed, walk, clampSpeed};
-
-// Where a tick's velocity ends.
-pub const MAX_VELOCITY: f32 = 6000.0;
 
 // How a character can be steered where it is.
 pub struct Control {

@@ -1,8 +1,8 @@
 // What a meeting in a tick does to a character's velocity, and what its hook does to the one that it holds.
 use character_hook::CharacterId;
 use character_hook::Hook;
+use game_constants::CHARACTER_SIZE;
 use game_tuning::Tuning;
-use num_convert::CHARACTER_SIZE;
 use num_convert::saturated_add;
 use num_vec2::vec2;
 ghost use mathlib.Core.Path.{_≡_};

@@ -1,5 +1,5 @@
 // When two characters touch.
-use num_convert::CHARACTER_SIZE;
+use game_constants::CHARACTER_SIZE;
 use num_vec2::vec2;
 ghost use mathlib.Core.Path.{_≡_};
 ghost use Rattle.character_motion.specs.Touching.{touches};

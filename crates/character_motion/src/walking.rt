@@ -1,11 +1,11 @@
 // A character's move: the ramp and the walk of its box, and what the walk among the others asks.
+use game_constants::CHARACTER_SIZE;
 use game_tuning::Tuning;
 use map_tiles::Sides;
 use map_tiles::count;
 use map_walks::Body;
 use map_walks::BoxWalk;
 use map_walks::walk_box;
-use num_convert::CHARACTER_SIZE;
 use num_ramp::velocity_ramp;
 use num_vec2::vec2;
 ghost use mathlib.Core.Path.{_≡_};

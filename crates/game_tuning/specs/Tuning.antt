@@ -1,11 +1,23 @@
 -- The tunings of a world as floats. Definitions only.
 use Prim.Native.Nat.{ℕ}
-use mathlib.Core.List.{List}
+use mathlib.Core.List.{List, [], _∷_}
 use lib.ListN.{getD}
 use lib.IntN.{ℤ, pos}
 use lib.Ieee.{Float}
 use Rattle.game_tuning.specs.declared.Tuning.{Tuning}
 use Rattle.num_convert.specs.Convert.{hundredthsToF32}
+
+-- the tunings of Teeworlds 0.6, in hundredths: ground speed, accel, friction; ground jump, air jump; air speed, accel, friction; hook
+-- length, fire speed, drag accel, drag speed; gravity; ramp start, range, curvature; player collision, player hooking
+unfoldable pub freshTunings : List ℤ
+freshTunings = pos 1000 ∷ pos 200 ∷ pos 50 ∷ pos 1320 ∷ pos 1200 ∷ pos 500 ∷ pos 150 ∷ pos 95 ∷ pos 38000 ∷ pos 8000 ∷ pos 300 ∷ pos 1500 ∷ pos 50 ∷ pos 55000 ∷ pos 200000 ∷ pos 140 ∷ pos 100 ∷ pos 100 ∷ []
+
+-- how many tunings there are, and which of them is player collision
+abbrev pub tuningCount : ℕ
+tuningCount = 18
+
+abbrev pub playerCollision : ℕ
+playerCollision = 16
 
 -- the float of the tuning with the index i
 unfoldable pub tuningAt : List ℤ → ℕ → Float

@@ -1,7 +1,7 @@
 // The tunings as the physics computes with them. They are handed in as hundredths, in document 01's order.
 ghost use mathlib.Core.Path.{_≡_};
 ghost use Prim.Native.Nat.{_<_};
-ghost use Rattle.game_tuning.specs.Tuning.{tuningAt, tuningOf};
+ghost use Rattle.game_tuning.specs.Tuning.{freshTunings, tuningAt, tuningOf};
 
 pub const TUNINGS: usize = 18;
 
@@ -24,6 +24,32 @@ pub struct Tuning {
     pub velramp_curvature: f32,
     pub player_collision: f32,
     pub player_hooking: f32,
+}
+
+// The tunings of Teeworlds 0.6, in hundredths.
+pub fn fresh_tunings() -> [i32; TUNINGS]
+    ensures { λ r. ⌜ r ≡ freshTunings ⌝ }
+{
+    [
+        1000,
+        200,
+        50,
+        1320,
+        1200,
+        500,
+        150,
+        95,
+        38000,
+        8000,
+        300,
+        1500,
+        50,
+        55000,
+        200000,
+        140,
+        100,
+        100,
+    ]
 }
 
 // Each `to_float` of the Rust, done once for all its uses.

@@ -4,7 +4,7 @@ use mathlib.Core.Path.{_≡_}
 use mathlib.Core.Bool.{Bool, false, _||_}
 use mathlib.Core.List.{List}
 use lib.Ieee.{Float, binary32, neg, ofBits}
-use Rattle.num_convert.specs.Number.{characterSize}
+use Rattle.game_constants.specs.Constants.{characterSize}
 use Rattle.num_convert.specs.Convert.{quantize}
 use Rattle.num_vec2.specs.Vec2.{vnew, vadd, vsub, vmul}
 use Rattle.num_vec2.specs.declared.vec2.{vec2}

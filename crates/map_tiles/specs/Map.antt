@@ -42,10 +42,6 @@ solid Open = false
 solid Normal = true
 solid Unhookable = true
 
--- a walk of more turns is refused with 9
-abbrev pub mostTurns : ℕ
-mostTurns = 65536
-
 -- how often `for _ in 0..z` turns
 abbrev pub count : ℤ → ℕ
 count (pos n) = n

@@ -6,7 +6,6 @@ mod tiles;
 pub use boxes::check_box;
 pub use point::Tile;
 pub use point::check_point;
-pub use tiles::MOST_TURNS;
 pub use tiles::Sides;
 pub use tiles::count;
 pub use tiles::is_map;

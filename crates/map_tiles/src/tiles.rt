@@ -9,9 +9,6 @@ pub struct Sides {
     pub height: u32,
 }
 
-// A walk of more turns is refused with 9.
-pub const MOST_TURNS: u64 = 65536;
-
 // Whether refusal 1 does not fit.
 pub fn is_map(sides: Sides, tiles: &[u8]) -> bool
     ensures { λ r. ⌜ r ≡ isMap sides (now (tiles .entry)) ⌝ }

@@ -12,7 +12,8 @@ use Rattle.num_convert.specs.Number.{c1}
 use Rattle.num_vec2.specs.Vec2.{vdistance, vmix}
 use Rattle.num_vec2.specs.declared.vec2.{vec2}
 use Rattle.base_turns.specs.Turns.{Turn, more, stop, run}
-use Rattle.map_tiles.specs.Map.{isMap, mostTurns, count, checkPoint}
+use Rattle.map_tiles.specs.Map.{isMap, count, checkPoint}
+use Rattle.map_walks.specs.Limit.{mostTurns}
 use Rattle.map_tiles.specs.declared.tiles.Sides.{Sides}
 use Rattle.map_tiles.specs.declared.point.Tile.{Tile}
 use Rattle.map_tiles.specs.declared.point.Tile.the-variants.{Open, Normal, Unhookable}

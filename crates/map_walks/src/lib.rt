@@ -10,3 +10,6 @@ pub use moves::BoxMove;
 pub use moves::BoxWalk;
 pub use moves::move_box;
 pub use moves::walk_box;
+
+// A walk of more turns is refused with 9.
+pub const MOST_TURNS: u64 = 65536;

@@ -1,5 +1,5 @@
 // The line walk: the first solid tile from one point to another.
-use map_tiles::MOST_TURNS;
+use crate::MOST_TURNS;
 use map_tiles::Sides;
 use map_tiles::Tile;
 use map_tiles::check_point;

@@ -1,5 +1,5 @@
 // A box's walk.
-use map_tiles::MOST_TURNS;
+use crate::MOST_TURNS;
 use map_tiles::Sides;
 use map_tiles::check_box;
 use map_tiles::count;

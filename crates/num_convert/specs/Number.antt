@@ -9,10 +9,6 @@ c0 = ofBits binary32 0
 abbrev pub c1 : Float
 c1 = ofBits binary32 0x3f80_0000
 
--- CHARACTER_SIZE, 28.0
-abbrev pub characterSize : Float
-characterSize = ofBits binary32 0x41e0_0000
-
 -- 1.5 and 0.75
 abbrev pub c1·5 : Float
 c1·5 = ofBits binary32 0x3fc0_0000

@@ -12,7 +12,6 @@ pub use float::i32_to_f32;
 pub use float::quantize;
 pub use float::quantize_256ths;
 pub use float::to_256ths;
-pub use number::CHARACTER_SIZE;
 pub use number::clamp;
 pub use number::saturated_add;
 pub use whole::round_to_i32;

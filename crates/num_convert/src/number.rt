@@ -2,8 +2,6 @@
 ghost use mathlib.Core.Path.{_≡_};
 ghost use Rattle.num_convert.specs.Number.{clamp, saturatedAdd};
 
-pub const CHARACTER_SIZE: f32 = 28.0;
-
 pub fn clamp(value: f32, min: f32, max: f32) -> f32
     ensures { λ r. ⌜ r ≡ clamp value min max ⌝ }
 {

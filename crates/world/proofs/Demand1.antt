@@ -10,7 +10,8 @@ use Rattle.map_tiles.specs.Map.{isMap}
 use Rattle.map_tiles.specs.declared.tiles.Sides.{Sides}
 use Rattle.game_tuning.specs.Tuning.{tuningOf}
 use Rattle.world.specs.declared.call.Call.the-variants.{Join, Leave, Input, Step, Tune}
-use Rattle.world.specs.World.{tuningCount, withTuning}
+use Rattle.world.specs.World.{withTuning}
+use Rattle.game_tuning.specs.Tuning.{tuningCount}
 use Rattle.world.specs.Calls.{refused, accepted, placeOf, tune}
 use Rattle.world.specs.Demand1.{Demand1}
 use Rattle.world.specs.Run.{inputOf}

@@ -21,7 +21,8 @@ use Rattle.character.specs.Tick.{slotAt, nowhere}
 use Rattle.character.specs.declared.Slot.{Slot}
 use Rattle.character_laws.proofs.Back.{representable-back}
 use Rattle.character_laws.proofs.Slots.{set-others, replicate-every}
-use Rattle.world.specs.World.{fresh, tuningCount, playerCollision, withSlot, withTuning}
+use Rattle.world.specs.World.{fresh, withSlot, withTuning}
+use Rattle.game_tuning.specs.Tuning.{tuningCount, playerCollision}
 use Rattle.world.specs.Calls.{refused, accepted, placeOf, pointOf}
 use Rattle.world.specs.Calls as calls
 use Rattle.world.specs.Run.{inputOf, ran, after}

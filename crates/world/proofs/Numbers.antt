@@ -13,7 +13,8 @@ use Rattle.base_turns.proofs.Kept.{Ends, run-kept}
 use Rattle.character_hook.specs.Hook.{tickOf}
 use Rattle.character_hook.specs.declared.hook.Hook.{Hook}
 use Rattle.character_hook.specs.declared.hook.Hook.the-variants.{Retracted, Idle, Flying, Grabbed, Attached, Retracting0, Retracting1, Retracting2}
-use Rattle.character_hook.specs.Hooking.{maxHookGrabTime, hold}
+use Rattle.character_hook.specs.Hooking.{hold}
+use Rattle.game_constants.specs.Constants.{maxHookGrabTime}
 use Rattle.character_motion.specs.Controls.{grounded}
 use Rattle.game_records.specs.declared.PlayerInput.{PlayerInput}
 use Rattle.map_tiles.specs.declared.tiles.Sides.{Sides}

@@ -23,7 +23,8 @@ use Rattle.character.specs.Character.{spawn}
 use Rattle.character.specs.Tick.{slotAt, nowhere}
 use Rattle.character.specs.declared.Slot.{Slot}
 use Rattle.character_laws.proofs.Slots.{set-every, replicate-every}
-use Rattle.world.specs.World.{freshTunings, fresh, playerCollision, withSlot}
+use Rattle.world.specs.World.{fresh, withSlot}
+use Rattle.game_tuning.specs.Tuning.{freshTunings, playerCollision}
 use Rattle.world.specs.Step.{Moving, tickAll, moveAll, moveTurn, movingFrom, stepRefused, stepAnswer, stepOn, step}
 use Rattle.world.specs.Demand3.{left, leftIn, leftFrom, recordAt, FaithfulTo}
 use Rattle.world.specs.declared.Stepped.{Stepped}

@@ -21,7 +21,8 @@ use Rattle.character.specs.declared.Slot.{Slot}
 use Rattle.character_laws.specs.Representable.{Representable}
 use Rattle.character_laws.proofs.FromNet.{spawn-representable}
 use Rattle.character_laws.proofs.Slots.{set-every}
-use Rattle.world.specs.World.{freshTunings, fresh, tuningCount, withSlot, withTuning}
+use Rattle.world.specs.World.{fresh, withSlot, withTuning}
+use Rattle.game_tuning.specs.Tuning.{freshTunings, tuningCount}
 use Rattle.world.specs.Calls.{placeOf, pointOf, tune}
 use Rattle.world.specs.Step.{Moving, tickAll, moveAll, stepAnswer, stepOn, step}
 use Rattle.world.specs.Run.{inputOf, ran, after}

@@ -14,7 +14,8 @@ use Rattle.game_records.specs.declared.PlayerInput.{PlayerInput}
 use Rattle.game_refusals.specs.Refusals.{badMap, badId, badTuning, outOfReach, notClear, isPresent, isAbsent}
 use Rattle.character.specs.Slot.{emptySlot, joinedSlot, withInput}
 use Rattle.character.specs.Tick.{slotAt}
-use Rattle.world.specs.World.{tuningCount, withSlot, withTuning}
+use Rattle.world.specs.World.{withSlot, withTuning}
+use Rattle.game_tuning.specs.Tuning.{tuningCount}
 use Rattle.world.specs.declared.Answer.{Answer}
 use Rattle.world.specs.declared.World.{World}
 

@@ -25,7 +25,8 @@ use Rattle.character.specs.declared.walk.MovedAt.the-variants as moved
 use Rattle.character_laws.specs.Faithful.{Faithful}
 use Rattle.character.specs.Records.{quantize}
 use Rattle.character.specs.declared.records.Quantized.the-variants as quantized
-use Rattle.world.specs.World.{tuningCount, playerCollision, fresh}
+use Rattle.world.specs.World.{fresh}
+use Rattle.game_tuning.specs.Tuning.{tuningCount, playerCollision}
 use Rattle.world.specs.Calls as calls
 use Rattle.world.specs.Step.{Moving, unpublished, tickAll, moveIn, moveTurn, movingFrom}
 use Rattle.world.specs.Step as world

@@ -9,7 +9,8 @@ use Rattle.world.specs.declared.call.Call.{Call}
 use Rattle.character.specs.Slot.{emptySlot}
 use Rattle.character.specs.Tick.{slotAt}
 use Rattle.character_laws.specs.Representable.{Representable}
-use Rattle.world.specs.World.{tuningCount, fresh}
+use Rattle.world.specs.World.{fresh}
+use Rattle.game_tuning.specs.Tuning.{tuningCount}
 use Rattle.world.specs.Run.{after}
 use Rattle.world.specs.declared.World.{World}
 

@@ -9,7 +9,7 @@ use Rattle.game_refusals.specs.Refusals.{badId, badTuning, isAbsent, badLength}
 use Rattle.character.specs.Tick.{seats, slotAt}
 use Rattle.character.specs.declared.Slot.{Slot}
 use Rattle.character.specs.Records.{toNet}
-use Rattle.world.specs.World.{tuningCount}
+use Rattle.game_tuning.specs.Tuning.{tuningCount}
 use Rattle.world.specs.Calls.{placeOf}
 use Rattle.world.specs.declared.World.{World}
 use Rattle.game_records.specs.Numbers.{coreNumbers, inputNumbers}

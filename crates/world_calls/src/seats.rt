@@ -1,13 +1,13 @@
 // A world's seats: which one a number names, one read, set and vacated; a fresh world; and the two forms of a call's answer.
 use character::SEATS;
 use character::Slot;
-use game_tuning::TUNINGS;
+use game_tuning::fresh_tunings;
 use world::Answer;
 use world::World;
 ghost use mathlib.Core.Path.{_≡_};
 ghost use Prim.Native.Nat.{_<_};
 ghost use Rattle.character.specs.Tick.{seats, slotAt};
-ghost use Rattle.world.specs.World.{freshTunings, fresh, withSlot};
+ghost use Rattle.world.specs.World.{fresh, withSlot};
 ghost use Rattle.world.specs.Calls.{refused, accepted, placeOf, vacate};
 
 pub fn fresh() -> World
@@ -17,32 +17,6 @@ pub fn fresh() -> World
         slots: [Slot::empty(); SEATS],
         tunings: fresh_tunings(),
     }
-}
-
-// The tunings of Teeworlds 0.6, in hundredths.
-fn fresh_tunings() -> [i32; TUNINGS]
-    ensures { λ r. ⌜ r ≡ freshTunings ⌝ }
-{
-    [
-        1000,
-        200,
-        50,
-        1320,
-        1200,
-        500,
-        150,
-        95,
-        38000,
-        8000,
-        300,
-        1500,
-        50,
-        55000,
-        200000,
-        140,
-        100,
-        100,
-    ]
 }
 
 // Which of `count` places z names; `count` where it names none.

@@ -15,7 +15,7 @@ use Rattle.character.specs.Records.{fromNet}
 use Rattle.character_laws.specs.Representable.{Representable}
 use Rattle.character_laws.proofs.FromNet.{from-net-representable}
 use Rattle.game_records.specs.Numbers.{numberAt, coreIn, inputIn}
-use Rattle.world.specs.World.{tuningCount}
+use Rattle.game_tuning.specs.Tuning.{tuningCount}
 use Rattle.world.specs.Settled.{Settled}
 use Rattle.world_numbers.specs.Encoding.{recordCount, seatCount}
 use Rattle.world_numbers.specs.Decoding.{isPresent, fromZero, readable, seatOf, seatsOf, decoding, AnyComesBack}

@@ -20,7 +20,8 @@ use Rattle.character_laws.specs.Representable.{Representable}
 use Rattle.character_laws.proofs.Back.{from-core, to-core, representable-back}
 use Rattle.character.specs.declared.records.Net.{Net}
 use Rattle.character.specs.declared.records.Quantized.the-variants as quantized
-use Rattle.world.specs.World.{tuningCount, fresh}
+use Rattle.world.specs.World.{fresh}
+use Rattle.game_tuning.specs.Tuning.{tuningCount}
 use Rattle.world.specs.Run.{after}
 use Rattle.world.specs.Settled.{Settled}
 use Rattle.world.proofs.Settled.{after-settled}

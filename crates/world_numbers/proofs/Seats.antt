@@ -10,7 +10,7 @@ use lib.ListN.{length, take, drop, set}
 use lib.Seq.{take-suc-set, drop-drop}
 use Rattle.character.specs.Tick.{slotAt}
 use Rattle.character.specs.declared.Slot.{Slot}
-use Rattle.world.specs.World.{tuningCount}
+use Rattle.game_tuning.specs.Tuning.{tuningCount}
 use Rattle.world_numbers.specs.Encoding.{seatCount}
 use Rattle.world_numbers.specs.Decoding.{seatOf, seatsOf, decoding}
 

@@ -13,7 +13,8 @@ use Rattle.game_records.specs.Numbers.{numberAt, coreIn, inputIn}
 use Rattle.character.specs.Slot.{emptySlot, joinedSlot, withCharacter, withInput}
 use Rattle.character.specs.declared.Slot.{Slot}
 use Rattle.character.specs.Records.{fromNet}
-use Rattle.world.specs.World.{tuningCount, fresh}
+use Rattle.world.specs.World.{fresh}
+use Rattle.game_tuning.specs.Tuning.{tuningCount}
 use Rattle.world.specs.Run.{after}
 use Rattle.world.specs.declared.World.{World}
 use Rattle.world_numbers.specs.Encoding.{recordCount, seatCount, encoding}

@@ -11,7 +11,7 @@ use Rattle.character.specs.declared.Slot.{Slot}
 use Rattle.character.specs.Records.{toNet}
 use Rattle.character.specs.declared.records.Net.{Net}
 use Rattle.character.specs.declared.records.Net.the-variants as net
-use Rattle.world.specs.World.{tuningCount}
+use Rattle.game_tuning.specs.Tuning.{tuningCount}
 use Rattle.world.specs.Step.{noCore}
 use Rattle.world.specs.declared.Published.{Published}
 use Rattle.world.specs.declared.World.{World}

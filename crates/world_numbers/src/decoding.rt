@@ -15,7 +15,7 @@ ghost use mathlib.Core.Path.{_≡_};
 ghost use Prim.Native.Nat.{_+_, _*_, _≤_, _<_};
 ghost use lib.ListN.{length, take, drop};
 ghost use Rattle.character.specs.Tick.{seats};
-ghost use Rattle.world.specs.World.{tuningCount};
+ghost use Rattle.game_tuning.specs.Tuning.{tuningCount};
 ghost use Rattle.world_numbers.specs.Encoding.{seatCount, worldCount};
 ghost use Rattle.world_numbers.specs.Decoding.{fromZero, isPresent, readable, seatOf, seatsOf, decoding};
 

@@ -1,7 +1,7 @@
 -- `world_buffers::readers::tuning_in` meets its contract. Assumes nothing.
 use mathlib.Core.Path.{_≡_, ap, _∙_}
 use mir.Facts.{toZ-ofZ}
-use Rattle.world.specs.World.{tuningCount}
+use Rattle.game_tuning.specs.Tuning.{tuningCount}
 use Rattle.world.specs.Calls.{placeOf}
 use Rattle.game_records.proofs.Bits.{again}
 use Rattle.world_buffers.proofs.Readings.{tuning-wrong, no-tuning, tuning-told}

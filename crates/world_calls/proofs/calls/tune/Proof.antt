@@ -1,6 +1,6 @@
 -- `world_calls::calls::tune` meets its contract. Assumes nothing.
 use Rattle.world.specs.Calls.{tune, placeOf}
-use Rattle.world.specs.World.{tuningCount}
+use Rattle.game_tuning.specs.Tuning.{tuningCount}
 use borrow.Author.Tests.{lt-ltb, le-ltb}
 use mir.Facts.{toZ-ofZ}
 use mathlib.Core.Path.{_≡_, ap, _∙_}

@@ -4,7 +4,7 @@ use mathlib.Core.Path.{ap, _∙_}
 use native.Mathlib.Omega.{arith}
 use lib.ListN.{length, drop, length-drop}
 use lib.Seq.{take-all}
-use Rattle.world.specs.World.{tuningCount}
+use Rattle.game_tuning.specs.Tuning.{tuningCount}
 use Rattle.world_numbers.specs.Encoding.{seatCount}
 use Rattle.world_numbers.specs.Decoding.{seatOf}
 use borrow.Author.Needs.{needs}

@@ -6,7 +6,7 @@ use lib.ListN.{length, take, drop, length-set}
 use lib.Seq.{take-all}
 use borrow.Author.Needs.{needs}
 use Rattle.character.specs.Tick.{seats}
-use Rattle.world.specs.World.{tuningCount}
+use Rattle.game_tuning.specs.Tuning.{tuningCount}
 use Rattle.world_numbers.specs.Decoding.{seatsOf}
 use Rattle.world_numbers.proofs.Seats.{next-seat}
 use Rattle.world_numbers.proofs.decoding.seats_of.Statement.{statement}

@@ -3,7 +3,7 @@ use mathlib.Core.Path.{_∙_}
 use native.Mathlib.Omega.{arith}
 use lib.Seq.{length-take-le}
 use Rattle.base_rows.proofs.Puts.{put-end}
-use Rattle.world.specs.World.{tuningCount}
+use Rattle.game_tuning.specs.Tuning.{tuningCount}
 use borrow.Author.Needs.{needs}
 use Rattle.world_numbers.proofs.decoding.tunings_of.Statement.{statement}
 use Rattle.world_numbers.proofs.decoding.tunings_of.Tie as tie

@@ -10,7 +10,7 @@ use borrow.Author.Needs.{needs}
 use Rattle.base_rows.proofs.Puts.{take-put}
 use Rattle.character.specs.Tick.{seats}
 use Rattle.character.specs.declared.Slot.{Slot}
-use Rattle.world.specs.World.{tuningCount}
+use Rattle.game_tuning.specs.Tuning.{tuningCount}
 use Rattle.world_numbers.specs.Encoding.{seatCount, worldCount, each, seatNumbers, encoding}
 use Rattle.world_numbers.proofs.Rows.{next-row, seat-long}
 use Rattle.world_numbers.proofs.encoding.encode.Statement.{statement}

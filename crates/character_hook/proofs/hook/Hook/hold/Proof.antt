@@ -8,7 +8,8 @@ use Rattle.character_hook.proofs.Variants.{not-grabbed}
 use Rattle.character_hook.specs.declared.hook.CharacterId.{CharacterId}
 use Rattle.character_hook.specs.declared.hook.Hook.{Hook}
 use Rattle.character_hook.specs.declared.hook.Hook.the-variants.{Retracted, Grabbed}
-use Rattle.character_hook.specs.Hooking.{maxHookGrabTime, hold}
+use Rattle.character_hook.specs.Hooking.{hold}
+use Rattle.game_constants.specs.Constants.{maxHookGrabTime}
 use Rattle.character_hook.proofs.hook.Hook.hold.Statement.{statement}
 use Rattle.character_hook.proofs.hook.Hook.hold.Tie as tie
 
