@@ -41,6 +41,14 @@ tooFar = 9
 abbrev pub tickTooLarge : ℕ
 tickTooLarge = 10
 
+-- packed bytes that end before the last number is complete
+abbrev pub bytesEnd : ℕ
+bytesEnd = 11
+
+-- a packed number that is not in its shortest form, or has a bit too many
+abbrev pub badBytes : ℕ
+badBytes = 12
+
 -- a lent buffer of numbers that has another length than it must
 abbrev pub badLength : ℕ
 badLength = 17

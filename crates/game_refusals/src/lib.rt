@@ -1,4 +1,4 @@
-// The numbers with which a call is declined; each stands here alone. 1 to 10 are document 01's, 17 is ours: 11 to 16 are the customer's.
+// The numbers with which a call is declined; each stands here alone. 1 to 12 are the customer's, 17 is ours: 13 to 16 are the customer's too.
 
 // A map's sides are not 1 to 1,024 each, or its bytes are not width times height.
 pub const BAD_MAP: u32 = 1;
@@ -29,6 +29,12 @@ pub const TOO_FAR: u32 = 9;
 
 // A hook that has held somebody for more ticks than a record holds.
 pub const TICK_TOO_LARGE: u32 = 10;
+
+// Packed bytes that end before the last number is complete.
+pub const BYTES_END: u32 = 11;
+
+// A packed number that is not in its shortest form, or has a bit too many.
+pub const BAD_BYTES: u32 = 12;
 
 // A lent buffer of numbers that has another length than it must.
 pub const BAD_LENGTH: u32 = 17;

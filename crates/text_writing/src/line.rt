@@ -1,5 +1,6 @@
 // Lines of values, and bytes as they are.
 use crate::value::put_value;
+use base_rows::copy_bytes;
 use text_decimal::end_byte;
 ghost use Prim.Native.Nat.{_+_, _*_, _≤_};
 ghost use lib.ListN.{length};
@@ -27,10 +28,6 @@ pub fn put_bytes(buf: &mut [u8], at: usize, bytes: &[u8]) -> usize
     requires { ⌜ at + length (now bytes) ≤ length (now buf) ⌝ }
     ensures { λ r. ⌜ Put (now (buf .entry)) at (now (bytes .entry)) (now (buf .exit)) r ⌝ }
 {
-    let mut i = 0;
-    while i < bytes.len() {
-        buf[at + i] = bytes[i];
-        i += 1;
-    }
-    at + i
+    copy_bytes(buf, at, bytes);
+    at + bytes.len()
 }

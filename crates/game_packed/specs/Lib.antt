@@ -1,0 +1,4 @@
+pub mod Packed
+pub mod Unpacked
+pub mod Laws
+pub mod Lent
