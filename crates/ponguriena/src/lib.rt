@@ -10,6 +10,7 @@ ghost use Rattle.game_records.specs.Numbers.{coreCount, inputCount};
 ghost use Rattle.world_buffers.specs.Buffers.{callIn, stepIn};
 ghost use Rattle.world_buffers.specs.Readers.{readIn, recordOf, tuningIn};
 ghost use Rattle.world_buffers.specs.Readers as readers;
+ghost use Rattle.game_packed.specs.Lent.{packIn, unpackIn};
 ghost use Rattle.map_tiles.specs.Map.{sidesOf};
 
 #[no_mangle]
@@ -102,4 +103,18 @@ pub extern "C" fn ponguriena_tuning(world: &[i32], index: i32, value: &mut i32) 
     ensures { λ r. ⌜ tuningIn (now (world .entry)) index (now (value .entry)) ≡ record { number = r; value = now (value .exit) } ⌝ }
 {
     world_buffers::tuning_in(world, index, value)
+}
+
+#[no_mangle]
+pub extern "C" fn ponguriena_pack(record: &[i32], bytes: &mut [u8], count: &mut usize) -> u32
+    ensures { λ r. ⌜ packIn (now («record» .entry)) (now (bytes .entry)) (now (count .entry)) ≡ record { number = r; bytes = now (bytes .exit); count = now (count .exit) } ⌝ }
+{
+    game_packed::pack_in(record, bytes, count)
+}
+
+#[no_mangle]
+pub extern "C" fn ponguriena_unpack(bytes: &[u8], record: &mut [i32], used: &mut usize) -> u32
+    ensures { λ r. ⌜ unpackIn (now (bytes .entry)) (now («record» .entry)) (now (used .entry)) ≡ record { number = r; numbers = now («record» .exit); used = now (used .exit) } ⌝ }
+{
+    game_packed::unpack_in(bytes, record, used)
 }

@@ -28,6 +28,8 @@ enum {
     PONGURIENA_PRESENT = 7,       /* a join of an id that is present */
     PONGURIENA_ABSENT = 8,        /* an id that is absent */
     PONGURIENA_TOO_FAR = 9,       /* a walk of 65,537 turns or more */
+    PONGURIENA_BYTES_END = 11,    /* packed bytes end before the last number is complete */
+    PONGURIENA_BAD_BYTES = 12,    /* a packed number is not in its shortest form, or too large */
     PONGURIENA_BAD_LENGTH = 17    /* a buffer of the wrong length; comes before the lower numbers:
                                      without a world there is no call to decline */
 };
@@ -45,6 +47,17 @@ enum {
     PONGURIENA_PUBLISHED = 1 + PONGURIENA_RECORD,               /* presence, record */
     PONGURIENA_RECORDS = PONGURIENA_SEATS * PONGURIENA_PUBLISHED /* for each seat */
 };
+
+/* Packed records, for a relay: fifteen whole numbers of one to five bytes each. */
+enum { PONGURIENA_PACKED = 5 * PONGURIENA_RECORD };
+
+/* Packs a record of PONGURIENA_RECORD numbers into PONGURIENA_PACKED bytes, those past the count 0. */
+uint32_t ponguriena_pack(const int32_t *record, size_t record_length, uint8_t *bytes,
+                         size_t bytes_length, size_t *count);
+
+/* Reads the record that the bytes start with, and tells how many of them it used. */
+uint32_t ponguriena_unpack(const uint8_t *bytes, size_t bytes_length, int32_t *record,
+                           size_t record_length, size_t *used);
 
 /* The world: PONGURIENA_WORLD numbers that the caller keeps. Any numbers are taken for a world. */
 

@@ -1,6 +1,6 @@
 //! Safe Rust functions over the static libraries of two Rattle crates. Of `ponguriena`:
-//! the [`World`] of characters with its calls, and the same calls on lent numbers
-//! ([`buffers`]). Of `ponguriena_parts` what they are made of: walks over a [`Map`], the
+//! the [`World`] of characters with its calls, the same calls on lent numbers
+//! ([`buffers`]), and records as packed bytes ([`packed`]). Of `ponguriena_parts` what they are made of: walks over a [`Map`], the
 //! aim angle, the velocity ramp, the root and the conversions. `include/ponguriena.h` is for C.
 
 // Nothing checks the declarations in these modules against the Rattle source: a
@@ -8,6 +8,7 @@
 mod aim;
 pub mod buffers;
 mod floats;
+pub mod packed;
 mod refusal;
 mod snap_obj;
 mod walks;

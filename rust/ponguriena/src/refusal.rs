@@ -26,6 +26,10 @@ pub enum Refusal {
     TooFar,
     /// 10: a record of a hook that has held for more than 2,147,483,647 ticks.
     TickTooLarge,
+    /// 11: packed bytes that end before the last number is complete.
+    BytesEnd,
+    /// 12: a packed number that is not in its shortest form, or too large.
+    BadBytes,
     /// 17: a buffer of the wrong length.
     BadLength,
     /// A number that has no name here. No function of this library gives one: who
@@ -48,6 +52,8 @@ impl Refusal {
             8 => Refusal::Absent,
             9 => Refusal::TooFar,
             10 => Refusal::TickTooLarge,
+            11 => Refusal::BytesEnd,
+            12 => Refusal::BadBytes,
             17 => Refusal::BadLength,
             other => Refusal::Unnamed(other),
         })
@@ -66,6 +72,8 @@ impl Refusal {
             Refusal::Absent => 8,
             Refusal::TooFar => 9,
             Refusal::TickTooLarge => 10,
+            Refusal::BytesEnd => 11,
+            Refusal::BadBytes => 12,
             Refusal::BadLength => 17,
             Refusal::Unnamed(number) => number,
         }
@@ -85,6 +93,8 @@ impl Display for Refusal {
             Refusal::Absent => "the id is absent",
             Refusal::TooFar => "a walk has too many turns",
             Refusal::TickTooLarge => "the hook has held for too many ticks",
+            Refusal::BytesEnd => "the bytes end before the record does",
+            Refusal::BadBytes => "a packed number is not as it should be",
             Refusal::BadLength => "a buffer has the wrong length",
             Refusal::Unnamed(_) => "refused",
         };

@@ -6,6 +6,7 @@ mod aim;
 pub mod aim_edges;
 mod bits;
 pub mod edges;
+pub mod packed;
 mod xorshift;
 
 pub use aim::{CIRCLE, net_angle, powf, scanned_angle, velocity_ramp};

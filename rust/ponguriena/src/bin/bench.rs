@@ -1,5 +1,6 @@
 //! Time per call, in throughput, of the port and of the reference.
 
+use ponguriena::{CharacterCore, packed};
 use reference::Xorshift;
 use reference::aim_edges::game_ramp;
 use timing::{print_heading, print_row};
@@ -44,6 +45,7 @@ fn main() {
     print_angles("any", &inputs(|| target(&mut random, 0)));
     print_ramps("game", &inputs(|| game_ramp(&mut random)));
     print_ramps("steep", &inputs(|| steep_ramp(&mut random)));
+    print_packed("game", &inputs(|| record(&mut random)));
 }
 
 /// A target with coordinates of `32 - shift` bits.
@@ -55,6 +57,59 @@ fn target(random: &mut Xorshift, shift: u32) -> (i32, i32) {
 /// A ramp that starts at once, so that a power is always needed.
 fn steep_ramp(random: &mut Xorshift) -> Ramp {
     (random.within(GAME_LIMIT).abs(), [0, 200_000, 140])
+}
+
+/// A record as a game has them: a place, a speed, an aim, small numbers and a hook.
+fn record(random: &mut Xorshift) -> [i32; 15] {
+    let mut size = |bits: u32| random.pattern() as i32 >> (32 - bits);
+    [
+        0,
+        size(14),
+        size(13),
+        size(13),
+        size(13),
+        size(11),
+        size(2),
+        size(2),
+        -1,
+        size(3),
+        0,
+        size(14),
+        size(13),
+        size(9),
+        size(9),
+    ]
+}
+
+/// Both ways, since the two take unlike arguments.
+fn print_packed(kind: &str, records: &[[i32; 15]]) {
+    let cores: Vec<(CharacterCore, [i32; 15])> = records
+        .iter()
+        .map(|&numbers| (CharacterCore::from_numbers(numbers), numbers))
+        .collect();
+    print_row(
+        "pack",
+        kind,
+        PASSES,
+        &cores,
+        |(core, _)| packed::pack(core),
+        |(_, numbers)| reference::packed::pack(numbers),
+    );
+    let bytes: Vec<[u8; 75]> = records
+        .iter()
+        .map(|&numbers| reference::packed::pack(numbers).0)
+        .collect();
+    print_row(
+        "unpack",
+        kind,
+        PASSES,
+        &bytes,
+        |bytes| packed::unpack(&bytes).ok(),
+        |bytes| {
+            let (numbers, used) = reference::packed::unpack(&bytes).ok()?;
+            Some((CharacterCore::from_numbers(numbers), used))
+        },
+    );
 }
 
 fn inputs<A>(random: impl FnMut() -> A) -> Vec<A> {

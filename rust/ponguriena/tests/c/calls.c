@@ -202,6 +202,24 @@ static void numbers(void) {
     same_float("quantize_256ths", ponguriena_quantize_256ths(0.001953125f), 0.00390625f);
 }
 
+static void packing(void) {
+    int32_t record[PONGURIENA_RECORD] = {0, 64, -1};
+    int32_t back[PONGURIENA_RECORD] = {0};
+    uint8_t bytes[PONGURIENA_PACKED];
+    size_t count = 0;
+    size_t used = 0;
+    same("pack", ponguriena_pack(record, PONGURIENA_RECORD, bytes, PONGURIENA_PACKED, &count), 0);
+    same("count", (int32_t)count, 16);
+    same("the sign", bytes[3], 0x40);
+    same("unpack", ponguriena_unpack(bytes, count, back, PONGURIENA_RECORD, &used), 0);
+    same("used", (int32_t)used, 16);
+    same("x comes back", back[1], 64);
+    same("y comes back", back[2], -1);
+    same("cut off", ponguriena_unpack(bytes, 15, back, PONGURIENA_RECORD, &used),
+         PONGURIENA_BYTES_END);
+    same("short record", ponguriena_unpack(bytes, count, back, 14, &used), PONGURIENA_BAD_LENGTH);
+}
+
 int main(void) {
     a_fall();
     an_input();
@@ -212,5 +230,6 @@ int main(void) {
     a_leave();
     walks();
     numbers();
+    packing();
     return differences != 0;
 }
