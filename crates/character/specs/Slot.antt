@@ -14,7 +14,7 @@ abbrev pub noInput : PlayerInput
 noInput = record { direction = pos 0; «target_x» = pos 0; «target_y» = pos 0; jump = pos 0; hook = pos 0 }
 
 -- nobody is there: spawn at (0, 0)
-unfoldable pub emptySlot : Slot
+abbrev pub emptySlot : Slot
 emptySlot = record { present = false; character = spawn (vnew c0 c0); input = noInput }
 
 -- somebody has joined at p

@@ -33,7 +33,7 @@ use Rattle.character_hook.specs.declared.flying.Way.the-variants as way
 use Rattle.character_motion.specs.Meeting.{meet, pullOn}
 use Rattle.character_motion.specs.declared.meeting.HookPull.{HookPull}
 use Rattle.character_motion.specs.declared.meeting.HookPull.the-variants as pull
-use Rattle.character.specs.Slot.{noInput, withCharacter}
+use Rattle.character.specs.Slot.{emptySlot, withCharacter}
 use Rattle.character.specs.declared.Character.{Character}
 use Rattle.character.specs.declared.Slot.{Slot}
 use Rattle.character.specs.declared.tick.AfterTick.{AfterTick}
@@ -50,7 +50,7 @@ seats = 16
 
 -- what an index past the end reads, which no call does: the value that the logic takes for it
 abbrev pub nowhere : Slot
-nowhere = record { present = false; character = record { pos = vnew nan nan; vel = vnew nan nan; hook = Retracted; «jumped_already» = false; «used_airjump» = false; angle = record { radians = nan }; «move_direction» = Left }; input = noInput }
+nowhere = withCharacter emptySlot (record { pos = vnew nan nan; vel = vnew nan nan; hook = Retracted; «jumped_already» = false; «used_airjump» = false; angle = record { radians = nan }; «move_direction» = Left })
 
 abbrev pub slotAt : List Slot → ℕ → Slot
 slotAt ss j = getD ss j nowhere
@@ -117,6 +117,16 @@ pullOf n ss id p h t = onGrabbed (pullFrom n ss id p t) pull.Nobody h
 unfoldable pub afterPull : List Slot → HookPull → List Slot
 afterPull ss pull.Nobody = ss
 afterPull ss (pull.Of cid v) = set ss (cid .0) (withCharacter (slotAt ss (cid .0)) (withVel (slotAt ss (cid .0) .character) v))
+
+-- the seat that it pulls at; the own one where there is none
+unfoldable pub pulledSeat : ℕ → HookPull → ℕ → ℕ
+pulledSeat n pull.Nobody own = own
+pulledSeat n (pull.Of cid v) own = cond (ltb (cid .0) n) (cid .0) own
+
+-- what it leaves of the slot at the seat j
+unfoldable pub pulledSlot : Slot → HookPull → ℕ → Slot
+pulledSlot s pull.Nobody j = s
+pulledSlot s (pull.Of cid v) j = cond (eqb (cid .0) j) (withCharacter s (withVel (s .character) v)) s
 
 -- after the flight: the drag of an attached hook, the count of a held one, the others, the clamp, and whom the hook pulls
 unfoldable pub hooked : ℕ → Character → Hook → ℕ → List Slot → Tuning → AfterTick

@@ -13,7 +13,7 @@ use game_records::PlayerInput;
 use num_vec2::vec2;
 pub use records::Net;
 pub use records::Quantized;
-pub use slots::after_pull;
+pub use slots::pulled_seat;
 pub use tick::AfterTick;
 pub use tick::Ticked;
 pub use tick::TickedAt;

@@ -1,4 +1,4 @@
-// A slot: empty, joined, and with one of its parts set; and the slots after somebody is pulled.
+// A slot: empty, joined, and with one of its parts set; and what a pull leaves of it.
 use crate::Character;
 use crate::SEATS;
 use crate::Slot;
@@ -7,7 +7,7 @@ use game_records::PlayerInput;
 use num_vec2::vec2;
 ghost use mathlib.Core.Path.{_≡_};
 ghost use Rattle.character.specs.Slot.{noInput, emptySlot, joinedSlot, withCharacter, withInput};
-ghost use Rattle.character.specs.Tick.{withVel, afterPull};
+ghost use Rattle.character.specs.Tick.{seats, pulledSeat, pulledSlot};
 
 impl Slot {
     pub fn empty() -> Slot
@@ -44,9 +44,16 @@ impl Slot {
         self
     }
 
-    fn with_vel(self, vel: vec2) -> Slot
-        ensures { λ r. ⌜ r ≡ withCharacter self (withVel (self .character) vel) ⌝ }
+    // What a pull leaves of the slot at a seat.
+    pub fn pulled(self, pull: HookPull, seat: usize) -> Slot
+        ensures { λ r. ⌜ r ≡ pulledSlot self pull seat ⌝ }
     {
+        let HookPull::Of(cid, vel) = pull else {
+            return self;
+        };
+        if cid.0 as usize != seat {
+            return self;
+        }
         let mut character = self.character;
         character.vel = vel;
         self.with_character(character)
@@ -65,18 +72,16 @@ fn no_input() -> PlayerInput
     }
 }
 
-// The slots with whom a hook pulls at the velocity that it leaves them.
-pub fn after_pull(mut slots: [Slot; SEATS], pull: HookPull) -> [Slot; SEATS]
-    ensures { λ r. ⌜ r ≡ afterPull slots pull ⌝ }
+// The seat that a hook pulls at; the own one where there is none.
+pub fn pulled_seat(pull: HookPull, own: usize) -> usize
+    ensures { λ r. ⌜ r ≡ pulledSeat seats pull own ⌝ }
 {
-    let HookPull::Of(cid, vel) = pull else {
-        return slots;
+    let HookPull::Of(cid, _) = pull else {
+        return own;
     };
-    let at = cid.0 as usize;
-    if at >= SEATS {
-        return slots;
+    let seat = cid.0 as usize;
+    if seat < SEATS {
+        return seat;
     }
-    let slot = slots[at];
-    slots[at] = slot.with_vel(vel);
-    slots
+    own
 }

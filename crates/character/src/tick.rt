@@ -61,7 +61,7 @@ pub enum HookFlight {
 
 impl Character {
     pub fn tick(
-        mut self,
+        self,
         id: CharacterId,
         slots: [Slot; SEATS],
         sides: Sides,
@@ -86,7 +86,7 @@ impl Character {
 
     // The same for a map that is one and an id that has a slot.
     pub fn tick_at(
-        mut self,
+        self,
         id: usize,
         slots: [Slot; SEATS],
         sides: Sides,
@@ -154,7 +154,7 @@ impl Character {
         }
     }
 
-    pub fn with_hook(self, hook: Hook) -> Character
+    fn with_hook(self, hook: Hook) -> Character
         ensures { λ r. ⌜ r ≡ withHook self hook ⌝ }
     {
         let pos = self.pos;

@@ -44,7 +44,7 @@ pub enum PlayerWalk {
 
 impl Character {
     pub fn move_(
-        mut self,
+        self,
         id: CharacterId,
         slots: [Slot; SEATS],
         sides: Sides,

@@ -14,7 +14,8 @@ use Rattle.num_vec2.specs.declared.vec2.{vec2}
 use Rattle.map_corners.specs.Tile.{c14, tileAt}
 use Rattle.map_tiles.specs.declared.point.Tile.the-variants.{Normal}
 use Rattle.map_walks.specs.Line.{checkLine}
-use Rattle.map_walks.specs.declared.lines.LineCheck.the-variants.{At}
+use Rattle.map_walks.specs.declared.lines.LineCheck.the-variants.{Met}
+use Rattle.map_walks.specs.declared.lines.LineHit.the-variants.{At}
 use Rattle.character_hook.specs.declared.hook.CharacterId.{CharacterId}
 use Rattle.character_hook.specs.declared.hook.Hook.the-variants.{Retracted, Grabbed}
 use Rattle.character_hook.specs.Hooking.{fire, hold}
@@ -79,4 +80,4 @@ pub record ProvedCases : Type 0 where
   -- (9) angles: (1,1) 201, (−1,0) 804, (0,−1) −402
   pub angles : (netAngle (pos 1) (pos 1) ≡ pos 201) × (netAngle (negsuc 0) (pos 0) ≡ pos 804) × (netAngle (pos 0) (negsuc 0) ≡ negsuc 401)
   -- (10) a line of length 0 tests a not-a-number point, so tile (0,0): the only solid one of two by two
-  pub line-of-length-0 : checkLine (record { width = 2; height = 2 }) (1 ∷ 0 ∷ 0 ∷ 0 ∷ []) start start ≡ At (vnew nan nan) Normal
+  pub line-of-length-0 : checkLine (record { width = 2; height = 2 }) (1 ∷ 0 ∷ 0 ∷ 0 ∷ []) start start ≡ Met (At (vnew nan nan) Normal)

@@ -2,4 +2,3 @@ pub mod Variants
 pub mod States
 pub mod Unchanged
 pub mod Cases
-pub mod TooFar

@@ -7,10 +7,7 @@ use Rattle.num_vec2.specs.declared.vec2.{vec2}
 use Rattle.character_hook.specs.declared.hook.Hook.{Hook}
 use Rattle.character_hook.specs.declared.hook.Hook.the-variants.{Retracted, Idle, Flying, Grabbed, Attached, Retracting0, Retracting1, Retracting2}
 use Rattle.character_hook.proofs.hook.Hook as hook
-use Rattle.map_walks.specs.declared.lines.LineCheck.{LineCheck}
-use Rattle.map_walks.specs.declared.lines.LineCheck.the-variants.{BadMap, TooFar, Nothing, At}
-use Rattle.map_walks.proofs.lines.LineCheck as check
-use Rattle.character_hook.specs.Hooking.{fired, strike, retract}
+use Rattle.character_hook.specs.Hooking.{fired, retract}
 
 pub not-idle : (h : Hook) (p d : vec2) → OneOf (0 ∷ 2 ∷ 3 ∷ 4 ∷ 5 ∷ 6 ∷ 7 ∷ []) (tagOf hook.the-type h) → h ≡ fired h p d
 unfolding fired
@@ -33,10 +30,3 @@ not-retracting (Attached p) k = refl
 not-retracting (Retracting0 p) k = absurd (miss (0 ∷ 1 ∷ 2 ∷ 3 ∷ 4 ∷ []) 5 tt k)
 not-retracting (Retracting1 p) k = absurd (miss (0 ∷ 1 ∷ 2 ∷ 3 ∷ 4 ∷ []) 6 tt k)
 not-retracting (Retracting2 p) k = absurd (miss (0 ∷ 1 ∷ 2 ∷ 3 ∷ 4 ∷ []) 7 tt k)
-
-pub not-struck : (h : Hook) (l : LineCheck) → OneOf (0 ∷ 1 ∷ 2 ∷ []) (tagOf check.the-type l) → h ≡ strike h l
-unfolding strike
-not-struck h BadMap k = refl
-not-struck h TooFar k = refl
-not-struck h Nothing k = refl
-not-struck h (At p t) k = absurd (miss (0 ∷ 1 ∷ 2 ∷ []) 3 tt k)

@@ -1,6 +1,5 @@
 -- The flight of a hook in `tick` of lib.rs, as far as nobody else is in it. Definitions only.
 use Prim.Native.Nat.{ℕ}
-use mathlib.Core.Bool.{Bool, true, false, cond}
 use mathlib.Core.List.{List}
 use Rattle.num_vec2.specs.declared.vec2.{vec2}
 use Rattle.character_hook.specs.Hook.{onFlying}
@@ -8,25 +7,17 @@ use Rattle.character_hook.specs.declared.hook.Hook.{Hook}
 use Rattle.game_tuning.specs.declared.Tuning.{Tuning}
 use Rattle.map_tiles.specs.declared.tiles.Sides.{Sides}
 use Rattle.map_walks.specs.Line.{walkLine}
-use Rattle.map_walks.specs.declared.lines.LineCheck.{LineCheck}
-use Rattle.map_walks.specs.declared.lines.LineCheck.the-variants as line
+use Rattle.map_walks.specs.declared.lines.LineWalk.{LineWalk}
+use Rattle.map_walks.specs.declared.lines.LineWalk.the-variants as line
 use Rattle.character_hook.specs.Hooking.{fly, strike, retract}
 use Rattle.character_hook.specs.declared.hooking.Flight.{Flight}
 use Rattle.character_hook.specs.declared.flying.Way.{Way}
 use Rattle.character_hook.specs.declared.flying.Way.the-variants.{TooFar, Still, Along}
 
--- the line is too long to be walked
-abbrev pub tooFar : LineCheck → Bool
-tooFar line.BadMap = false
-tooFar line.TooFar = true
-tooFar line.Nothing = false
-tooFar (line.At p t) = false
-
 -- after the line: refused, or what it strikes
-abbrev pub struckOn : vec2 → Flight → LineCheck → Way
-struckOn from f check =
-    let struck = strike (f .hook) check in
-    cond (tooFar check) TooFar (Along from (f .to) struck)
+abbrev pub struckOn : vec2 → Flight → LineWalk → Way
+struckOn from f line.TooFar = TooFar
+struckOn from f (line.Met hit) = Along from (f .to) (strike (f .hook) hit)
 
 -- a flying hook goes its way; any other leaves early, and one that comes back does so
 unfoldable pub flown : Hook → vec2 → Sides → List ℕ → Tuning → Way

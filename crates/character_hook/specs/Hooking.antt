@@ -14,8 +14,8 @@ use Rattle.character_hook.specs.declared.hook.Hook.{Hook}
 use Rattle.character_hook.specs.declared.hook.Hook.the-variants.{Retracted, Idle, Flying, Grabbed, Attached, Retracting0, Retracting1, Retracting2}
 use Rattle.map_tiles.specs.declared.point.Tile.{Tile}
 use Rattle.map_tiles.specs.declared.point.Tile.the-variants.{Open, Normal, Unhookable}
-use Rattle.map_walks.specs.declared.lines.LineCheck.{LineCheck}
-use Rattle.map_walks.specs.declared.lines.LineCheck.the-variants.{BadMap, TooFar, Nothing, At}
+use Rattle.map_walks.specs.declared.lines.LineHit.{LineHit}
+use Rattle.map_walks.specs.declared.lines.LineHit.the-variants.{Nothing, At}
 use Rattle.game_tuning.specs.declared.Tuning.{Tuning}
 use Rattle.character_hook.specs.declared.hooking.Flight.{Flight}
 use Rattle.character_hook.specs.declared.hooking.Nearest.{Nearest}
@@ -50,9 +50,7 @@ struckBy h p Open = h
 struckBy h p Normal = Attached p
 struckBy h p Unhookable = Retracting0 p
 
-unfoldable pub strike : Hook → LineCheck → Hook
-strike h BadMap = h
-strike h TooFar = h
+unfoldable pub strike : Hook → LineHit → Hook
 strike h Nothing = h
 strike h (At p t) = struckBy h p t
 

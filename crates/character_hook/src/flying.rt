@@ -6,7 +6,7 @@ use game_input::target_dir;
 use game_records::PlayerInput;
 use game_tuning::Tuning;
 use map_tiles::Sides;
-use map_walks::LineCheck;
+use map_walks::LineWalk;
 use map_walks::walk_line;
 use num_vec2::vec2;
 ghost use mathlib.Core.Path.{_≡_};
@@ -48,10 +48,9 @@ impl Hook {
         let flight = fly(from, dir, pos, tuning);
         let to = flight.to;
         let flying = flight.hook;
-        let check = walk_line(sides, tiles, from, to);
-        if let LineCheck::TooFar = check {
+        let LineWalk::Met(hit) = walk_line(sides, tiles, from, to) else {
             return Way::TooFar;
-        }
-        Way::Along(from, to, flying.strike(check))
+        };
+        Way::Along(from, to, flying.strike(hit))
     }
 }

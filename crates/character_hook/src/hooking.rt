@@ -5,7 +5,7 @@ use game_constants::CHARACTER_SIZE;
 use game_constants::MAX_HOOK_GRAB_TIME;
 use game_tuning::Tuning;
 use map_tiles::Tile;
-use map_walks::LineCheck;
+use map_walks::LineHit;
 use num_vec2::vec2;
 ghost use mathlib.Core.Path.{_≡_};
 ghost use Rattle.character_hook.specs.Hooking.{fired, fire, fly, strike, closer, nearer, grab, retract, hold};
@@ -28,10 +28,10 @@ impl Hook {
     }
 
     // What the tiles on the way make of it, also where it has reached its length.
-    pub fn strike(self, check: LineCheck) -> Hook
-        ensures { λ r. ⌜ r ≡ strike self check ⌝ }
+    pub fn strike(self, hit: LineHit) -> Hook
+        ensures { λ r. ⌜ r ≡ strike self hit ⌝ }
     {
-        let LineCheck::At(p, tile) = check else {
+        let LineHit::At(p, tile) = hit else {
             return self;
         };
         match tile {

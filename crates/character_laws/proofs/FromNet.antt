@@ -20,7 +20,7 @@ use Rattle.character_hook.specs.declared.hook.Hook.{Hook}
 use Rattle.character_hook.specs.declared.hook.Hook.the-variants.{Retracted, Idle, Flying, Grabbed, Attached, Retracting0, Retracting1, Retracting2}
 use Rattle.num_convert.specs.Number.{c0}
 use Rattle.character_laws.proofs.Back.{representable-back}
-use Rattle.character.specs.Records.{coreOf, mostTick, toNet, fromNet, back, quantize, netNumber, quantizedNumber}
+use Rattle.character.specs.Records.{coreOf, mostTick, toNet, fromNet, back, quantize}
 use Rattle.character_laws.specs.Representable.{OfI32, Pair, RepresentableHook, Representable, AllI32, HeldBelowZero}
 use Rattle.character.specs.declared.records.Net.{Net}
 use Rattle.character.specs.declared.records.Quantized.{Quantized}
@@ -146,15 +146,6 @@ quantized-representable c d e = go (leb (tickOf (c .hook)) mostTick) (leb→le (
 
 pub quantize-again : (c d : Character) → quantize c ≡ quantized.To d → quantize d ≡ quantized.To d
 quantize-again c d e = representable-back d (quantized-representable c d e)
-
--- refused with the number that `to_net` is refused with
-pub quantize-number : (c : Character) → quantizedNumber (quantize c) ≡ netNumber (toNet c)
-unfolding quantize
-quantize-number c = go (toNet c)
-  where
-    go : (n : Net) → quantizedNumber (back n) ≡ netNumber n
-    go net.TickTooLarge = refl
-    go (net.Core n) = refl
 
 -- so the representable characters are just those that quantizing leaves as they are
 pub back-representable : (c : Character) → quantize c ≡ quantized.To c → Representable c

@@ -11,7 +11,8 @@ use Rattle.map_corners.specs.Tile.{tileOf, tileAt}
 use Rattle.map_tiles.specs.declared.point.Tile.the-variants.{Normal}
 use Rattle.map_tiles.specs.Map.{isSide, isMap, tileIn, checkPoint}
 use Rattle.base_turns.specs.Turns.{run}
-use Rattle.map_walks.specs.declared.lines.LineCheck.the-variants.{At}
+use Rattle.map_walks.specs.declared.lines.LineCheck.the-variants.{Met}
+use Rattle.map_walks.specs.declared.lines.LineHit.the-variants.{At}
 use Rattle.map_walks.specs.Line.{lineTurns, lineTurn, lineHit, walkLine, checkLine}
 
 -- (100.0, 100.0), which is on tile (1, 1) of two by two
@@ -19,6 +20,6 @@ abbrev start : vec2
 start = vnew (ofBits binary32 0x42c8_0000) (ofBits binary32 0x42c8_0000)
 
 -- on a map of two by two of which only tile (0, 0) is solid
-pub at-the-first-tile : checkLine (record { width = 2; height = 2 }) (1 ∷ 0 ∷ 0 ∷ 0 ∷ []) start start ≡ At (vnew nan nan) Normal
+pub at-the-first-tile : checkLine (record { width = 2; height = 2 }) (1 ∷ 0 ∷ 0 ∷ 0 ∷ []) start start ≡ Met (At (vnew nan nan) Normal)
 unfolding checkLine walkLine lineHit lineTurn lineTurns run isMap isSide checkPoint tileIn tileAt tileOf vdistance vlength vmix vadd vsub vmul root rootOf wholeOf i32ToF32 ofBits ofInt add sub mul div neg
 at-the-first-tile = refl

@@ -3,6 +3,8 @@ mod lines;
 mod moves;
 
 pub use lines::LineCheck;
+pub use lines::LineHit;
+pub use lines::LineWalk;
 pub use lines::check_line;
 pub use lines::walk_line;
 pub use moves::Body;

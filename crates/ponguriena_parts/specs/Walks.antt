@@ -10,6 +10,7 @@ use Rattle.map_walks.specs.declared.moves.BoxMove.{BoxMove}
 use Rattle.map_walks.specs.declared.moves.BoxMove.the-variants as moved
 use Rattle.map_walks.specs.declared.lines.LineCheck.{LineCheck}
 use Rattle.map_walks.specs.declared.lines.LineCheck.the-variants as checked
+use Rattle.map_walks.specs.declared.lines.LineHit.the-variants as hit
 
 -- the body that a move leaves, or the one that was handed in where it is refused
 abbrev pub bodyOr : Float → Float → Float → Float → BoxMove → Body
@@ -21,8 +22,8 @@ bodyOr x y vx vy (moved.To b) = b
 abbrev pub pointOr : Float → Float → LineCheck → vec2
 pointOr x y checked.BadMap = vnew x y
 pointOr x y checked.TooFar = vnew x y
-pointOr x y checked.Nothing = vnew x y
-pointOr x y (checked.At p t) = p
+pointOr x y (checked.Met hit.Nothing) = vnew x y
+pointOr x y (checked.Met (hit.At p t)) = p
 
 -- a tile by its byte on the map
 abbrev pub byteOf : Tile → ℕ
@@ -34,5 +35,5 @@ byteOf Unhookable = 3
 abbrev pub tileOr : ℕ → LineCheck → ℕ
 tileOr n checked.BadMap = n
 tileOr n checked.TooFar = n
-tileOr n checked.Nothing = 0
-tileOr n (checked.At p t) = byteOf t
+tileOr n (checked.Met hit.Nothing) = 0
+tileOr n (checked.Met (hit.At p t)) = byteOf t

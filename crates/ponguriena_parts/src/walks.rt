@@ -5,6 +5,7 @@ use map_tiles::Sides;
 use map_tiles::Tile;
 use map_walks::BoxMove;
 use map_walks::LineCheck;
+use map_walks::LineHit;
 use num_vec2::vec2;
 ghost use mathlib.Core.Path.{_≡_};
 ghost use Rattle.num_vec2.specs.Vec2.{vnew};
@@ -78,16 +79,18 @@ pub extern "C" fn ponguriena_check_line(
     match check {
         LineCheck::BadMap => BAD_MAP,
         LineCheck::TooFar => TOO_FAR,
-        LineCheck::Nothing => {
-            *tile = 0;
-            0
-        }
-        LineCheck::At(p, t) => {
-            *point_x = p.x;
-            *point_y = p.y;
-            *tile = byte_of(t);
-            0
-        }
+        LineCheck::Met(hit) => match hit {
+            LineHit::Nothing => {
+                *tile = 0;
+                0
+            }
+            LineHit::At(p, t) => {
+                *point_x = p.x;
+                *point_y = p.y;
+                *tile = byte_of(t);
+                0
+            }
+        },
     }
 }
 

@@ -4,6 +4,7 @@ use map_tiles::Sides;
 use map_tiles::Tile;
 use map_walks::BoxMove;
 use map_walks::LineCheck;
+use map_walks::LineHit;
 use test_common::AFTER_MAP;
 use test_common::Counts;
 use test_common::MOST_LINES;
@@ -66,9 +67,11 @@ fn line_case(sides: Sides, tiles: &[u8], patterns: &[u8]) -> bool {
     match check {
         LineCheck::BadMap => false,
         LineCheck::TooFar => number == 9,
-        LineCheck::Nothing => number == 0,
-        LineCheck::At(p, tile) => number == byte_of(tile)
-            && is_point(p, nth(patterns, 7), nth(patterns, 8)),
+        LineCheck::Met(hit) => match hit {
+            LineHit::Nothing => number == 0,
+            LineHit::At(p, tile) => number == byte_of(tile)
+                && is_point(p, nth(patterns, 7), nth(patterns, 8)),
+        },
     }
 }
 

@@ -92,7 +92,6 @@ module _ (n : ℕ) (s : Sides) (ts : List ℕ) where
       }
 
   leave-next : (z : ℤ) (w : World) (id : ℤ) → Settled n w → Reached n s ts z w → Next z w (Leave id)
-  unfolding emptySlot
   leave-next z w id g h =
       let j = placeOf n id in
       let a = calls.leave n w id in
@@ -194,7 +193,7 @@ module _ (n : ℕ) (s : Sides) (ts : List ℕ) where
 
   -- nobody is in a fresh world
   fresh-absent : (k : ℕ) → slotAt (fresh n .slots) k .present ≡ false
-  unfolding fresh emptySlot
+  unfolding fresh
   fresh-absent = replicate-every (λ (x : Slot). x .present ≡ false) n emptySlot nowhere refl refl
 
 -- ---- the four corners

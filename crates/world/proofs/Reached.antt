@@ -49,14 +49,14 @@ module _ (n : ℕ) (s : Sides) (ts : List ℕ) where
   set-reached z w j x h a = record { stands = set-every (λ k. Standing s ts) (w .slots) j x nowhere (h .stands) a; tuned = h .tuned }
 
   pub empty-standing : Standing s ts emptySlot
-  unfolding emptySlot spawn
+  unfolding spawn
   empty-standing = record { clear = λ e. absurd (true≢false (sym e)); pos-fits = λ e. absurd (true≢false (sym e)); vel-fits = (ofBits-fits binary32 0, ofBits-fits binary32 0) }
 
   nowhere-standing : Standing s ts nowhere
   nowhere-standing = record { clear = λ e. absurd (true≢false (sym e)); pos-fits = λ e. absurd (true≢false (sym e)); vel-fits = (nan-fits binary32, nan-fits binary32) }
 
   pub fresh-reached : Reached (pos 100) (fresh n)
-  unfolding fresh freshTunings emptySlot
+  unfolding fresh freshTunings
   fresh-reached = record { stands = replicate-every (Standing s ts) n emptySlot nowhere empty-standing nowhere-standing; tuned = refl }
 
   -- ---- a step

@@ -40,7 +40,7 @@ joined-representable n w s ts id x y f = spawn-representable x y (reach-i32 x (f
 
 module _ (n : ℕ) where
   fresh-settled : Settled n (fresh n)
-  unfolding fresh freshTunings emptySlot
+  unfolding fresh freshTunings
   fresh-settled = record {
     seats = length-replicate n emptySlot;
     tunings = refl;
@@ -96,7 +96,6 @@ module _ (n : ℕ) where
   -- ---- every call, and every list of them
   module _ (s : Sides) (ts : List ℕ) where
     pub answer-settled : (w : World) (c : Call) → Settled n w → Settled n (ran n s ts w c .world)
-    unfolding emptySlot
     answer-settled w (Join id x y) h = slot-settled w (placeOf n id) (joinedSlot (pointOf x y)) _ (join-outcome n w s ts id x y) h (λ f. (λ e. joined-representable n w s ts id x y f, λ e. absurd (true≢false e)))
     answer-settled w (Leave id) h = slot-settled w (placeOf n id) emptySlot _ (leave-outcome n w id) h (λ f. (λ e. absurd (true≢false (sym e)), λ e. refl))
     answer-settled w (Input id d x y j k) h = slot-settled w (placeOf n id) (withInput (slotAt (w .slots) (placeOf n id)) (inputOf d x y j k)) _ (input-outcome n w id (inputOf d x y j k)) h (λ f. (λ e. h .representable (placeOf n id) (f .seat) (f .there), λ e. absurd (true≢false (sym (f .there) ∙ e))))

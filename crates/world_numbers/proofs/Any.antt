@@ -47,7 +47,7 @@ seat-representable l h =
     (λ e. not-below-zero (numberAt l 10) (e .less) (e .ticks))
 
 seat-kept : (l : List ℤ) → AllI32 l → Kept (seatOf l)
-unfolding seatOf emptySlot
+unfolding seatOf
 seat-kept l h = go (isPresent (numberAt l 0))
   where
     go : (b : Bool) → Kept (cond b (withInput (withCharacter (joinedSlot (fromNet (readable (coreIn (drop 1 l))) .pos)) (fromNet (readable (coreIn (drop 1 l))))) (inputIn (drop recordCount l))) emptySlot)

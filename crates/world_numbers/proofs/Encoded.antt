@@ -59,7 +59,7 @@ seat-back s l k = go (s .present) refl
   where
     go : (b : Bool) → s .present ≡ b → seatOf (seatNumbers s ++ l) ≡ s
     go true e = rw e (ap (λ (c : Character). withInput (withCharacter (joinedSlot (c .pos)) c) (s .input)) (record-back (s .character) (k .somebody e)))
-    go false e = rw e (sym (k .nobody e) ∙ ap (λ (b : Bool). record { present = b; character = s .character; input = s .input }) e)
+    go false e = ap (λ (x : Slot). seatOf (seatNumbers x ++ l)) (k .nobody e) ∙ sym (k .nobody e)
 
 -- the numbers of a seat are passed
 seat-passed : (s : Slot) (l : List ℤ) → drop seatCount (seatNumbers s ++ l) ≡ l

@@ -14,7 +14,6 @@ no-input-requires : tie.Need-no-input-requires
 no-input-requires c κs = search needs
 
 returns : tie.Need-returns
-unfolding emptySlot
 returns c = simp (c .no-input .ensures, c .before .spawn .ensures, c .before .before .new .ensures)
 
 pub empty-spec : {M : Type 1} → statement M

@@ -1,7 +1,8 @@
 -- `ponguriena_parts::walks::ponguriena_check_line` meets its contract. Assumes nothing.
-use mathlib.Core.Path.{_≡_, refl, sym, _∙_}
+use mathlib.Core.Path.{_≡_, refl, sym, ap, _∙_}
 use Rattle.num_vec2.specs.Vec2.{vnew}
 use Rattle.map_walks.specs.Line.{checkLine}
+use Rattle.map_walks.specs.declared.lines.LineCheck.the-variants.{Met}
 use Rattle.map_tiles.specs.Map.{sidesOf}
 use borrow.Author.Needs.{needs}
 use Rattle.ponguriena_parts.proofs.walks.ponguriena_check_line.Statement.{statement}
@@ -26,11 +27,14 @@ enum-told c = search needs
 enum-told-2 : tie.Need-enum-told-2
 enum-told-2 c = search needs
 
+enum-known-check : tie.Need-enum-known-check
+enum-known-check c = search needs
+
 enum-told-3 : tie.Need-enum-told-3
 enum-told-3 c = search needs
 
-enum-known-check : tie.Need-enum-known-check
-enum-known-check c = search needs
+enum-known-hit : tie.Need-enum-known-hit
+enum-known-hit c = search needs
 
 byte-of-requires : tie.Need-byte-of-requires
 byte-of-requires c κs = search needs
@@ -42,10 +46,10 @@ returns-2 : tie.Need-returns-2
 returns-2 c = let e = sym (checked-is (c .before .before)) ∙ c .enum-told2 .given .1 in (rw e refl, (rw e refl, rw e refl))
 
 returns-3 : tie.Need-returns-3
-returns-3 c = let e = sym (checked-is (c .before .before)) ∙ c .enum-told3 .given .1 in (rw e refl, (rw e refl, rw e refl))
+returns-3 c = let e = sym (checked-is (c .before .before .before .before .before)) ∙ c .before .before .before .check .given .1 ∙ ap Met (c .enum-told3 .given .1) in (rw e refl, (rw e refl, rw e refl))
 
 returns-4 : tie.Need-returns-4
-returns-4 c = let e = sym (checked-is (c .before .before .before .before)) ∙ c .before .before .check .given .1 in (rw e refl, (rw e refl, rw e (c .byte-of .ensures)))
+returns-4 c = let e = sym (checked-is (c .before .before .before .before .before .before .before)) ∙ c .before .before .before .before .before .check .given .1 ∙ ap Met (c .before .before .hit .given .1) in (rw e refl, (rw e refl, rw e (c .byte-of .ensures)))
 
 pub ponguriena-check-line-spec : {M : Type 1} → statement M
 ponguriena-check-line-spec =
@@ -56,8 +60,9 @@ ponguriena-check-line-spec =
     check-line-requires
     enum-told
     enum-told-2
-    enum-told-3
     enum-known-check
+    enum-told-3
+    enum-known-hit
     byte-of-requires
     returns
     returns-2

@@ -3,28 +3,33 @@ use mathlib.Core.Bool.{true, false}
 use mathlib.Core.List.{List}
 use mathlib.Core.Logic.{⊎-elim}
 use mathlib.Core.Path.{_≡_, sym, ap, _∙_}
-use Prim.Native.Nat.{ℕ, _-_}
+use Prim.Native.Nat.{ℕ, _-_, _<_}
 use native.Mathlib.Omega.{arith}
+use lib.ListN.{length, set, length-set}
 use borrow.Author.Needs.{needs}
 use Rattle.base_turns.proofs.Loop.{Left, turn-first, turn-on, turn-off, turn-end}
 use Rattle.base_turns.specs.Turns.{more, stop}
 use Rattle.map_tiles.specs.declared.tiles.Sides.{Sides}
 use Rattle.game_tuning.specs.declared.Tuning.{Tuning}
-use Rattle.character.specs.Tick.{seats, slotAt, afterPull, tickAt}
+use Rattle.character.specs.Slot.{withCharacter}
+use Rattle.character.specs.Tick.{seats, slotAt, afterPull, pulledSeat, pulledSlot, tickAt}
 use Rattle.character.specs.declared.Slot.{Slot}
 use Rattle.character.specs.declared.tick.AfterTick.{AfterTick}
 use Rattle.character.specs.declared.tick.TickedAt.{TickedAt}
 use Rattle.character.specs.declared.tick.TickedAt.the-variants as ticked
 use Rattle.game_refusals.specs.Refusals.{tooFar}
-use Rattle.world.specs.Step.{putBack, tickTurn, tickAll}
+use Rattle.world.specs.Step.{tickTurn, tickAll}
 use Rattle.world_step.specs.Ticks.{ticksOf}
+use Rattle.world_step.proofs.Pulled.{pulled-below, pulled-there}
 use Rattle.world_step.proofs.ticking.tick_all.Statement.{statement}
 use Rattle.world_step.proofs.ticking.tick_all.Tie as tie
 
 -- a turn, on plain values: a tick; a tick that is refused; nobody
 module _ (s : Sides) (ts : List ℕ) (t : Tuning) (j : ℕ) (ss : List Slot) where
-  ticks : (k : TickedAt) (a : AfterTick) (us : List Slot) → slotAt ss j .present ≡ true → k ≡ tickAt seats (slotAt ss j .character) j ss s ts (slotAt ss j .input) t → k ≡ ticked.To a → us ≡ putBack (afterPull ss (a .pull)) j (a .me) → tickTurn seats s ts t j ss ≡ more us
-  ticks k a us p e z q = simp (p, ← e, z, q)
+  ticks : (k : TickedAt) (a : AfterTick) (at : ℕ) (other own : Slot) (us : List Slot) → slotAt ss j .present ≡ true → k ≡ tickAt seats (slotAt ss j .character) j ss s ts (slotAt ss j .input) t → k ≡ ticked.To a → j < seats → length ss ≡ seats → at ≡ pulledSeat seats (a .pull) j → other ≡ pulledSlot (slotAt ss at) (a .pull) at → own ≡ withCharacter (slotAt (set ss at other) j) (a .me) → us ≡ set (set ss at other) j own → tickTurn seats s ts t j ss ≡ more us
+  ticks k a at other own us p e z h n place pulled mine q =
+      let there : set ss at other ≡ afterPull ss (a .pull) = rw (pulled, place) (pulled-there seats j h ss (a .pull) n) in
+      simp (p, ← e, z, q, mine, there)
 
   refuses : (k : TickedAt) → slotAt ss j .present ≡ true → k ≡ tickAt seats (slotAt ss j .character) j ss s ts (slotAt ss j .input) t → k ≡ ticked.TooFar → tickTurn seats s ts t j ss ≡ stop tooFar
   refuses k p e z = simp (p, ← e, z)
@@ -33,14 +38,14 @@ module _ (s : Sides) (ts : List ℕ) (t : Tuning) (j : ℕ) (ss : List Slot) whe
   nobody us p q = simp (p, q)
 
 abbrev Inv-loop : tie.InvT-loop
-Inv-loop slots sides tiles tuning all₀ id₀ all id = Left (tickTurn seats sides tiles tuning) seats id all (tickAll seats all₀ sides tiles tuning)
+Inv-loop slots sides tiles tuning all₀ id₀ all id = Left (tickTurn seats sides tiles tuning) seats id all (tickAll seats all₀ sides tiles tuning) × (length all ≡ seats)
 
 abbrev μ-loop : tie.MeasureT-loop
 μ-loop slots sides tiles tuning all₀ id₀ all id = seats - id
 
 loop-holds : tie.Need-loop-holds Inv-loop μ-loop
 unfolding tickAll
-loop-holds c = turn-first
+loop-holds c = (turn-first, search needs)
 
 mul-slot : tie.Need-mul-slot Inv-loop μ-loop
 mul-slot c = search needs
@@ -61,10 +66,44 @@ returns : tie.Need-returns Inv-loop μ-loop
 returns c =
     let a = c .before .before .before .before .before .before .before .before .before .args in
     let l = c .before .before .before .before .before .before .before .loop in
-    sym (ap (ticksOf (a .slots)) (turn-off (l .inv) (c .before .before .before .before .before .before .loop-test .taken) (refuses (a .sides) (a .tiles .now) (a .tuning) (l .id) (l .all) (c .before .before .tick-at .result) (c .before .before .before .before .if1 .taken) (c .before .before .tick-at .ensures) (c .enum-told .given .1))))
+    sym (ap (ticksOf (a .slots)) (turn-off (l .inv .0) (c .before .before .before .before .before .before .loop-test .taken) (refuses (a .sides) (a .tiles .now) (a .tuning) (l .id) (l .all) (c .before .before .tick-at .result) (c .before .before .before .before .if1 .taken) (c .before .before .tick-at .ensures) (c .enum-told .given .1))))
 
-after-tick-requires : tie.Need-after-tick-requires Inv-loop μ-loop
-after-tick-requires c κs = omega (arith, c .before .before .before .before .before .before .before .loop-test .taken)
+pulled-seat-requires : tie.Need-pulled-seat-requires Inv-loop μ-loop
+pulled-seat-requires c κs = search needs
+
+-- it pulls at a seat
+below : (c : tie.After-pulled-seat Inv-loop μ-loop) → c .pulled-seat .result < seats
+below c = rw (c .pulled-seat .ensures) (pulled-below seats (c .before .before .before .before .before .before .before .before .before .loop .id) (c .before .before .before .before .before .before .before .before .loop-test .taken) _)
+
+mul-other : tie.Need-mul-other Inv-loop μ-loop
+mul-other c = let b = below c in omega (arith, b)
+
+array-copy-out-other : tie.Need-array-copy-out-other Inv-loop μ-loop
+array-copy-out-other c = below c
+
+pulled-requires : tie.Need-pulled-requires Inv-loop μ-loop
+pulled-requires c κs = search needs
+
+mul-all : tie.Need-mul-all Inv-loop μ-loop
+mul-all c = let b = below (c .before .before) in omega (arith, b)
+
+array-set-from-all : tie.Need-array-set-from-all Inv-loop μ-loop
+array-set-from-all c = below (c .before .before)
+
+mul-own : tie.Need-mul-own Inv-loop μ-loop
+mul-own c = search needs
+
+array-copy-out-own : tie.Need-array-copy-out-own Inv-loop μ-loop
+array-copy-out-own c = search needs
+
+with-character-requires : tie.Need-with-character-requires Inv-loop μ-loop
+with-character-requires c κs = search needs
+
+mul-all-2 : tie.Need-mul-all-2 Inv-loop μ-loop
+mul-all-2 c = let h = c .before .before .before .before .before .before .before .before .before .before .before .before .before .loop-test .taken in omega (arith, h)
+
+array-set-from-all-2 : tie.Need-array-set-from-all-2 Inv-loop μ-loop
+array-set-from-all-2 c = c .before .before .before .before .before .before .before .before .before .before .before .before .before .loop-test .taken
 
 add-id : tie.Need-add-id Inv-loop μ-loop
 add-id c = omega arith
@@ -76,11 +115,14 @@ loop-again : tie.Need-loop-again Inv-loop μ-loop
 loop-again c =
     let a = c .before .before .before .before .before .args in
     let l = c .before .before .before .loop in
-    turn-on (l .inv) (c .before .before .loop-test .taken)
-    (⊎-elim (λ w. ticks (a .sides) (a .tiles .now) (a .tuning) (l .id) (l .all) (w .2 .result) (w .4 .given .0 .0) _ (w .0 .taken) (w .2 .ensures) (w .4 .given .1) (w .7 ∙ w .6 .ensures)) (λ w. nobody (a .sides) (a .tiles .now) (a .tuning) (l .id) (l .all) _ (w .0 .left) (w .1)) (c .if1 .came))
+    let h = c .before .before .loop-test .taken in (
+      turn-on (l .inv .0) h
+          (⊎-elim (λ w. ticks (a .sides) (a .tiles .now) (a .tuning) (l .id) (l .all) (w .2 .result) (w .4 .given .0 .0) (w .6 .result) (w .8 .result) (w .11 .result) _ (w .0 .taken) (w .2 .ensures) (w .4 .given .1) h (l .inv .1) (w .6 .ensures) (w .8 .ensures) (w .11 .ensures) (w .12)) (λ w. nobody (a .sides) (a .tiles .now) (a .tuning) (l .id) (l .all) _ (w .0 .left) (w .1)) (c .if1 .came)),
+      ⊎-elim (λ w. ap length (w .12) ∙ length-set (set (l .all) (w .6 .result) (w .8 .result)) (l .id) (w .11 .result) ∙ length-set (l .all) (w .6 .result) (w .8 .result) ∙ l .inv .1) (λ w. ap length (w .1) ∙ l .inv .1) (c .if1 .came),
+    )
 
 returns-2 : tie.Need-returns-2 Inv-loop μ-loop
-returns-2 c = sym (ap (ticksOf (c .before .before .before .args .slots)) (turn-end (c .before .loop .inv) (c .loop-test .left)))
+returns-2 c = sym (ap (ticksOf (c .before .before .before .args .slots)) (turn-end (c .before .loop .inv .0) (c .loop-test .left)))
 
 pub tick-all-spec : {M : Type 1} → statement M
 tick-all-spec =
@@ -95,7 +137,17 @@ tick-all-spec =
     enum-known-ticked
     enum-told
     returns
-    after-tick-requires
+    pulled-seat-requires
+    mul-other
+    array-copy-out-other
+    pulled-requires
+    mul-all
+    array-set-from-all
+    mul-own
+    array-copy-out-own
+    with-character-requires
+    mul-all-2
+    array-set-from-all-2
     add-id
     loop-less
     loop-again

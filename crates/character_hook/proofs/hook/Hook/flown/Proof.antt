@@ -1,6 +1,5 @@
 -- `character_hook::hook::Hook::flown` meets its contract. Assumes nothing.
 use borrow.Author.Needs.{needs}
-use Rattle.character_hook.proofs.TooFar.{not-too-far}
 use Rattle.character_hook.specs.Flying.{flown}
 use Rattle.character_hook.proofs.Variants.{not-flying}
 use Rattle.character_hook.proofs.hook.Hook.flown.Statement.{statement}
@@ -25,6 +24,9 @@ walk-line-requires c κs = search needs
 enum-told : tie.Need-enum-told
 enum-told c = search needs
 
+enum-known-hit : tie.Need-enum-known-hit
+enum-known-hit c = search needs
+
 returns-2 : tie.Need-returns-2
 unfolding flown
 returns-2 c = simp (c .before .before .before .before .before .before .self .given .1, ← c .before .before .before .before .fly .ensures, ← c .before .before .walk-line .ensures, c .enum-told .given .1)
@@ -34,7 +36,7 @@ strike-requires c κs = search needs
 
 returns-3 : tie.Need-returns-3
 unfolding flown
-returns-3 c = simp (c .before .before .before .before .before .before .self .given .1, ← c .before .before .before .before .fly .ensures, ← c .before .before .walk-line .ensures, not-too-far (c .before .before .walk-line .result) (c .before .match2 .keys2), ← c .strike .ensures)
+returns-3 c = simp (c .before .before .before .before .before .before .before .before .self .given .1, ← c .before .before .before .before .before .before .fly .ensures, ← c .before .before .before .before .walk-line .ensures, c .before .before .hit .given .1, ← c .strike .ensures)
 
 pub flown-spec : {M : Type 1} → statement M
 flown-spec =
@@ -45,6 +47,7 @@ flown-spec =
     returns
     fly-requires
     walk-line-requires
+    enum-known-hit
     enum-told
     returns-2
     strike-requires

@@ -1,15 +1,15 @@
--- `test_physics::answers::slots_agree` is safe and ends. Assumes nothing.
+-- `test_physics::slots_agree` is safe and ends. Assumes nothing.
 use Prim.Native.Nat.{_-_, _≤_}
 use native.Mathlib.Omega.{arith}
 use borrow.Author.Needs.{needs}
-use Rattle.test_physics.proofs.answers.slots_agree.Statement.{statement}
-use Rattle.test_physics.proofs.answers.slots_agree.Tie as tie
+use Rattle.test_physics.proofs.slots_agree.Statement.{statement}
+use Rattle.test_physics.proofs.slots_agree.Tie as tie
 
 abbrev Inv-loop : tie.InvT-loop
-Inv-loop words slots agree₀ j₀ agree j = j ≤ 16
+Inv-loop words slots pull agree₀ j₀ agree j = j ≤ 16
 
 abbrev μ-loop : tie.MeasureT-loop
-μ-loop words slots agree₀ j₀ agree j = 16 - j
+μ-loop words slots pull agree₀ j₀ agree j = 16 - j
 
 loop-holds : tie.Need-loop-holds Inv-loop μ-loop
 loop-holds c = omega arith

@@ -1,11 +1,11 @@
--- `test_physics::scene::slots_of` is safe and ends. Assumes nothing.
+-- `test_physics::slots_of` is safe and ends. Assumes nothing.
 use mathlib.Core.Path.{_≡_}
 use Prim.Native.Nat.{_-_, _≤_}
 use native.Mathlib.Omega.{arith}
 use borrow.Author.Needs.{needs}
 use lib.ListN.{length, length-set}
-use Rattle.test_physics.proofs.scene.slots_of.Statement.{statement}
-use Rattle.test_physics.proofs.scene.slots_of.Tie as tie
+use Rattle.test_physics.proofs.slots_of.Statement.{statement}
+use Rattle.test_physics.proofs.slots_of.Tie as tie
 
 abbrev Inv-loop : tie.InvT-loop
 Inv-loop words slots₀ j₀ slots j = (j ≤ 16) × (length slots ≡ 16)

@@ -1,11 +1,11 @@
--- `test_physics::scene::tunings_of` is safe and ends. Assumes nothing.
+-- `test_physics::tunings_of` is safe and ends. Assumes nothing.
 use mathlib.Core.Path.{_≡_}
 use Prim.Native.Nat.{_-_, _≤_}
 use native.Mathlib.Omega.{arith}
 use borrow.Author.Needs.{needs}
 use lib.ListN.{length, length-set}
-use Rattle.test_physics.proofs.scene.tunings_of.Statement.{statement}
-use Rattle.test_physics.proofs.scene.tunings_of.Tie as tie
+use Rattle.test_physics.proofs.tunings_of.Statement.{statement}
+use Rattle.test_physics.proofs.tunings_of.Tie as tie
 
 abbrev Inv-loop : tie.InvT-loop
 Inv-loop words tunings₀ i₀ tunings i = (i ≤ 18) × (length tunings ≡ 18)
