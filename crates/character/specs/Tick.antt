@@ -33,7 +33,7 @@ use Rattle.character_hook.specs.declared.flying.Way.the-variants as way
 use Rattle.character_motion.specs.Meeting.{meet, pullOn}
 use Rattle.character_motion.specs.declared.meeting.HookPull.{HookPull}
 use Rattle.character_motion.specs.declared.meeting.HookPull.the-variants as pull
-use Rattle.character.specs.Slot.{emptySlot, withCharacter}
+use Rattle.character.specs.Slot.{emptySlot, withCharacter, withGrounded}
 use Rattle.character.specs.declared.Character.{Character}
 use Rattle.character.specs.declared.Slot.{Slot}
 use Rattle.character.specs.declared.tick.AfterTick.{AfterTick}
@@ -129,20 +129,25 @@ pulledSlot s pull.Nobody j = s
 pulledSlot s (pull.Of cid v) j = cond (eqb (cid .0) j) (withCharacter s (withVel (s .character) v)) s
 
 -- after the flight: the drag of an attached hook, the count of a held one, the others, the clamp, and whom the hook pulls
-unfoldable pub hooked : ℕ → Character → Hook → ℕ → List Slot → Tuning → AfterTick
-hooked n c h id ss t =
+unfoldable pub hooked : ℕ → Character → Bool → Hook → ℕ → List Slot → Tuning → AfterTick
+hooked n c onGround h id ss t =
     let vel = meetAll n ss id (c .pos) (dragged h (c .pos) (c .vel) (c .«move_direction») t) (hold h) t in
-    record { me = withVel (withHook c (hold h)) (clampSpeed vel); pull = pullOf n ss id (c .pos) (hold h) t }
+    record { me = withVel (withHook c (hold h)) (clampSpeed vel); pull = pullOf n ss id (c .pos) (hold h) t; grounded = onGround }
 
 -- a hook that would fly too far refuses the tick
-abbrev pub ticked : ℕ → Character → ℕ → List Slot → Tuning → HookFlight → TickedAt
-ticked n c id ss t TooFar = at.TooFar
-ticked n c id ss t (To h) = at.To (hooked n c h id ss t)
+abbrev pub ticked : ℕ → Character → Bool → ℕ → List Slot → Tuning → HookFlight → TickedAt
+ticked n c onGround id ss t TooFar = at.TooFar
+ticked n c onGround id ss t (To h) = at.To (hooked n c onGround h id ss t)
 
 unfoldable pub tickAt : ℕ → Character → ℕ → List Slot → Sides → List ℕ → PlayerInput → Tuning → TickedAt
 tickAt n c id ss s ts i t =
-    let steered = steer c (grounded s ts (c .pos)) i t in
-    ticked n steered id ss t (flight n (steered .hook) (c .pos) id ss s ts t)
+    let onGround = grounded s ts (c .pos) in
+    let steered = steer c onGround i t in
+    ticked n steered onGround id ss t (flight n (steered .hook) (c .pos) id ss s ts t)
+
+-- what its own tick leaves of a slot: the character, and the floor mark
+abbrev pub tickedSlot : Slot → AfterTick → Slot
+tickedSlot s a = withGrounded (withCharacter s (a .me)) (a .grounded)
 
 -- the same answer, as one of `tick`
 abbrev pub tickedOf : TickedAt → Ticked

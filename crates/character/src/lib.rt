@@ -35,11 +35,12 @@ pub struct Character {
 // How many characters a world has room for.
 pub const SEATS: usize = 16;
 
-// A place for a character: there or not, with its last input.
+// A place for a character: there or not, with its last input and its floor mark, what `grounded` answered in its last tick.
 pub struct Slot {
     pub present: bool,
     pub character: Character,
     pub input: PlayerInput,
+    pub grounded: bool,
 }
 
 impl Character {

@@ -1,13 +1,14 @@
-// A slot: empty, joined, and with one of its parts set; and what a pull leaves of it.
+// A slot: empty, joined, and with one of its parts set; and what a pull and its own tick leave of it.
 use crate::Character;
 use crate::SEATS;
 use crate::Slot;
+use crate::tick::AfterTick;
 use character_motion::HookPull;
 use game_records::PlayerInput;
 use num_vec2::vec2;
 ghost use mathlib.Core.Path.{_≡_};
-ghost use Rattle.character.specs.Slot.{noInput, emptySlot, joinedSlot, withCharacter, withInput};
-ghost use Rattle.character.specs.Tick.{seats, pulledSeat, pulledSlot};
+ghost use Rattle.character.specs.Slot.{noInput, emptySlot, joinedSlot, withCharacter, withInput, withGrounded};
+ghost use Rattle.character.specs.Tick.{seats, pulledSeat, pulledSlot, tickedSlot};
 
 impl Slot {
     pub fn empty() -> Slot
@@ -17,6 +18,7 @@ impl Slot {
             present: false,
             character: Character::spawn(vec2::new(0.0, 0.0)),
             input: no_input(),
+            grounded: false,
         }
     }
 
@@ -27,6 +29,7 @@ impl Slot {
             present: true,
             character: Character::spawn(pos),
             input: no_input(),
+            grounded: false,
         }
     }
 
@@ -42,6 +45,22 @@ impl Slot {
     {
         self.input = input;
         self
+    }
+
+    pub fn with_grounded(mut self, grounded: bool) -> Slot
+        ensures { λ r. ⌜ r ≡ withGrounded self grounded ⌝ }
+    {
+        self.grounded = grounded;
+        self
+    }
+
+    // What its own tick leaves of it.
+    pub fn ticked(mut self, after: AfterTick) -> Slot
+        ensures { λ r. ⌜ r ≡ tickedSlot self after ⌝ }
+    {
+        let me = after.me;
+        self.grounded = after.grounded;
+        self.with_character(me)
     }
 
     // What a pull leaves of the slot at a seat.

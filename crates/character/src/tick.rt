@@ -47,10 +47,11 @@ pub enum TickedAt {
     To(AfterTick),
 }
 
-// The character after its tick, and whom its hook pulls.
+// The character after its tick, whom its hook pulls, and whether it stood on the ground.
 pub struct AfterTick {
     pub me: Character,
     pub pull: HookPull,
+    pub grounded: bool,
 }
 
 // What becomes of a hook.
@@ -98,7 +99,8 @@ impl Character {
         ensures { λ r. ⌜ r ≡ tickAt seats self id slots sides (now (tiles .entry)) input tuning ⌝ }
     {
         let pos = self.pos;
-        let steered = self.steer(grounded(sides, tiles, pos), input, tuning);
+        let on_ground = grounded(sides, tiles, pos);
+        let steered = self.steer(on_ground, input, tuning);
         let fired = steered.hook;
         let flight = caught(
             fired.flown(pos, sides, tiles, tuning),
@@ -109,12 +111,19 @@ impl Character {
         let HookFlight::To(hook) = flight else {
             return TickedAt::TooFar;
         };
-        TickedAt::To(steered.hooked(hook, id, slots, tuning))
+        TickedAt::To(steered.hooked(on_ground, hook, id, slots, tuning))
     }
 
     // After the flight: the drag of an attached hook, the count of a held one, the others, and the clamp.
-    fn hooked(mut self, hook: Hook, id: usize, slots: [Slot; SEATS], tuning: Tuning) -> AfterTick
-        ensures { λ r. ⌜ r ≡ hooked seats self hook id slots tuning ⌝ }
+    fn hooked(
+        mut self,
+        grounded: bool,
+        hook: Hook,
+        id: usize,
+        slots: [Slot; SEATS],
+        tuning: Tuning,
+    ) -> AfterTick
+        ensures { λ r. ⌜ r ≡ hooked seats self grounded hook id slots tuning ⌝ }
     {
         let pos = self.pos;
         let direction = self.move_direction;
@@ -125,7 +134,11 @@ impl Character {
         let pull = pull_of(slots, id, pos, held, tuning);
         self = self.with_hook(held);
         self.vel = clamped;
-        AfterTick { me: self, pull }
+        AfterTick {
+            me: self,
+            pull,
+            grounded,
+        }
     }
 
     // Direction and angle, gravity and jump, the hook's button, walking and friction.

@@ -76,29 +76,29 @@ module _ (t : Tuning) (collision : ne (t .«player_collision») c0 ≡ false) (h
   flight-alone : (n : ℕ) (h : Hook) (p : vec2) (id : ℕ) (ss us : List Slot) (s : Sides) (ts : List ℕ) → flight n h p id ss s ts t ≡ flight n h p id us s ts t
   flight-alone n h p id ss us s ts = caught-alone n (flown h p s ts t) id ss us
 
-  hooked-alone : (n : ℕ) (c : Character) (h : Hook) (id : ℕ) (ss us : List Slot) → hooked n c h id ss t ≡ hooked n c h id us t
+  hooked-alone : (n : ℕ) (c : Character) (g : Bool) (h : Hook) (id : ℕ) (ss us : List Slot) → hooked n c g h id ss t ≡ hooked n c g h id us t
   unfolding hooked
-  hooked-alone n c h id ss us =
+  hooked-alone n c g h id ss us =
       let p = c .pos in
       let v = dragged h p (c .vel) (c .«move_direction») t in
       rw (meet-all-alone n ss id p v (hold h), meet-all-alone n us id p v (hold h), pull-alone n ss id p (hold h), pull-alone n us id p (hold h))
 
-  ticked-alone : (n : ℕ) (c : Character) (id : ℕ) (ss us : List Slot) (f : HookFlight) → ticked n c id ss t f ≡ ticked n c id us t f
-  ticked-alone n c id ss us TooFar = refl
-  ticked-alone n c id ss us (To h) = rw (hooked-alone n c h id ss us)
+  ticked-alone : (n : ℕ) (c : Character) (g : Bool) (id : ℕ) (ss us : List Slot) (f : HookFlight) → ticked n c g id ss t f ≡ ticked n c g id us t f
+  ticked-alone n c g id ss us TooFar = refl
+  ticked-alone n c g id ss us (To h) = rw (hooked-alone n c g h id ss us)
 
   -- the same answer whoever else is there
   pub tick-alone : (n : ℕ) (c : Character) (id : ℕ) (ss us : List Slot) (s : Sides) (ts : List ℕ) (i : PlayerInput) → tickAt n c id ss s ts i t ≡ tickAt n c id us s ts i t
   unfolding tickAt
   tick-alone n c id ss us s ts i =
       let k = steer c (grounded s ts (c .pos)) i t in
-      rw (flight-alone n (k .hook) (c .pos) id ss us s ts) (ticked-alone n k id ss us (flight n (k .hook) (c .pos) id us s ts t))
+      rw (flight-alone n (k .hook) (c .pos) id ss us s ts) (ticked-alone n k (grounded s ts (c .pos)) id ss us (flight n (k .hook) (c .pos) id us s ts t))
 
   -- and nobody is pulled
   pub tick-pulls-nobody : (n : ℕ) (c : Character) (id : ℕ) (ss : List Slot) (s : Sides) (ts : List ℕ) (i : PlayerInput) → Then (λ a. a .pull ≡ Nobody) (tickAt n c id ss s ts i t)
   unfolding tickAt hooked
   tick-pulls-nobody n c id ss s ts i = let d = steer c (grounded s ts (c .pos)) i t in go d (flight n (d .hook) (c .pos) id ss s ts t)
     where
-      go : (d : Character) (f : HookFlight) → Then (λ a. a .pull ≡ Nobody) (ticked n d id ss t f)
+      go : (d : Character) (f : HookFlight) → Then (λ a. a .pull ≡ Nobody) (ticked n d (grounded s ts (c .pos)) id ss t f)
       go d TooFar = tt
       go d (To h) = pull-alone n ss id (d .pos) (hold h)

@@ -170,10 +170,10 @@ module _ (tunings : List ℤ) where
   pull-of-fits n ss id p h l =
       on-grabbed FitsPull pull.Nobody tt (pullFrom n ss id p t) h (λ c k. let o = slotAt ss (c .0) in either FitsPull (ltb (c .0) n) (either FitsPull (eqb (c .0) id) tt (either FitsPull (o .present) (pull-on-fits p c (o .character .pos) (o .character .vel) (l (c .0))) tt)) tt)
 
-  ticked-fits : (n : ℕ) (c : Character) (id : ℕ) (ss : List Slot) (f : HookFlight) → FitsPair (c .vel) → FitsSlots ss → Then FitsAfter (ticked n c id ss t f)
+  ticked-fits : (n : ℕ) (c : Character) (g : Bool) (id : ℕ) (ss : List Slot) (f : HookFlight) → FitsPair (c .vel) → FitsSlots ss → Then FitsAfter (ticked n c g id ss t f)
   unfolding hooked
-  ticked-fits n c id ss TooFar k l = tt
-  ticked-fits n c id ss (To f) k l =
+  ticked-fits n c g id ss TooFar k l = tt
+  ticked-fits n c g id ss (To f) k l =
       let v = dragged f (c .pos) (c .vel) (c .«move_direction») t in
       (clamp-speed-fits _ (meet-all-fits n ss id (c .pos) v (hold f) (dragged-fits f (c .pos) (c .vel) (c .«move_direction») t k)), pull-of-fits n ss id (c .pos) (hold f) l)
 
@@ -184,7 +184,7 @@ unfolding tickAt
 tick-fits n c id ss s ts i tunings h k =
     let g = grounded s ts (c .pos) in
     let d = steer c g i (tuningOf tunings) in
-    ticked-fits tunings n d id ss (flight n (d .hook) (c .pos) id ss s ts (tuningOf tunings)) (steer-fits tunings c g i h) k
+    ticked-fits tunings n d g id ss (flight n (d .hook) (c .pos) id ss s ts (tuningOf tunings)) (steer-fits tunings c g i h) k
 
 -- and so every slot's after the pull
 pub after-pull-fits : (ss : List Slot) (k : HookPull) → FitsSlots ss → FitsPull k → FitsSlots (afterPull ss k)

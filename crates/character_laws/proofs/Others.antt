@@ -39,9 +39,18 @@ pub tick-pos : (n : ℕ) (c : Character) (id : ℕ) (ss : List Slot) (s : Sides)
 unfolding tickAt steer hooked
 tick-pos n c id ss s ts i t = let d = steer c (grounded s ts (c .pos)) i t in go (flight n (d .hook) (c .pos) id ss s ts t)
   where
-    go : (f : HookFlight) → Then (λ a. a .me .pos ≡ c .pos) (ticked n (steer c (grounded s ts (c .pos)) i t) id ss t f)
+    go : (f : HookFlight) → Then (λ a. a .me .pos ≡ c .pos) (ticked n (steer c (grounded s ts (c .pos)) i t) (grounded s ts (c .pos)) id ss t f)
     go TooFar = tt
     go (To h) = refl
+
+-- ---- its floor mark is of where it stands
+pub tick-grounded : (n : ℕ) (c : Character) (id : ℕ) (ss : List Slot) (s : Sides) (ts : List ℕ) (i : PlayerInput) (t : Tuning) → Then (λ a. a .grounded ≡ grounded s ts (c .pos)) (tickAt n c id ss s ts i t)
+unfolding tickAt hooked
+tick-grounded n c id ss s ts i t = let d = steer c (grounded s ts (c .pos)) i t in go d (flight n (d .hook) (c .pos) id ss s ts t)
+  where
+    go : (d : Character) (f : HookFlight) → Then (λ a. a .grounded ≡ grounded s ts (c .pos)) (ticked n d (grounded s ts (c .pos)) id ss t f)
+    go d TooFar = tt
+    go d (To h) = refl
 
 -- ---- whoever is pulled is there
 abbrev pub There : List Slot → HookPull → Type 0
@@ -62,7 +71,7 @@ pub tick-there : (n : ℕ) (c : Character) (id : ℕ) (ss : List Slot) (s : Side
 unfolding tickAt hooked
 tick-there n c id ss s ts i t = let d = steer c (grounded s ts (c .pos)) i t in go d (flight n (d .hook) (c .pos) id ss s ts t)
   where
-    go : (d : Character) (f : HookFlight) → Then (λ a. There ss (a .pull)) (ticked n d id ss t f)
+    go : (d : Character) (f : HookFlight) → Then (λ a. There ss (a .pull)) (ticked n d (grounded s ts (c .pos)) id ss t f)
     go d TooFar = tt
     go d (To h) = pull-there n ss id (d .pos) (hold h) t
 

@@ -8,7 +8,7 @@ ghost use Rattle.world.specs.Calls.{accepted, join, leave, input, tune};
 ghost use Rattle.world.specs.Run.{inputOf};
 ghost use Rattle.game_records.specs.Numbers.{coreCount, inputCount};
 ghost use Rattle.world_buffers.specs.Buffers.{callIn, stepIn};
-ghost use Rattle.world_buffers.specs.Readers.{readIn, recordOf, tuningIn};
+ghost use Rattle.world_buffers.specs.Readers.{readIn, recordOf, tuningIn, floorMarkIn};
 ghost use Rattle.world_buffers.specs.Readers as readers;
 ghost use Rattle.game_packed.specs.Lent.{packIn, unpackIn};
 ghost use Rattle.map_tiles.specs.Map.{sidesOf};
@@ -103,6 +103,13 @@ pub extern "C" fn ponguriena_tuning(world: &[i32], index: i32, value: &mut i32) 
     ensures { λ r. ⌜ tuningIn (now (world .entry)) index (now (value .entry)) ≡ record { number = r; value = now (value .exit) } ⌝ }
 {
     world_buffers::tuning_in(world, index, value)
+}
+
+#[no_mangle]
+pub extern "C" fn ponguriena_floor_mark(world: &[i32], id: i32, mark: &mut i32) -> u32
+    ensures { λ r. ⌜ floorMarkIn (now (world .entry)) id (now (mark .entry)) ≡ record { number = r; value = now (mark .exit) } ⌝ }
+{
+    world_buffers::floor_mark_in(world, id, mark)
 }
 
 #[no_mangle]

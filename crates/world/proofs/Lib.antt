@@ -5,6 +5,9 @@ pub mod Reached
 pub mod Outcomes
 pub mod Vacated
 pub mod Settled
+pub mod NextSlot
+pub mod Present
+pub mod Marks
 pub mod Numbers
 pub mod Demand1
 pub mod Demand3

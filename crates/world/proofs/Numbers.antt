@@ -74,7 +74,7 @@ tick-short : (n : ℕ) (c : Character) (id : ℕ) (ss : List Slot) (s : Sides) (
 unfolding tickAt hooked
 tick-short n c id ss s ts i t = let d = steer c (grounded s ts (c .pos)) i t in go d (flight n (d .hook) (c .pos) id ss s ts t)
   where
-    go : (d : Character) (f : HookFlight) → Then ShortAfter (ticked n d id ss t f)
+    go : (d : Character) (f : HookFlight) → Then ShortAfter (ticked n d (grounded s ts (c .pos)) id ss t f)
     go d TooFar = tt
     go d (To h) = hold-short h
 
@@ -95,9 +95,8 @@ module _ (n : ℕ) (s : Sides) (ts : List ℕ) (t : Tuning) where
           let vs = afterPull us (a .pull) in
           let l = present-within us i p in
           let b = pulled-length us (a .pull) in
-          let e = length-set vs i (withCharacter (slotAt vs i) (a .me)) in
           let others : (j : ℕ) → j < i → Short (slotAt vs j) = λ j q. subst Short (sym (pulled-others us (a .pull) j)) (h .1 j q) in
-          (omega (arith, h .0), set-others (λ j x. j < suc i → Short x) vs i (withCharacter (slotAt vs i) (a .me)) nowhere (omega arith) (λ j d q. others j (omega arith)) (λ q r. z))
+          (subst (λ (m : ℕ). m ≤ n) (sym (length-set vs i _)) (omega (arith, h .0)), set-others (λ j x. j < suc i → Short x) vs i _ nowhere (omega arith) (λ j d q. others j (omega arith)) (λ q r. z))
 
       nobody : slotAt us i .present ≡ false → Ticks (suc i) us
       nobody p = (h .0, λ j l. ⊎-elim (λ e. λ q. absurd (true≢false (sym q ∙ ap (λ (m : ℕ). slotAt us m .present) e ∙ p))) (h .1 j) (last-or-below j i l))

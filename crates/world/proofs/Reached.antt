@@ -63,7 +63,6 @@ module _ (n : ℕ) (s : Sides) (ts : List ℕ) where
   -- what a step's answer says of the world before it
   pub record Steps (z : ℤ) (w : World) (a : Stepped) : Type 0 where
     pub reached : Reached z (a .world)
-    pub same : (k : ℕ) → slotAt (a .world .slots) k .present ≡ slotAt (w .slots) k .present
     pub published : a .number ≡ 0 → (j : ℕ) → j < n → recordAt (a .records) j .present ≡ slotAt (w .slots) j .present
     pub faithful : a .number ≡ 0 → (j : ℕ) → j < n → slotAt (w .slots) j .present ≡ true → FaithfulTo (recordAt (a .records) j .core) (left n w s ts j)
 
@@ -82,7 +81,6 @@ module _ (n : ℕ) (s : Sides) (ts : List ℕ) where
     refused : (k : ℕ) → 0 < k → Steps (pos 0) w (stepAnswer n w (stop k))
     refused k l = record {
       reached = h;
-      same = λ i. refl;
       published = λ e. absurd (omega arith);
       faithful = λ e. absurd (omega arith);
     }
@@ -90,7 +88,6 @@ module _ (n : ℕ) (s : Sides) (ts : List ℕ) where
     accepted : (us : List Slot) (m : Moving) → tickAll n (w .slots) s ts t ≡ more us → Same (w .slots) us → Sofar n s ts t us n m → Steps (pos 0) w (stepAnswer n w (more m))
     accepted us m e d f = record {
       reached = record { stands = f .stands; tuned = h .tuned };
-      same = λ k. f .settling .same .present k ∙ d .present k;
       published = λ z j l. f .told j l .0 ∙ d .present j;
       faithful = λ z j l p. subst (FaithfulTo (recordAt (m .records) j .core)) (left-is w us j e) (f .told j l .1 (d .present j ∙ p));
     }
@@ -114,4 +111,4 @@ module _ (n : ℕ) (s : Sides) (ts : List ℕ) where
     where
       go : (b : Bool) → isMap s ts ≡ b → Steps (pos 0) w (cond b (stepOn n w s ts) (stepRefused n w 1))
       go true e = step-on w (subst T (sym e) tt) h
-      go false e = record { reached = h; same = λ k. refl; published = λ z. absurd (omega arith); faithful = λ z. absurd (omega arith) }
+      go false e = record { reached = h; published = λ z. absurd (omega arith); faithful = λ z. absurd (omega arith) }

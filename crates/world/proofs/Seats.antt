@@ -13,7 +13,6 @@ use Rattle.map_tiles.specs.declared.tiles.Sides.{Sides}
 use Rattle.game_tuning.specs.declared.Tuning.{Tuning}
 use Rattle.game_records.specs.declared.CharacterCore.{CharacterCore}
 use Rattle.character_motion.specs.declared.meeting.HookPull.{HookPull}
-use Rattle.character.specs.Slot.{withCharacter}
 use Rattle.character.specs.declared.Character.{Character}
 use Rattle.character.specs.declared.Slot.{Slot}
 use Rattle.character.specs.declared.tick.TickedAt.{TickedAt}
@@ -68,12 +67,12 @@ same-on ss us vs a b = record {
   absent = λ k q. b .absent k (a .present k ∙ q) ∙ a .absent k q;
 }
 
--- the character of a slot where somebody is may be any
-same-set : (ss : List Slot) (j : ℕ) (c : Character) → slotAt ss j .present ≡ true → Same ss (set ss j (withCharacter (slotAt ss j) c))
-same-set ss j c p = record {
-  size = length-set ss j (withCharacter (slotAt ss j) c);
-  present = set-every (λ k x. x .present ≡ slotAt ss k .present) ss j (withCharacter (slotAt ss j) c) nowhere (λ k. refl) refl;
-  absent = set-every (λ k x. slotAt ss k .present ≡ false → x ≡ slotAt ss k) ss j (withCharacter (slotAt ss j) c) nowhere (λ k q. refl) (λ q. absurd (true≢false (sym p ∙ q)));
+-- a slot where somebody is may become any where somebody is
+same-set : (ss : List Slot) (j : ℕ) (x : Slot) → slotAt ss j .present ≡ true → x .present ≡ slotAt ss j .present → Same ss (set ss j x)
+same-set ss j x p e = record {
+  size = length-set ss j x;
+  present = set-every (λ k y. y .present ≡ slotAt ss k .present) ss j x nowhere (λ k. refl) e;
+  absent = set-every (λ k y. slotAt ss k .present ≡ false → y ≡ slotAt ss k) ss j x nowhere (λ k q. refl) (λ q. absurd (true≢false (sym p ∙ q)));
 }
 
 -- so may the velocity of whom a hook pulls
@@ -94,7 +93,7 @@ module _ (n : ℕ) (s : Sides) (ts : List ℕ) (t : Tuning) where
       ticks p (ticked.To a) z =
           let vs = afterPull us (a .pull) in
           let same = pull-same us (a .pull) z in
-          same-on ss us _ h (same-on us vs _ same (same-set vs j (a .me) (same .present j ∙ p)))
+          same-on ss us _ h (same-on us vs _ same (same-set vs j _ (same .present j ∙ p) refl))
 
   -- a number that refuses the ticks is not 0
   pub ticks-same : (ss : List Slot) → Ends (Same ss) (λ r. 0 < r) (tickAll n ss s ts t)
@@ -115,7 +114,7 @@ module _ (n : ℕ) (s : Sides) (ts : List ℕ) (t : Tuning) where
         named : slotAt (m .slots) i .present ≡ true → (c : Character) (o : Net) → toNet c ≡ o → Ends (Settling (suc i)) (λ r. 0 < r) (publish m i (ofNet o))
         named p c net.TickTooLarge e = omega arith
         named p c (net.Core core) e = record {
-          same = same-on ss (m .slots) _ (h .same) (same-set (m .slots) i _ p);
+          same = same-on ss (m .slots) _ (h .same) (same-set (m .slots) i _ p refl);
           moved = set-others (λ k x. k < suc i → x .present ≡ true → Representable (x .character)) (m .slots) i _ nowhere (present-within (m .slots) i p) (λ k d l. h .moved k (omega arith)) (λ l q. net-representable c core e);
         }
 

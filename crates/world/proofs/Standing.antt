@@ -15,7 +15,6 @@ use Rattle.map_tiles.specs.declared.tiles.Sides.{Sides}
 use Rattle.game_tuning.specs.Tuning.{tuningOf}
 use Rattle.game_tuning.specs.declared.Tuning.{Tuning}
 use Rattle.map_tiles.specs.Box.{Clear, characterBox}
-use Rattle.character.specs.Slot.{withCharacter}
 use Rattle.character.specs.declared.Character.{Character}
 use Rattle.character.specs.declared.Slot.{Slot}
 use Rattle.character.specs.declared.tick.TickedAt.{TickedAt}
@@ -78,7 +77,7 @@ module _ (s : Sides) (ts : List ℕ) where
             let vs = afterPull us (a .pull) in
             let fits = after-pull-fits us (a .pull) (λ m. h m .vel-fits) (fit .1) in
             let others : Stands vs = λ m. same-standing (slotAt us m) (slotAt vs m) (pulled-others us (a .pull) m) (h m) (fits m) in
-            set-every (λ m. Standing) vs j (withCharacter (slotAt vs j) (a .me)) nowhere others
+            set-every (λ m. Standing) vs j _ nowhere others
             (record {
               clear = λ q. subst (λ (v : vec2). Clear s ts v characterBox) (sym stays) (h j .clear p);
               pos-fits = λ q. subst FitsPair (sym stays) (h j .pos-fits p);

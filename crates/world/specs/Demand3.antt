@@ -104,7 +104,7 @@ StepsFaithful n s ts there w (c ∷ cs) = (c ≡ Step → ran n s ts w c .number
 
 -- ---- the demand
 
--- after the list, and in every accepted step of it
+-- after the list, and in every accepted step of it; the physics state that comes back from a record is the slot's character: the input and the floor mark are not of it
 pub record Kept (n : ℕ) (s : Sides) (ts : List ℕ) (cs : List Call) : Type 0 where
   pub clear : (k : ℕ) → k < n → present n s ts k false (fresh n) cs ≡ true → CornersClear s ts (slotAt (after n s ts (fresh n) cs .slots) k .character .pos)
   pub back : (k : ℕ) → k < n → present n s ts k false (fresh n) cs ≡ true → quantize (slotAt (after n s ts (fresh n) cs .slots) k .character) ≡ quantized.To (slotAt (after n s ts (fresh n) cs .slots) k .character)

@@ -5,3 +5,4 @@ pub mod Run
 pub mod Demand1
 pub mod Demand3
 pub mod Settled
+pub mod Marks

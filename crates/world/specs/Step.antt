@@ -12,7 +12,7 @@ use Rattle.game_tuning.specs.declared.Tuning.{Tuning}
 use Rattle.game_records.specs.declared.CharacterCore.{CharacterCore}
 use Rattle.game_refusals.specs.Refusals.{badMap, tooFar, tickTooLarge}
 use Rattle.character.specs.Slot.{withCharacter}
-use Rattle.character.specs.Tick.{slotAt, afterPull, tickAt}
+use Rattle.character.specs.Tick.{slotAt, afterPull, tickAt, tickedSlot}
 use Rattle.character.specs.Walk.{moveAt}
 use Rattle.character.specs.declared.Character.{Character}
 use Rattle.character.specs.declared.Slot.{Slot}
@@ -38,7 +38,7 @@ putBack ss j c = set ss j (withCharacter (slotAt ss j) c)
 -- the slots after the tick of the id j, or the number that refuses it
 abbrev pub afterTick : List Slot → ℕ → TickedAt → Turn (List Slot) ℕ
 afterTick ss j ticked.TooFar = stop tooFar
-afterTick ss j (ticked.To a) = more (putBack (afterPull ss (a .pull)) j (a .me))
+afterTick ss j (ticked.To a) = let us = afterPull ss (a .pull) in more (set us j (tickedSlot (slotAt us j) a))
 
 abbrev pub tickTurn : ℕ → Sides → List ℕ → Tuning → ℕ → List Slot → Turn (List Slot) ℕ
 tickTurn n s ts t j ss = cond (slotAt ss j .present) (afterTick ss j (tickAt n (slotAt ss j .character) j ss s ts (slotAt ss j .input) t)) (more ss)

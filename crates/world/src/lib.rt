@@ -18,6 +18,12 @@ pub struct Answer {
     pub world: World,
 }
 
+// What a reader of a floor mark is told: 0 and the mark, or a refusal's number and false.
+pub struct FloorMark {
+    pub number: u32,
+    pub grounded: bool,
+}
+
 // The record of a seat, where somebody is there.
 pub struct Published {
     pub present: bool,

@@ -7,15 +7,15 @@ use lib.IntN.{ℤ, pos}
 use lib.ListN.{length, getD}
 use lib.Seq.{getD-take}
 use borrow.Author.Tests.{eq-eqb, ne-eqb, lt-ltb, le-ltb}
-use Rattle.game_refusals.specs.Refusals.{badLength}
+use Rattle.game_refusals.specs.Refusals.{badId, isAbsent, badLength}
 use Rattle.character.specs.Tick.{seats, slotAt}
 use Rattle.character.specs.declared.Slot.{Slot}
-use Rattle.world.specs.Calls.{placeOf}
+use Rattle.world.specs.Calls.{placeOf, floorMark}
 use Rattle.game_tuning.specs.Tuning.{tuningCount}
 use Rattle.world.specs.declared.World.{World}
-use Rattle.world_numbers.specs.Encoding.{worldCount}
+use Rattle.world_numbers.specs.Encoding.{worldCount, flag}
 use Rattle.world_numbers.specs.Decoding.{decoding}
-use Rattle.world_buffers.specs.Readers.{Told, seatTold, readIn, tuningIn}
+use Rattle.world_buffers.specs.Readers.{Told, seatTold, readIn, tuningIn, floorMarkIn}
 
 -- ---- the seat k, which an id names
 module _ (f : Slot → List ℤ) (w : World) (id : ℤ) (out : List ℤ) (k : ℕ) (p : k ≡ placeOf seats id) where
@@ -58,3 +58,22 @@ module _ (l : List ℤ) (index z : ℤ) where
   pub tuning-told : (k : ℕ) → length l ≡ worldCount → k ≡ placeOf tuningCount index → k < tuningCount → tuningIn l index z ≡ record { number = 0; value = getD l k (pos 0) }
   unfolding tuningIn decoding
   tuning-told k h p g = rw (eq-eqb (length l) worldCount h, ← p, lt-ltb k tuningCount g, getD-take tuningCount l k (pos 0) g)
+
+-- ---- a floor mark
+module _ (l : List ℤ) (id z : ℤ) where
+  pub mark-wrong : (length l ≡ worldCount → ⊥) → floorMarkIn l id z ≡ record { number = badLength; value = z }
+  unfolding floorMarkIn
+  mark-wrong h = rw (ne-eqb (length l) worldCount h)
+
+  module _ (h : length l ≡ worldCount) (k : ℕ) (p : k ≡ placeOf seats id) where
+    pub mark-no-seat : seats ≤ k → floorMarkIn l id z ≡ record { number = badId; value = z }
+    unfolding floorMarkIn floorMark
+    mark-no-seat g = rw (eq-eqb (length l) worldCount h, ← p, le-ltb k seats g)
+
+    pub mark-nobody : k < seats → slotAt (decoding seats l .slots) k .present ≡ false → floorMarkIn l id z ≡ record { number = isAbsent; value = z }
+    unfolding floorMarkIn floorMark
+    mark-nobody g e = rw (eq-eqb (length l) worldCount h, ← p, lt-ltb k seats g, e)
+
+    pub mark-told : (m : ℤ) → k < seats → slotAt (decoding seats l .slots) k .present ≡ true → m ≡ flag (slotAt (decoding seats l .slots) k .grounded) → floorMarkIn l id z ≡ record { number = 0; value = m }
+    unfolding floorMarkIn floorMark
+    mark-told m g e q = rw (eq-eqb (length l) worldCount h, ← p, lt-ltb k seats g, e, q)

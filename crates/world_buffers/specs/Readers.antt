@@ -2,7 +2,7 @@
 use Prim.Native.Nat.{ℕ}
 use mathlib.Core.Bool.{cond, _&&_}
 use mathlib.Core.List.{List}
-use lib.Dec.{ltb}
+use lib.Dec.{eqb, ltb}
 use lib.IntN.{ℤ, pos}
 use lib.ListN.{getD}
 use Rattle.game_refusals.specs.Refusals.{badId, badTuning, isAbsent, badLength}
@@ -10,10 +10,11 @@ use Rattle.character.specs.Tick.{seats, slotAt}
 use Rattle.character.specs.declared.Slot.{Slot}
 use Rattle.character.specs.Records.{toNet}
 use Rattle.game_tuning.specs.Tuning.{tuningCount}
-use Rattle.world.specs.Calls.{placeOf}
+use Rattle.world.specs.Calls.{placeOf, floorMark}
+use Rattle.world.specs.declared.FloorMark.{FloorMark}
 use Rattle.world.specs.declared.World.{World}
 use Rattle.game_records.specs.Numbers.{coreNumbers, inputNumbers}
-use Rattle.world_numbers.specs.Encoding.{worldCount, netCore}
+use Rattle.world_numbers.specs.Encoding.{worldCount, flag, netCore}
 use Rattle.world_numbers.specs.Decoding.{decoding}
 use Rattle.world_buffers.specs.Buffers.{has}
 
@@ -42,15 +43,23 @@ recordOf s = coreNumbers (netCore (toNet (s .character)))
 abbrev pub inputOf : Slot → List ℤ
 inputOf s = inputNumbers (s .input)
 
--- a tuning's number, and what is left in its place
-pub record Tuned : Type 0 where
+-- a reader's number, and what it leaves in the place of one number
+pub record ToldOne : Type 0 where
   pub number : ℕ
   pub value : ℤ
 
 -- 3 where the index has no tuning
-unfoldable pub tuningIn : List ℤ → ℤ → ℤ → Tuned
+unfoldable pub tuningIn : List ℤ → ℤ → ℤ → ToldOne
 tuningIn l index z =
     let k = placeOf tuningCount index in
     cond (has worldCount l)
     (cond (ltb k tuningCount) (record { number = 0; value = getD (decoding seats l .tunings) k (pos 0) }) (record { number = badTuning; value = z }))
     (record { number = badLength; value = z })
+
+-- a floor mark as a number; a refusal leaves what is there
+abbrev pub markTold : ℤ → FloorMark → ToldOne
+markTold z m = record { number = m .number; value = cond (eqb (m .number) 0) (flag (m .grounded)) z }
+
+-- the floor mark of an id of the world that the numbers stand for
+unfoldable pub floorMarkIn : List ℤ → ℤ → ℤ → ToldOne
+floorMarkIn l id z = cond (has worldCount l) (markTold z (floorMark seats (decoding seats l) id)) (record { number = badLength; value = z })

@@ -8,6 +8,7 @@ pub use buffers::join_in;
 pub use buffers::leave_in;
 pub use buffers::step_in;
 pub use buffers::tune_in;
+pub use readers::floor_mark_in;
 pub use readers::player_input_in;
 pub use readers::record_in;
 pub use readers::tuning_in;

@@ -9,9 +9,10 @@ use game_refusals::BAD_LENGTH;
 use game_refusals::BAD_TUNING;
 use game_tuning::TUNINGS;
 use world_calls::place_of;
+use world_numbers::MARK;
 use world_numbers::RECORD;
-use world_numbers::SEAT;
 use world_numbers::WORLD;
+use world_numbers::flag;
 use world_numbers::present_numbers;
 use world_numbers::seat_at;
 ghost use mathlib.Core.Path.{_≡_};
@@ -21,7 +22,7 @@ ghost use Rattle.game_records.specs.Numbers.{coreCount, inputCount};
 ghost use Rattle.world_numbers.specs.Encoding.{seatCount, worldCount, presentNumbers};
 ghost use Rattle.world_numbers.specs.Decoding.{decoding};
 ghost use Rattle.character.specs.Tick.{seats};
-ghost use Rattle.world_buffers.specs.Readers.{seatTold, readIn, recordOf, inputOf, tuningIn};
+ghost use Rattle.world_buffers.specs.Readers.{seatTold, readIn, recordOf, inputOf, tuningIn, floorMarkIn};
 
 // The numbers of a seat where somebody is, from one place up to another.
 fn seat_part(world: &[i32], id: i32, from: usize, to: usize, part: &mut [i32]) -> u32
@@ -62,7 +63,7 @@ pub fn player_input_in(world: &[i32], id: i32, input: &mut [i32]) -> u32
     if input.len() != INPUT {
         return BAD_LENGTH;
     }
-    seat_part(world, id, RECORD, SEAT, input)
+    seat_part(world, id, RECORD, MARK, input)
 }
 
 pub fn tuning_in(world: &[i32], index: i32, value: &mut i32) -> u32
@@ -77,4 +78,22 @@ pub fn tuning_in(world: &[i32], index: i32, value: &mut i32) -> u32
         return 0;
     }
     BAD_TUNING
+}
+
+pub fn floor_mark_in(world: &[i32], id: i32, mark: &mut i32) -> u32
+    ensures { λ r. ⌜ floorMarkIn (now (world .entry)) id (now (mark .entry)) ≡ record { number = r; value = now (mark .exit) } ⌝ }
+{
+    if world.len() != WORLD {
+        return BAD_LENGTH;
+    }
+    let at = place_of(SEATS, id);
+    if at >= SEATS {
+        return BAD_ID;
+    }
+    let seat = seat_at(world, at);
+    if seat.present {
+        *mark = flag(seat.grounded);
+        return 0;
+    }
+    ABSENT
 }

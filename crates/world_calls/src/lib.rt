@@ -1,12 +1,14 @@
-// The calls of a world but step: its seats, join, and leave, input and tune.
+// The calls of a world but step: its seats, join, leave, input and tune, and the reader of a floor mark.
 mod calls;
 mod joins;
+mod marks;
 mod seats;
 
 pub use calls::input;
 pub use calls::leave;
 pub use calls::tune;
 pub use joins::join;
+pub use marks::floor_mark;
 pub use seats::fresh;
 pub use seats::place_of;
 pub use seats::slot_at;

@@ -4,7 +4,7 @@ use Prim.Native.Nat.{ℕ}
 use mir.Syntax.{Ty, named, erased, mut, imm, w8, w32, tyInt, tyRef, tyArray}
 use denote.Array.{Array}
 use denote.Builtin.{i32}
-use denote.Memory.{pointee}
+use denote.Memory.{mem, pointee}
 use denote.RattleType.{RattleType}
 use denote.Slice.{sliceTy}
 use Rattle.map_tiles.proofs.tiles.Sides as Ts
@@ -24,7 +24,7 @@ slot = of-declared T.the-type T′.the-laws T′.the-plain
 
 -- how many bytes a slot takes
 abbrev pub slot-size : ℕ
-slot-size = 72
+slot-size = mem T.the-row .size
 
 abbrev pub world : Plainly Th.the-row
 world = of-declared Th.the-type Th′.the-laws Th′.the-plain

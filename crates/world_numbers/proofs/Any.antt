@@ -9,7 +9,7 @@ use lib.IntN.{ℤ, pos, negsuc}
 use lib.ListN.{length, drop, length-take}
 use lib.Seq.{getD-drop}
 use Rattle.num_convert.specs.Casts.{IsI32}
-use Rattle.character.specs.Slot.{emptySlot, joinedSlot, withCharacter, withInput}
+use Rattle.character.specs.Slot.{emptySlot, joinedSlot, withCharacter, withInput, withGrounded}
 use Rattle.character.specs.Tick.{slotAt}
 use Rattle.character.specs.Records.{fromNet}
 use Rattle.character_laws.specs.Representable.{Representable}
@@ -17,8 +17,8 @@ use Rattle.character_laws.proofs.FromNet.{from-net-representable}
 use Rattle.game_records.specs.Numbers.{numberAt, coreIn, inputIn}
 use Rattle.game_tuning.specs.Tuning.{tuningCount}
 use Rattle.world.specs.Settled.{Settled}
-use Rattle.world_numbers.specs.Encoding.{recordCount, seatCount}
-use Rattle.world_numbers.specs.Decoding.{isPresent, fromZero, readable, seatOf, seatsOf, decoding, AnyComesBack}
+use Rattle.world_numbers.specs.Encoding.{recordCount, markPlace, seatCount}
+use Rattle.world_numbers.specs.Decoding.{isSet, fromZero, readable, seatOf, seatsOf, decoding, AnyComesBack}
 use Rattle.world_numbers.proofs.Encoded.{Kept, decoding-encoding}
 use Rattle.world_numbers.proofs.Seats.{seat-is}
 
@@ -48,9 +48,9 @@ seat-representable l h =
 
 seat-kept : (l : List ℤ) → AllI32 l → Kept (seatOf l)
 unfolding seatOf
-seat-kept l h = go (isPresent (numberAt l 0))
+seat-kept l h = go (isSet (numberAt l 0))
   where
-    go : (b : Bool) → Kept (cond b (withInput (withCharacter (joinedSlot (fromNet (readable (coreIn (drop 1 l))) .pos)) (fromNet (readable (coreIn (drop 1 l))))) (inputIn (drop recordCount l))) emptySlot)
+    go : (b : Bool) → Kept (cond b (withGrounded (withInput (withCharacter (joinedSlot (fromNet (readable (coreIn (drop 1 l))) .pos)) (fromNet (readable (coreIn (drop 1 l))))) (inputIn (drop recordCount l))) (isSet (numberAt l markPlace))) emptySlot)
     go true = record { somebody = λ e. seat-representable (drop 1 l) (drop-i32 1 l h); nobody = λ e. absurd (true≢false e) }
     go false = record { somebody = λ e. absurd (true≢false (sym e)); nobody = λ e. refl }
 

@@ -10,7 +10,7 @@ use lib.ListN.{length, drop}
 use lib.Seq.{take-at, drop-at}
 use borrow.Author.Tests.{leb-true}
 use Rattle.game_records.specs.Numbers.{coreNumbers, inputNumbers, coreIn, inputIn}
-use Rattle.character.specs.Slot.{emptySlot, joinedSlot, withCharacter, withInput}
+use Rattle.character.specs.Slot.{emptySlot, joinedSlot, withCharacter, withInput, withGrounded}
 use Rattle.character.specs.Tick.{slotAt}
 use Rattle.character.specs.declared.Character.{Character}
 use Rattle.character.specs.declared.Slot.{Slot}
@@ -26,8 +26,8 @@ use Rattle.world.specs.Run.{after}
 use Rattle.world.specs.Settled.{Settled}
 use Rattle.world.proofs.Settled.{after-settled}
 use Rattle.world.specs.declared.World.{World}
-use Rattle.world_numbers.specs.Encoding.{seatCount, each, netCore, recordNumbers, presentNumbers, seatNumbers, encoding}
-use Rattle.world_numbers.specs.Decoding.{fromZero, isPresent, readable, seatOf, seatsOf, decoding, ComesBack}
+use Rattle.world_numbers.specs.Encoding.{seatCount, each, flag, netCore, recordNumbers, presentNumbers, seatNumbers, encoding}
+use Rattle.world_numbers.specs.Decoding.{fromZero, isSet, readable, seatOf, seatsOf, decoding, ComesBack}
 use Rattle.world_numbers.proofs.Rows.{seat-long}
 
 -- what is asked of a seat
@@ -52,13 +52,18 @@ record-back : (c : Character) → Representable c → fromNet (readable (netCore
 unfolding readable fromZero coreOf
 record-back c r = ap (λ (n : Net). fromNet (readable (netCore n))) (to-core c (ticks-fit c r)) ∙ from-core c r
 
+flag-back : (b : Bool) → isSet (flag b) ≡ b
+unfolding isSet
+flag-back true = refl
+flag-back false = refl
+
 -- a seat, whatever stands after it
 seat-back : (s : Slot) (l : List ℤ) → Kept s → seatOf (seatNumbers s ++ l) ≡ s
-unfolding seatOf seatNumbers presentNumbers recordNumbers coreNumbers inputNumbers isPresent coreIn inputIn
+unfolding seatOf seatNumbers presentNumbers recordNumbers coreNumbers inputNumbers isSet coreIn inputIn
 seat-back s l k = go (s .present) refl
   where
     go : (b : Bool) → s .present ≡ b → seatOf (seatNumbers s ++ l) ≡ s
-    go true e = rw e (ap (λ (c : Character). withInput (withCharacter (joinedSlot (c .pos)) c) (s .input)) (record-back (s .character) (k .somebody e)))
+    go true e = rw e (ap₂ (λ (c : Character) (g : Bool). withGrounded (withInput (withCharacter (joinedSlot (c .pos)) c) (s .input)) g) (record-back (s .character) (k .somebody e)) (flag-back (s .grounded)))
     go false e = ap (λ (x : Slot). seatOf (seatNumbers x ++ l)) (k .nobody e) ∙ sym (k .nobody e)
 
 -- the numbers of a seat are passed

@@ -10,20 +10,20 @@ use Rattle.map_tiles.specs.declared.tiles.Sides.{Sides}
 use Rattle.world.specs.declared.call.Call.{Call}
 use Rattle.game_records.specs.declared.CharacterCore.{CharacterCore}
 use Rattle.game_records.specs.Numbers.{numberAt, coreIn, inputIn}
-use Rattle.character.specs.Slot.{emptySlot, joinedSlot, withCharacter, withInput}
+use Rattle.character.specs.Slot.{emptySlot, joinedSlot, withCharacter, withInput, withGrounded}
 use Rattle.character.specs.declared.Slot.{Slot}
 use Rattle.character.specs.Records.{fromNet}
 use Rattle.world.specs.World.{fresh}
 use Rattle.game_tuning.specs.Tuning.{tuningCount}
 use Rattle.world.specs.Run.{after}
 use Rattle.world.specs.declared.World.{World}
-use Rattle.world_numbers.specs.Encoding.{recordCount, seatCount, encoding}
+use Rattle.world_numbers.specs.Encoding.{recordCount, markPlace, seatCount, encoding}
 
--- whether a seat's first number says that somebody is there
-unfoldable pub isPresent : ℤ → Bool
-isPresent (pos zero) = false
-isPresent (pos (suc k)) = true
-isPresent (negsuc k) = true
+-- 0 is false, every other number true
+unfoldable pub isSet : ℤ → Bool
+isSet (pos zero) = false
+isSet (pos (suc k)) = true
+isSet (negsuc k) = true
 
 -- what is below zero reads as 0
 unfoldable pub fromZero : ℤ → ℤ
@@ -40,7 +40,7 @@ readable n = withTicks n (fromZero (n .«hook_tick» .0))
 
 -- the seat whose numbers l starts with; where nobody is there the rest of them says nothing
 unfoldable pub seatOf : List ℤ → Slot
-seatOf l = let c = fromNet (readable (coreIn (drop 1 l))) in cond (isPresent (numberAt l 0)) (withInput (withCharacter (joinedSlot (c .pos)) c) (inputIn (drop recordCount l))) emptySlot
+seatOf l = let c = fromNet (readable (coreIn (drop 1 l))) in cond (isSet (numberAt l 0)) (withGrounded (withInput (withCharacter (joinedSlot (c .pos)) c) (inputIn (drop recordCount l))) (isSet (numberAt l markPlace))) emptySlot
 
 -- n seats, one after the other
 unfoldable pub seatsOf : ℕ → List ℤ → List Slot

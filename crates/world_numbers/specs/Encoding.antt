@@ -22,9 +22,13 @@ use Rattle.world.specs.declared.World.{World}
 abbrev pub recordCount : ℕ
 recordCount = 1 + coreCount
 
--- of a seat in a world: the same and its input
+-- of a seat in a world before its floor mark: the same and its input
+abbrev pub markPlace : ℕ
+markPlace = recordCount + inputCount
+
+-- of a seat in a world
 abbrev pub seatCount : ℕ
-seatCount = recordCount + inputCount
+seatCount = markPlace + 1
 
 -- in a world
 abbrev pub worldCount : ℕ
@@ -41,9 +45,9 @@ unfoldable pub each : {A : Type 0} → (A → List ℤ) → List A → List ℤ
 each f [] = []
 each f (x ∷ xs) = f x ++ each f xs
 
--- 1 for somebody, 0 for nobody
-abbrev pub presence : Bool → ℤ
-presence b = cond b (pos 1) (pos 0)
+-- 1 for true, 0 for false
+abbrev pub flag : Bool → ℤ
+flag b = cond b (pos 1) (pos 0)
 
 -- the record that `to_net` answers; an empty one where it refuses, which no world does that calls reach or numbers stand for (world_numbers/proofs/Any.antt)
 abbrev pub netCore : Net → CharacterCore
@@ -52,11 +56,11 @@ netCore (net.Core core) = core
 
 -- a seat's presence and record
 unfoldable pub recordNumbers : Published → List ℤ
-recordNumbers p = presence (p .present) ∷ coreNumbers (p .core)
+recordNumbers p = flag (p .present) ∷ coreNumbers (p .core)
 
--- the presence, record and input of a seat where somebody is
+-- the presence, record, input and floor mark of a seat where somebody is
 unfoldable pub presentNumbers : Slot → List ℤ
-presentNumbers s = recordNumbers (record { present = true; core = netCore (toNet (s .character)) }) ++ inputNumbers (s .input)
+presentNumbers s = recordNumbers (record { present = true; core = netCore (toNet (s .character)) }) ++ (inputNumbers (s .input) ++ (flag (s .grounded) ∷ []))
 
 -- zeros where nobody is, whatever else the slot holds
 unfoldable pub seatNumbers : Slot → List ℤ

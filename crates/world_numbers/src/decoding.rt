@@ -1,4 +1,5 @@
 // A world out of the numbers of a buffer.
+use crate::encoding::MARK;
 use crate::encoding::RECORD;
 use crate::encoding::SEAT;
 use base_rows::copy;
@@ -17,10 +18,10 @@ ghost use lib.ListN.{length, take, drop};
 ghost use Rattle.character.specs.Tick.{seats};
 ghost use Rattle.game_tuning.specs.Tuning.{tuningCount};
 ghost use Rattle.world_numbers.specs.Encoding.{seatCount, worldCount};
-ghost use Rattle.world_numbers.specs.Decoding.{fromZero, isPresent, readable, seatOf, seatsOf, decoding};
+ghost use Rattle.world_numbers.specs.Decoding.{fromZero, isSet, readable, seatOf, seatsOf, decoding};
 
-fn is_present(z: i32) -> bool
-    ensures { λ r. ⌜ r ≡ isPresent z ⌝ }
+fn is_set(z: i32) -> bool
+    ensures { λ r. ⌜ r ≡ isSet z ⌝ }
 {
     z != 0
 }
@@ -46,11 +47,12 @@ fn seat_of(seat: &[i32]) -> Slot
     requires { ⌜ seatCount ≤ length (now seat) ⌝ }
     ensures { λ r. ⌜ r ≡ seatOf (now (seat .entry)) ⌝ }
 {
-    if is_present(seat[0]) {
+    if is_set(seat[0]) {
         let character = Character::from_net(readable(core_of(&seat[1..])));
         Slot::joined(character.pos)
             .with_character(character)
             .with_input(input_of(&seat[RECORD..]))
+            .with_grounded(is_set(seat[MARK]))
     } else {
         Slot::empty()
     }

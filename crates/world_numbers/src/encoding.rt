@@ -1,4 +1,4 @@
-// A world, and the records of a step, into the numbers of a buffer: the tunings, then for each seat its presence, its record and its input.
+// A world, and the records of a step, into the numbers of a buffer: the tunings, then for each seat its presence, its record, its input and its floor mark.
 // A seat where nobody is has zeros.
 use base_rows::copy;
 use character::Net;
@@ -15,22 +15,24 @@ use world::World;
 use world_step::unpublished;
 ghost use mathlib.Core.Path.{_≡_};
 ghost use lib.ListN.{length};
-ghost use Rattle.world_numbers.specs.Encoding.{worldCount, recordsCount, presence, netCore, recordNumbers, presentNumbers, seatNumbers, encoding, recordsEncoding};
+ghost use Rattle.world_numbers.specs.Encoding.{worldCount, recordsCount, flag, netCore, recordNumbers, presentNumbers, seatNumbers, encoding, recordsEncoding};
 
-// How many numbers a seat has among the records of a step, and in a world.
+// How many numbers a seat has among the records of a step, in a world before its floor mark, and in a world.
 pub const RECORD: usize = 1 + CORE;
 
-pub const SEAT: usize = RECORD + INPUT;
+pub const MARK: usize = RECORD + INPUT;
+
+pub const SEAT: usize = MARK + 1;
 
 // How many a world has, and the records of a step.
 pub const WORLD: usize = TUNINGS + SEAT * SEATS;
 
 pub const RECORDS: usize = RECORD * SEATS;
 
-fn presence(present: bool) -> i32
-    ensures { λ r. ⌜ r ≡ presence present ⌝ }
+pub fn flag(set: bool) -> i32
+    ensures { λ r. ⌜ r ≡ flag set ⌝ }
 {
-    if present { 1 } else { 0 }
+    if set { 1 } else { 0 }
 }
 
 fn net_core(net: Net) -> CharacterCore
@@ -50,7 +52,7 @@ fn record_numbers(published: Published) -> [i32; RECORD]
 {
     let core = core_numbers(published.core);
     let mut row = [0i32; RECORD];
-    row[0] = presence(published.present);
+    row[0] = flag(published.present);
     copy(&mut row, 1, &core);
     row
 }
@@ -68,6 +70,7 @@ pub fn present_numbers(slot: Slot) -> [i32; SEAT]
     let mut row = [0i32; SEAT];
     copy(&mut row, 0, &record);
     copy(&mut row, RECORD, &input);
+    row[MARK] = flag(slot.grounded);
     row
 }
 

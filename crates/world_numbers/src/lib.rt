@@ -4,10 +4,12 @@ mod encoding;
 
 pub use decoding::decode;
 pub use decoding::seat_at;
+pub use encoding::MARK;
 pub use encoding::RECORD;
 pub use encoding::RECORDS;
 pub use encoding::SEAT;
 pub use encoding::WORLD;
 pub use encoding::encode;
 pub use encoding::encode_records;
+pub use encoding::flag;
 pub use encoding::present_numbers;

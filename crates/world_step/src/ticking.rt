@@ -43,8 +43,7 @@ pub fn tick_all(slots: [Slot; SEATS], sides: Sides, tiles: &[u8], tuning: Tuning
             let other = all[at];
             all[at] = other.pulled(pull, at);
             let own = all[id];
-            let moved = after.me;
-            all[id] = own.with_character(moved);
+            all[id] = own.ticked(after);
         }
     }
     Ticks {

@@ -42,7 +42,8 @@ enum {
                                              hooked_player, hook_state, hook_tick, hook_x, hook_y,
                                              hook_dx, hook_dy */
     PONGURIENA_INPUT = 5,                 /* direction, target_x, target_y, jump, hook */
-    PONGURIENA_SEAT = 1 + PONGURIENA_RECORD + PONGURIENA_INPUT, /* 1, record, input; or zeros for nobody */
+    PONGURIENA_SEAT = 1 + PONGURIENA_RECORD + PONGURIENA_INPUT + 1, /* 1, record, input, floor mark;
+                                             or zeros for nobody */
     PONGURIENA_WORLD = PONGURIENA_TUNINGS + PONGURIENA_SEATS * PONGURIENA_SEAT, /* tunings, seats */
     PONGURIENA_PUBLISHED = 1 + PONGURIENA_RECORD,               /* presence, record */
     PONGURIENA_RECORDS = PONGURIENA_SEATS * PONGURIENA_PUBLISHED /* for each seat */
@@ -91,6 +92,11 @@ uint32_t ponguriena_record(const int32_t *world, size_t world_length, int32_t id
 /* The last input of an id that is present: PONGURIENA_INPUT numbers. */
 uint32_t ponguriena_player_input(const int32_t *world, size_t world_length, int32_t id,
                                  int32_t *input, size_t input_length);
+
+/* Whether an id that is present stood on the ground when the last step since its join began:
+ * 1 or 0. */
+uint32_t ponguriena_floor_mark(const int32_t *world, size_t world_length, int32_t id,
+                               int32_t *mark);
 
 /* A tuning. */
 uint32_t ponguriena_tuning(const int32_t *world, size_t world_length, int32_t index,

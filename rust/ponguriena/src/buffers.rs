@@ -1,10 +1,11 @@
 //! The calls on a world that the caller keeps as numbers and lends to each call.
 //!
 //! A world is [`WORLD_NUMBERS`] numbers: the tunings, then for each seat its
-//! presence, 1, its record and its input, or zeros where nobody is. Every such list
-//! of numbers is taken for a world: who is absent is as in a fresh one whatever
-//! stands there, and a hook's tick below 0 counts as 0. A buffer of another length is
-//! refused with [`Refusal::BadLength`]. A refused call leaves every buffer as it was.
+//! presence, 1, its record, its input and its floor mark, or zeros where nobody is.
+//! Every such list of numbers is taken for a world: who is absent is as in a fresh one
+//! whatever stands there, a hook's tick below 0 counts as 0, and every floor mark but 0
+//! as true. A buffer of another length is refused with [`Refusal::BadLength`]. A refused
+//! call leaves every buffer as it was.
 //!
 //! ```
 //! use ponguriena::{Map, buffers};
@@ -29,8 +30,8 @@ pub const SEATS: usize = 16;
 /// The tunings of a world, each in hundredths.
 pub const TUNINGS: usize = 18;
 
-/// A seat's presence, record and input.
-pub const SEAT_NUMBERS: usize = 1 + CORE_NUMBERS + INPUT_NUMBERS;
+/// A seat's presence, record, input and floor mark.
+pub const SEAT_NUMBERS: usize = 1 + CORE_NUMBERS + INPUT_NUMBERS + 1;
 
 /// A world.
 pub const WORLD_NUMBERS: usize = TUNINGS + SEATS * SEAT_NUMBERS;
@@ -95,6 +96,7 @@ unsafe extern "C" {
     ) -> u32;
     fn ponguriena_tuning(world: *const i32, length: usize, index: i32, hundredths: &mut i32)
     -> u32;
+    fn ponguriena_floor_mark(world: *const i32, length: usize, id: i32, mark: &mut i32) -> u32;
 }
 
 /// Makes the world a fresh one: nobody present, the tunings of the game.
@@ -203,4 +205,12 @@ pub fn tuning(world: &[i32], index: i32, hundredths: &mut i32) -> Result<(), Ref
     // SAFETY: the pointer and the length are those of one slice.
     let answer = unsafe { ponguriena_tuning(world.as_ptr(), world.len(), index, hundredths) };
     Refusal::of_answer(answer)
+}
+
+/// Writes the floor mark of an id that is present: 1 if it stood on the ground when
+/// the last step since its join began, else 0.
+#[inline]
+pub fn floor_mark(world: &[i32], id: i32, mark: &mut i32) -> Result<(), Refusal> {
+    // SAFETY: the pointer and the length are those of one slice.
+    Refusal::of_answer(unsafe { ponguriena_floor_mark(world.as_ptr(), world.len(), id, mark) })
 }

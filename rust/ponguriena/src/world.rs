@@ -5,8 +5,8 @@ use crate::refusal::Refusal;
 use crate::snap_obj::{CORE_NUMBERS, CharacterCore, INPUT_NUMBERS, PlayerInput};
 use crate::walks::Map;
 
-/// Sixteen seats, each empty or with a character and its last input, and the
-/// tunings. No call stops on any input: it does its work, or gives a [`Refusal`]
+/// Sixteen seats, each empty or with a character, its last input and its floor mark,
+/// and the tunings. No call stops on any input: it does its work, or gives a [`Refusal`]
 /// and leaves the world as it was.
 ///
 /// ```
@@ -103,6 +103,24 @@ impl World {
         let mut numbers = [0; INPUT_NUMBERS];
         buffers::player_input(&self.numbers, id, &mut numbers)?;
         Ok(PlayerInput::from_numbers(numbers))
+    }
+
+    /// Whether an id that is present stood on the ground when the last step since its
+    /// join began; false where there was none.
+    ///
+    /// ```
+    /// # let map = ponguriena::Map { width: 3, height: 3, tiles: &[0, 0, 0, 0, 0, 0, 1, 1, 1] };
+    /// # let mut world = ponguriena::World::fresh();
+    /// world.join(&map, 7, 48, 49)?;
+    /// assert_eq!(world.floor_mark(7), Ok(false));
+    /// world.step(&map)?;
+    /// assert_eq!(world.floor_mark(7), Ok(true));
+    /// # Ok::<(), ponguriena::Refusal>(())
+    /// ```
+    pub fn floor_mark(&self, id: i32) -> Result<bool, Refusal> {
+        let mut mark = 0;
+        buffers::floor_mark(&self.numbers, id, &mut mark)?;
+        Ok(mark != 0)
     }
 
     /// A tuning, in hundredths.

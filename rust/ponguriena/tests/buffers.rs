@@ -1,7 +1,7 @@
 //! The calls on lent numbers: wrong lengths are refused, any numbers are taken, and
 //! a seat where nobody is has zeros.
 
-use ponguriena::buffers::{self, RECORDS_NUMBERS, SEATS, TUNINGS, WORLD_NUMBERS};
+use ponguriena::buffers::{self, RECORDS_NUMBERS, SEAT_NUMBERS, SEATS, TUNINGS, WORLD_NUMBERS};
 use ponguriena::{CORE_NUMBERS, INPUT_NUMBERS, Map, PlayerInput, Refusal};
 use reference::Xorshift;
 
@@ -48,6 +48,9 @@ fn worlds_of_a_wrong_length() {
         assert_eq!(buffers::player_input(world, -1, input), BAD_LENGTH);
         assert_eq!(buffers::tuning(world, -1, &mut hundredths), BAD_LENGTH);
         assert_eq!(hundredths, UNWRITTEN);
+        let mut mark = UNWRITTEN;
+        assert_eq!(buffers::floor_mark(world, -1, &mut mark), BAD_LENGTH);
+        assert_eq!(mark, UNWRITTEN);
         let all = numbers.iter().chain(&records);
         assert!(all.into_iter().all(|&number| number == UNWRITTEN));
     }
@@ -118,6 +121,10 @@ fn any_numbers_are_taken() {
             let mut read = [0; INPUT_NUMBERS];
             assert_eq!(buffers::player_input(&world, id, &mut read), told);
             assert_eq!(read, told.map_or([0; INPUT_NUMBERS], |()| input));
+            let number = world[TUNINGS + (id as usize + 1) * SEAT_NUMBERS - 1];
+            let mut mark = UNWRITTEN;
+            assert_eq!(buffers::floor_mark(&world, id, &mut mark), told);
+            assert_eq!(mark, told.map_or(UNWRITTEN, |()| i32::from(number != 0)));
         }
     }
 }

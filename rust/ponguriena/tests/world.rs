@@ -15,6 +15,12 @@ const WALLED: Map = Map {
     tiles: &[0, 0, 1, 0, 0, 1, 0, 0, 1],
 };
 
+const FLOOR: Map = Map {
+    width: 3,
+    height: 3,
+    tiles: &[0, 0, 0, 0, 0, 0, 1, 1, 1],
+};
+
 const NO_MAP: Map = Map { width: 2, ..OPEN };
 
 const HOOK: PlayerInput = PlayerInput {
@@ -75,6 +81,7 @@ fn the_absent_have_nothing() {
         assert_eq!(world.input(id, HOOK), Err(refusal));
         assert_eq!(world.record(id), Err(refusal));
         assert_eq!(world.player_input(id), Err(refusal));
+        assert_eq!(world.floor_mark(id), Err(refusal));
     }
     assert_eq!(world, World::fresh());
 }
@@ -116,6 +123,31 @@ fn a_step_too_far_leaves_the_world() -> Result<(), Refusal> {
     assert_eq!(world.step(&OPEN), Err(Refusal::TooFar));
     assert_eq!(world.step(&NO_MAP), Err(Refusal::BadMap));
     assert_eq!(world, before);
+    Ok(())
+}
+
+/// Who joins has no mark, also on a floor; the step that jumps off leaves one.
+#[test]
+fn a_mark_is_of_where_the_last_step_began() -> Result<(), Refusal> {
+    let jump = PlayerInput {
+        jump: 1,
+        ..PlayerInput::default()
+    };
+    let mut world = World::fresh();
+    world.join(&FLOOR, 2, 48, 49)?;
+    assert_eq!(world.floor_mark(2), Ok(false));
+    world.step(&FLOOR)?;
+    assert_eq!(world.floor_mark(2), Ok(true));
+    world.input(2, jump)?;
+    world.step(&FLOOR)?;
+    assert_eq!(world.floor_mark(2), Ok(true));
+    assert_eq!(world.step(&NO_MAP), Err(Refusal::BadMap));
+    assert_eq!(world.floor_mark(2), Ok(true));
+    world.step(&FLOOR)?;
+    assert_eq!(world.floor_mark(2), Ok(false));
+    world.leave(2)?;
+    world.join(&FLOOR, 2, 48, 49)?;
+    assert_eq!(world.floor_mark(2), Ok(false));
     Ok(())
 }
 

@@ -146,6 +146,7 @@ static void lengths(void) {
     same("player_input", ponguriena_player_input(world, LENGTH(world), 16, &number, 1),
          PONGURIENA_BAD_LENGTH);
     same("tuning", ponguriena_tuning(world, less, 18, &number), PONGURIENA_BAD_LENGTH);
+    same("mark", ponguriena_floor_mark(world, less, 16, &number), PONGURIENA_BAD_LENGTH);
 }
 
 /* A hook that would fly too far refuses the step. */
@@ -168,6 +169,22 @@ static void a_leave(void) {
     same("fresh", fresh(), PONGURIENA_ACCEPTED);
     same_numbers("seats", left + PONGURIENA_TUNINGS, world + PONGURIENA_TUNINGS,
                  PONGURIENA_WORLD - PONGURIENA_TUNINGS);
+}
+
+/* Who joins has no mark, also on a floor. A refused call leaves what was there. */
+static void a_floor(void) {
+    int32_t mark = -7;
+    same("fresh", fresh(), PONGURIENA_ACCEPTED);
+    same("mark of 3", ponguriena_floor_mark(world, LENGTH(world), 3, &mark), PONGURIENA_ABSENT);
+    same("mark of 16", ponguriena_floor_mark(world, LENGTH(world), 16, &mark), PONGURIENA_BAD_ID);
+    same("mark after refusals", mark, -7);
+    same("join", join(FLOOR, 3, 48, 49), PONGURIENA_ACCEPTED);
+    same("mark", ponguriena_floor_mark(world, LENGTH(world), 3, &mark), PONGURIENA_ACCEPTED);
+    same("mark after the join", mark, 0);
+    same("step", step(FLOOR), PONGURIENA_ACCEPTED);
+    same("mark", ponguriena_floor_mark(world, LENGTH(world), 3, &mark), PONGURIENA_ACCEPTED);
+    same("mark on the floor", mark, 1);
+    same("in the world", world[PONGURIENA_TUNINGS + 4 * PONGURIENA_SEAT - 1], 1);
 }
 
 static void walks(void) {
@@ -228,6 +245,7 @@ int main(void) {
     lengths();
     a_step_too_far();
     a_leave();
+    a_floor();
     walks();
     numbers();
     packing();

@@ -52,12 +52,15 @@ fn compare_readers(world: &World, expected: &harness::World) -> Result<(), Diffe
         let slot = seat.and_then(|seat| expected.slots.get(seat));
         let refusal = slot.map_or(2, |slot| if slot.present { 0 } else { 8 });
         let (record, input) = (world.record(id), world.player_input(id));
+        let mark = world.floor_mark(id);
         same("answer of record", number(&record), refusal)?;
         same("answer of player_input", number(&input), refusal)?;
-        if let (Ok(record), Ok(input), Some(slot)) = (record, input, slot) {
+        same("answer of floor_mark", number(&mark), refusal)?;
+        if let (Ok(record), Ok(input), Ok(mark), Some(slot)) = (record, input, mark, slot) {
             let net = core_numbers(slot.character.to_net());
             same("record", record.numbers(), net)?;
             same("input", input.numbers(), input_numbers(slot.input))?;
+            same("floor mark", mark, slot.grounded)?;
         }
     }
     compare_tunings(world, &expected.tunings)

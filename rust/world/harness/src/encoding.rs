@@ -1,5 +1,6 @@
 //! A world as the numbers of the port's C interface: the tunings, then for each
-//! seat its presence, its record and its input, or zeros where nobody is.
+//! seat its presence, its record, its input and its floor mark, or zeros where
+//! nobody is.
 
 use crate::slot::{SEATS, Slot};
 use crate::tunings::TUNINGS;
@@ -9,7 +10,7 @@ use original::{
     CORE_NUMBERS, Character, INPUT_NUMBERS, core_numbers, core_of, input_numbers, input_of,
 };
 
-const SEAT_NUMBERS: usize = 1 + CORE_NUMBERS + INPUT_NUMBERS;
+const SEAT_NUMBERS: usize = 1 + CORE_NUMBERS + INPUT_NUMBERS + 1;
 const PUBLISHED_NUMBERS: usize = 1 + CORE_NUMBERS;
 
 pub const WORLD_NUMBERS: usize = TUNINGS + SEATS * SEAT_NUMBERS;
@@ -22,6 +23,7 @@ pub fn encoded(world: &World) -> [i32; WORLD_NUMBERS] {
             numbers.push(1);
             numbers.extend(core_numbers(slot.character.to_net()));
             numbers.extend(input_numbers(slot.input));
+            numbers.push(i32::from(slot.grounded));
         } else {
             numbers.extend([0; SEAT_NUMBERS]);
         }
@@ -46,6 +48,7 @@ fn decoded_slot(seat: &[i32]) -> Slot {
         return Slot::absent();
     }
     let (core, input) = seat[1..].split_at(CORE_NUMBERS);
+    let (input, mark) = input.split_at(INPUT_NUMBERS);
     let mut core = core_of(core.try_into().expect("a record"));
     // No hook holds for less, and a tick below 0 would have no record.
     core.hook_tick = Tick(core.hook_tick.0.max(0));
@@ -53,6 +56,7 @@ fn decoded_slot(seat: &[i32]) -> Slot {
         present: true,
         character: Character::from_net(&core),
         input: input_of(input.try_into().expect("an input")),
+        grounded: mark[0] != 0,
     }
 }
 

@@ -5,7 +5,7 @@ use crate::refusal::Refusal;
 use crate::slot::Slots;
 use crate::walks::Walks;
 use libtw2_gamenet::msg::game::SvTuneParams;
-use original::{Character, Hook, State};
+use original::{CHARACTER_SIZE, Character, Collision, Hook, State, vec2};
 use tile_map::Map;
 
 /// What is the same for everybody in a step.
@@ -16,6 +16,16 @@ pub struct Rules<'a> {
 }
 
 impl Rules<'_> {
+    /// What `tick` finds out and keeps to itself: whether one of two points below is solid.
+    pub fn grounded(self, character: Character) -> bool {
+        let pos = State::from(character).pos;
+        let below = |x: f32| pos + vec2::new(x, CHARACTER_SIZE / 2.0 + 5.0);
+        let mut map = self.map;
+        [-CHARACTER_SIZE / 2.0, CHARACTER_SIZE / 2.0]
+            .into_iter()
+            .any(|x| map.check_point(below(x)).is_some())
+    }
+
     /// Changes the velocities of others that are dragged; after a refusal they are void.
     pub fn ticked(self, slots: &mut Slots, id: usize) -> Result<Character, Refusal> {
         let me = without_overflow(slots[id].character);

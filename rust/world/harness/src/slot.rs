@@ -12,6 +12,8 @@ pub struct Slot {
     pub present: bool,
     pub character: Character,
     pub input: PlayerInput,
+    /// Whether it stood on the ground in its last tick.
+    pub grounded: bool,
 }
 
 impl Slot {
@@ -21,6 +23,7 @@ impl Slot {
             present: false,
             character: Character::spawn(vec2::default()),
             input: PlayerInput::default(),
+            grounded: false,
         }
     }
 
@@ -29,6 +32,7 @@ impl Slot {
             present: true,
             character: Character::spawn(pos),
             input: PlayerInput::default(),
+            grounded: false,
         }
     }
 }

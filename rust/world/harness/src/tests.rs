@@ -27,11 +27,12 @@ fn no_map() -> Map {
     Map { width: 2, ..open() }
 }
 
-fn numbers(world: &World) -> Vec<(bool, [u32; 12], [i32; 5])> {
+fn numbers(world: &World) -> Vec<(bool, [u32; 12], [i32; 5], bool)> {
     let slot = |id: usize| {
         let slot = world.slots[id];
         let state = State::from(slot.character).words();
-        (slot.present, state, input_numbers(slot.input))
+        let input = input_numbers(slot.input);
+        (slot.present, state, input, slot.grounded)
     };
     (0..SEATS).map(slot).collect()
 }
@@ -163,4 +164,28 @@ fn numbers_are_read_as_the_call_that_gave_them() {
         let wrong = Call::from_numbers([code, 0, 0, 0, 0, 0, 0]);
         assert_eq!(wrong.err(), Some(Refusal::Text));
     }
+}
+
+/// Who joins has no mark, also on a floor; the step that jumps off leaves one.
+#[test]
+fn a_mark_is_of_where_the_last_step_began() {
+    let floor = Map::from_rows(&["000", "000", "111"]);
+    let jump = PlayerInput {
+        jump: 1,
+        ..PlayerInput::default()
+    };
+    let mut world = World::fresh();
+    world.join(&floor, 2, 48, 49).expect("clear");
+    assert_eq!(world.floor_mark(2), Ok(false));
+    world.step(&floor).expect("a short walk");
+    assert_eq!(world.floor_mark(2), Ok(true));
+    world.input(2, jump).expect("present");
+    world.step(&floor).expect("a short walk");
+    assert_eq!(world.floor_mark(2), Ok(true));
+    assert_eq!(world.step(&no_map()).err(), Some(Refusal::Map));
+    assert_eq!(world.floor_mark(2), Ok(true));
+    world.step(&floor).expect("a short walk");
+    assert_eq!(world.floor_mark(2), Ok(false));
+    assert_eq!(world.floor_mark(3), Err(Refusal::Absent));
+    assert_eq!(world.floor_mark(16), Err(Refusal::Id));
 }

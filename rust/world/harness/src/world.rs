@@ -83,6 +83,10 @@ impl World {
         Ok(published)
     }
 
+    pub fn floor_mark(&mut self, id: i32) -> Result<bool, Refusal> {
+        Ok(self.present(id)?.grounded)
+    }
+
     fn present(&mut self, id: i32) -> Result<&mut Slot, Refusal> {
         let slot = &mut self.slots[seat(id)?];
         Refusal::Absent.when(!slot.present)?;
@@ -94,7 +98,9 @@ impl World {
 fn tick_all(rules: Rules, slots: &mut Slots) -> Result<(), Refusal> {
     for id in 0..SEATS {
         if slots[id].present {
+            let grounded = rules.grounded(slots[id].character);
             slots[id].character = rules.ticked(slots, id)?;
+            slots[id].grounded = grounded;
         }
     }
     Ok(())

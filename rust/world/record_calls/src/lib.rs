@@ -6,6 +6,7 @@ mod inputs;
 mod leavers;
 mod limits;
 mod maps;
+mod marks;
 mod play;
 mod refusals;
 mod sequence;
@@ -20,6 +21,13 @@ pub use too_far::too_far_sequences;
 use reference::Xorshift;
 
 pub fn all_sequences() -> Vec<Sequence> {
+    let mut sequences = session_sequences();
+    sequences.extend(marks::mark_sequences());
+    sequences
+}
+
+/// Those that are played as texts too, which print no floor mark.
+pub fn session_sequences() -> Vec<Sequence> {
     let mut random = Xorshift::default();
     let mut sequences = refusals::refusal_sequences();
     sequences.extend(too_far_sequences());

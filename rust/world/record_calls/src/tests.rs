@@ -261,3 +261,21 @@ fn every_jump_flag_occurs() {
     }
     assert_eq!(flags, (0..4).collect());
 }
+
+/// Each mark follows each, and a refused step finds both.
+#[test]
+fn marks_come_and_go() {
+    let mut seen = BTreeSet::new();
+    for (before, line) in all_lines().iter().filter(|(_, line)| is_step(line)) {
+        for id in 0..SEATS {
+            let (was, is) = (before.slots[id], line.after.slots[id]);
+            if was.present {
+                seen.insert((line.answer.is_ok(), was.grounded, is.grounded));
+            }
+        }
+    }
+    let refused = [(false, false, false), (false, true, true)];
+    let accepted = [false, true].map(|was| [false, true].map(|is| (true, was, is)));
+    let expected = refused.into_iter().chain(accepted.into_iter().flatten());
+    assert_eq!(seen, expected.collect());
+}

@@ -1,13 +1,13 @@
 //! The recorded sequences of calls as texts.
 
 use crate::written::sequence_text;
-use record_calls::{all_sequences, too_far_sequences};
+use record_calls::{session_sequences, too_far_sequences};
 use reference::Xorshift;
 use std::sync::LazyLock;
 use tile_map::draw::below;
 
 static RECORDED: LazyLock<Vec<Vec<u8>>> =
-    LazyLock::new(|| all_sequences().iter().map(sequence_text).collect());
+    LazyLock::new(|| session_sequences().iter().map(sequence_text).collect());
 
 static TOO_FAR: LazyLock<Vec<Vec<u8>>> =
     LazyLock::new(|| too_far_sequences().iter().map(sequence_text).collect());

@@ -9,8 +9,8 @@ use lib.ListN.{length, take, drop, length-drop}
 use lib.Seq.{take-all}
 use Rattle.game_records.specs.Numbers.{numberAt, coreIn, inputIn}
 use Rattle.game_records.proofs.Bits.{again}
-use Rattle.world_numbers.specs.Encoding.{recordCount}
-use Rattle.world_numbers.specs.Decoding.{isPresent, seatOf}
+use Rattle.world_numbers.specs.Encoding.{recordCount, markPlace}
+use Rattle.world_numbers.specs.Decoding.{isSet, seatOf}
 use borrow.Author.Needs.{needs}
 use Rattle.world_numbers.proofs.decoding.seat_of.Statement.{statement}
 use Rattle.world_numbers.proofs.decoding.seat_of.Tie as tie
@@ -19,11 +19,11 @@ use Rattle.world_numbers.proofs.decoding.seat_of.Tie as tie
 from : (k : ℕ) (s : List ℤ) → k ≤ length s → take (length s - k) (drop k s) ≡ drop k s
 from k s h = take-all (length s - k) (drop k s) (omega (arith, length-drop k s))
 
-shared-slice-copy-out-is-present : tie.Need-shared-slice-copy-out-is-present
-shared-slice-copy-out-is-present c = search needs
+shared-slice-copy-out-is-set : tie.Need-shared-slice-copy-out-is-set
+shared-slice-copy-out-is-set c = search needs
 
-is-present-requires : tie.Need-is-present-requires
-is-present-requires c κs = search needs
+is-set-requires : tie.Need-is-set-requires
+is-set-requires c κs = search needs
 
 sub-core-of : tie.Need-sub-core-of
 sub-core-of c = search needs
@@ -64,33 +64,43 @@ input-of-requires c κs = search needs
 with-input-requires : tie.Need-with-input-requires
 with-input-requires c κs = search needs
 
+shared-slice-copy-out-is-set-2 : tie.Need-shared-slice-copy-out-is-set-2
+shared-slice-copy-out-is-set-2 c = let room = c .before .before .before .before .before .before .before .before .before .before .before .before .pre in omega (arith, room)
+
+is-set-requires-2 : tie.Need-is-set-requires-2
+is-set-requires-2 c κs = search needs
+
+with-grounded-requires : tie.Need-with-grounded-requires
+with-grounded-requires c κs = search needs
+
 empty-requires : tie.Need-empty-requires
 empty-requires c κs = search needs
 
 returns : tie.Need-returns
 unfolding seatOf
 returns c =
-    let s = c .before .before .before .before .before .before .before .before .before .before .before .before .args .seat .now in
-    let room = c .before .before .before .before .before .before .before .before .before .before .before .before .pre in
-    let z = c .before .before .before .before .before .before .before .before .before .before .is-present in
-    let e : isPresent (numberAt s 0) ≡ true = sym (z .ensures ∙ ap isPresent (again (c .before .before .before .before .before .before .before .before .before .before .before .is-present-arg .given))) ∙ c .before .before .before .before .before .before .before .before .before .if1 .taken in
-    let n = c .before .before .before .before .before .before .before .core-of .ensures ∙ ap coreIn (from 1 s (omega arith)) in
-    let i = c .before .input-of .ensures ∙ ap inputIn (from recordCount s (omega arith)) in
-    simp (e, ← n, ← c .before .before .before .before .before .before .readable .ensures, ← c .before .before .before .before .before .from-net .ensures, ← i, c .with-input .ensures, c .before .before .before .with-character .ensures, c .before .before .before .before .joined .ensures)
+    let s = c .before .before .before .before .before .before .before .before .before .before .before .before .before .before .before .args .seat .now in
+    let room = c .before .before .before .before .before .before .before .before .before .before .before .before .before .before .before .pre in
+    let z = c .before .before .before .before .before .before .before .before .before .before .before .before .before .is-set in
+    let e : isSet (numberAt s 0) ≡ true = sym (z .ensures ∙ ap isSet (again (c .before .before .before .before .before .before .before .before .before .before .before .before .before .before .is-set-arg .given))) ∙ c .before .before .before .before .before .before .before .before .before .before .before .before .if1 .taken in
+    let n = c .before .before .before .before .before .before .before .before .before .before .core-of .ensures ∙ ap coreIn (from 1 s (omega arith)) in
+    let i = c .before .before .before .before .input-of .ensures ∙ ap inputIn (from recordCount s (omega arith)) in
+    let g : c .before .is-set2 .result ≡ isSet (numberAt s markPlace) = c .before .is-set2 .ensures ∙ ap isSet (again (c .before .before .is-set-arg2 .given)) in
+    simp (e, ← n, ← c .before .before .before .before .before .before .before .before .before .readable .ensures, ← c .before .before .before .before .before .before .before .before .from-net .ensures, ← i, ← g, c .with-grounded .ensures, c .before .before .before .with-input .ensures, c .before .before .before .before .before .before .with-character .ensures, c .before .before .before .before .before .before .before .joined .ensures)
 
 returns-2 : tie.Need-returns-2
 unfolding seatOf
 returns-2 c =
-    let z = c .before .before .is-present in
-    let e : isPresent (numberAt (c .before .before .before .before .args .seat .now) 0) ≡ false = sym (z .ensures ∙ ap isPresent (again (c .before .before .before .is-present-arg .given))) ∙ c .before .if1 .left in
+    let z = c .before .before .is-set in
+    let e : isSet (numberAt (c .before .before .before .before .args .seat .now) 0) ≡ false = sym (z .ensures ∙ ap isSet (again (c .before .before .before .is-set-arg .given))) ∙ c .before .if1 .left in
     simp (e, ← c .empty .ensures)
 
 pub seat-of-spec : {M : Type 1} → statement M
 seat-of-spec =
     tie.close
     (tie.spec
-    shared-slice-copy-out-is-present
-    is-present-requires
+    shared-slice-copy-out-is-set
+    is-set-requires
     sub-core-of
     part-core-of-start
     part-core-of-end
@@ -104,6 +114,9 @@ seat-of-spec =
     part-input-of-end
     input-of-requires
     with-input-requires
+    shared-slice-copy-out-is-set-2
+    is-set-requires-2
+    with-grounded-requires
     empty-requires
     returns
     returns-2)

@@ -16,8 +16,8 @@ use Rattle.world_numbers.proofs.encoding.record_numbers.Tie as tie
 core-numbers-requires : tie.Need-core-numbers-requires
 core-numbers-requires c κs = search needs
 
-presence-requires : tie.Need-presence-requires
-presence-requires c κs = search needs
+flag-requires : tie.Need-flag-requires
+flag-requires c κs = search needs
 
 array-set-from-row : tie.Need-array-set-from-row
 array-set-from-row c = search needs
@@ -35,7 +35,7 @@ returns : tie.Need-returns
 unfolding recordNumbers
 returns c =
     let r = c .before .before .before .before .before .core-numbers in
-    let p = c .before .before .before .before .presence in
+    let p = c .before .before .before .before .flag in
     let n : length (r .result) ≡ coreCount = ap length (r .ensures) ∙ core-long _ in
     c .before .copy .ensures
     ∙ put-cons (replicate recordCount (pos 0)) 0 _ (r .result) (omega arith)
@@ -47,7 +47,7 @@ record-numbers-spec =
     tie.close
     (tie.spec
     core-numbers-requires
-    presence-requires
+    flag-requires
     array-set-from-row
     slice-aggregate-copy
     slice-aggregate-copy-2

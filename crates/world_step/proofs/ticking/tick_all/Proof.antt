@@ -11,8 +11,7 @@ use Rattle.base_turns.proofs.Loop.{Left, turn-first, turn-on, turn-off, turn-en
 use Rattle.base_turns.specs.Turns.{more, stop}
 use Rattle.map_tiles.specs.declared.tiles.Sides.{Sides}
 use Rattle.game_tuning.specs.declared.Tuning.{Tuning}
-use Rattle.character.specs.Slot.{withCharacter}
-use Rattle.character.specs.Tick.{seats, slotAt, afterPull, pulledSeat, pulledSlot, tickAt}
+use Rattle.character.specs.Tick.{seats, slotAt, afterPull, pulledSeat, pulledSlot, tickAt, tickedSlot}
 use Rattle.character.specs.declared.Slot.{Slot}
 use Rattle.character.specs.declared.tick.AfterTick.{AfterTick}
 use Rattle.character.specs.declared.tick.TickedAt.{TickedAt}
@@ -26,7 +25,7 @@ use Rattle.world_step.proofs.ticking.tick_all.Tie as tie
 
 -- a turn, on plain values: a tick; a tick that is refused; nobody
 module _ (s : Sides) (ts : List ℕ) (t : Tuning) (j : ℕ) (ss : List Slot) where
-  ticks : (k : TickedAt) (a : AfterTick) (at : ℕ) (other own : Slot) (us : List Slot) → slotAt ss j .present ≡ true → k ≡ tickAt seats (slotAt ss j .character) j ss s ts (slotAt ss j .input) t → k ≡ ticked.To a → j < seats → length ss ≡ seats → at ≡ pulledSeat seats (a .pull) j → other ≡ pulledSlot (slotAt ss at) (a .pull) at → own ≡ withCharacter (slotAt (set ss at other) j) (a .me) → us ≡ set (set ss at other) j own → tickTurn seats s ts t j ss ≡ more us
+  ticks : (k : TickedAt) (a : AfterTick) (at : ℕ) (other own : Slot) (us : List Slot) → slotAt ss j .present ≡ true → k ≡ tickAt seats (slotAt ss j .character) j ss s ts (slotAt ss j .input) t → k ≡ ticked.To a → j < seats → length ss ≡ seats → at ≡ pulledSeat seats (a .pull) j → other ≡ pulledSlot (slotAt ss at) (a .pull) at → own ≡ tickedSlot (slotAt (set ss at other) j) a → us ≡ set (set ss at other) j own → tickTurn seats s ts t j ss ≡ more us
   ticks k a at other own us p e z h n place pulled mine q =
       let there : set ss at other ≡ afterPull ss (a .pull) = rw (pulled, place) (pulled-there seats j h ss (a .pull) n) in
       simp (p, ← e, z, q, mine, there)
@@ -96,14 +95,14 @@ mul-own c = search needs
 array-copy-out-own : tie.Need-array-copy-out-own Inv-loop μ-loop
 array-copy-out-own c = search needs
 
-with-character-requires : tie.Need-with-character-requires Inv-loop μ-loop
-with-character-requires c κs = search needs
+ticked-requires : tie.Need-ticked-requires Inv-loop μ-loop
+ticked-requires c κs = search needs
 
 mul-all-2 : tie.Need-mul-all-2 Inv-loop μ-loop
-mul-all-2 c = let h = c .before .before .before .before .before .before .before .before .before .before .before .before .before .loop-test .taken in omega (arith, h)
+mul-all-2 c = let h = c .before .before .before .before .before .before .before .before .before .before .before .before .loop-test .taken in omega (arith, h)
 
 array-set-from-all-2 : tie.Need-array-set-from-all-2 Inv-loop μ-loop
-array-set-from-all-2 c = c .before .before .before .before .before .before .before .before .before .before .before .before .before .loop-test .taken
+array-set-from-all-2 c = c .before .before .before .before .before .before .before .before .before .before .before .before .loop-test .taken
 
 add-id : tie.Need-add-id Inv-loop μ-loop
 add-id c = omega arith
@@ -117,8 +116,8 @@ loop-again c =
     let l = c .before .before .before .loop in
     let h = c .before .before .loop-test .taken in (
       turn-on (l .inv .0) h
-          (⊎-elim (λ w. ticks (a .sides) (a .tiles .now) (a .tuning) (l .id) (l .all) (w .2 .result) (w .4 .given .0 .0) (w .6 .result) (w .8 .result) (w .11 .result) _ (w .0 .taken) (w .2 .ensures) (w .4 .given .1) h (l .inv .1) (w .6 .ensures) (w .8 .ensures) (w .11 .ensures) (w .12)) (λ w. nobody (a .sides) (a .tiles .now) (a .tuning) (l .id) (l .all) _ (w .0 .left) (w .1)) (c .if1 .came)),
-      ⊎-elim (λ w. ap length (w .12) ∙ length-set (set (l .all) (w .6 .result) (w .8 .result)) (l .id) (w .11 .result) ∙ length-set (l .all) (w .6 .result) (w .8 .result) ∙ l .inv .1) (λ w. ap length (w .1) ∙ l .inv .1) (c .if1 .came),
+          (⊎-elim (λ w. ticks (a .sides) (a .tiles .now) (a .tuning) (l .id) (l .all) (w .2 .result) (w .4 .given .0 .0) (w .6 .result) (w .8 .result) (w .10 .result) _ (w .0 .taken) (w .2 .ensures) (w .4 .given .1) h (l .inv .1) (w .6 .ensures) (w .8 .ensures) (w .10 .ensures) (w .11)) (λ w. nobody (a .sides) (a .tiles .now) (a .tuning) (l .id) (l .all) _ (w .0 .left) (w .1)) (c .if1 .came)),
+      ⊎-elim (λ w. ap length (w .11) ∙ length-set (set (l .all) (w .6 .result) (w .8 .result)) (l .id) (w .10 .result) ∙ length-set (l .all) (w .6 .result) (w .8 .result) ∙ l .inv .1) (λ w. ap length (w .1) ∙ l .inv .1) (c .if1 .came),
     )
 
 returns-2 : tie.Need-returns-2 Inv-loop μ-loop
@@ -145,7 +144,7 @@ tick-all-spec =
     array-set-from-all
     mul-own
     array-copy-out-own
-    with-character-requires
+    ticked-requires
     mul-all-2
     array-set-from-all-2
     add-id
