@@ -1,2 +1,5 @@
 pub mod Values
 pub mod Close
+pub mod Below
+pub mod Difference
+pub mod Upright

@@ -1,5 +1,5 @@
 // C[n] and S[n] up to 2, from few numbers: n is 32 a + b, and the angles of 32 a and of b are added. So a guess at an angle is
-// mostly seen to be right without the whole tables, which are built anew for every search.
+// mostly seen to be right without the whole tables, which are built anew for every scan.
 use crate::few::cos_1;
 use crate::few::cos_32;
 use crate::few::sin_1;

@@ -2,3 +2,4 @@ pub mod Stretch
 pub mod Largest
 pub mod Search
 pub mod Cases
+pub mod Quarters

@@ -1,2 +1,3 @@
 pub mod Angle
 pub mod Search
+pub mod Scan

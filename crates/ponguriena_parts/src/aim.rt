@@ -2,6 +2,7 @@
 use num_convert::hundredths_to_f32;
 ghost use mathlib.Core.Path.{_≡_};
 ghost use Rattle.aim_rule.specs.Angle.{netAngle};
+ghost use Rattle.aim_rule.specs.Scan.{entriesRead};
 ghost use Rattle.num_convert.specs.Convert.{hundredthsToF32};
 ghost use Rattle.num_ramp.specs.Ramp.{velocityRamp};
 
@@ -10,6 +11,15 @@ pub extern "C" fn ponguriena_net_angle(x: i32, y: i32) -> i32
     ensures { λ r. ⌜ r ≡ netAngle x y ⌝ }
 {
     aim_angle::net_angle(x, y)
+}
+
+#[no_mangle]
+pub extern "C" fn ponguriena_scan_angle(x: i32, y: i32, read: &mut u32) -> i32
+    ensures { λ r. ⌜ (r ≡ netAngle x y) × (now (read .exit) ≡ entriesRead x y) ⌝ }
+{
+    let scan = aim_angle::scan_angle(x, y);
+    *read = scan.read;
+    scan.angle
 }
 
 #[no_mangle]

@@ -3,6 +3,7 @@ mod aim;
 mod walks;
 
 pub use aim::ponguriena_net_angle;
+pub use aim::ponguriena_scan_angle;
 pub use aim::ponguriena_velocity_ramp;
 pub use walks::ponguriena_check_line;
 pub use walks::ponguriena_move_box;

@@ -44,7 +44,14 @@ fn line_agrees(line: &[u8]) -> bool {
     let patterns = rest(line, PATTERNS);
     match byte_at(line, 0) {
         b'0' => entry_agrees(nth(patterns, 0), nth(patterns, 1), nth(patterns, 2)),
-        b'1' => angle_agrees(nth(patterns, 0), nth(patterns, 1), nth(patterns, 2)),
+        b'1' => {
+            angle_agrees(
+                nth(patterns, 0),
+                nth(patterns, 1),
+                nth(patterns, 2),
+                nth(patterns, 3),
+            )
+        }
         b'2' => power_agrees(nth(patterns, 0), nth(patterns, 1), nth(patterns, 2)),
         _ => ramp_agrees(patterns),
     }
@@ -60,8 +67,12 @@ fn entry_agrees(n: u32, cosine: u32, sine: u32) -> bool {
     is_int(cosines[i], cosine) && is_int(sines[i], sine)
 }
 
-fn angle_agrees(x: u32, y: u32, answer: u32) -> bool {
+// By itself and by a scan, which also tells how many entries it read.
+fn angle_agrees(x: u32, y: u32, answer: u32, read: u32) -> bool {
+    let scan = aim_angle::scan_angle(cast_signed(x), cast_signed(y));
     is_int(aim_angle::net_angle(cast_signed(x), cast_signed(y)), answer)
+        && is_int(scan.angle, answer)
+        && scan.read == read
 }
 
 fn power_agrees(c: u32, e: u32, answer: u32) -> bool {

@@ -120,6 +120,10 @@ uint32_t ponguriena_move_box(uint32_t width, uint32_t height, const uint8_t *til
 /* The angle of a target in 1/256 radian. */
 int32_t ponguriena_net_angle(int32_t x, int32_t y);
 
+/* The same by a scan down through the quarter that the signs allow; read gets how many entries
+ * it read: none for (0, 0), else at most 403. */
+int32_t ponguriena_scan_angle(int32_t x, int32_t y, uint32_t *read);
+
 /* The factor for a speed; the tunings are in hundredths. */
 float ponguriena_velocity_ramp(float value, int32_t start, int32_t range, int32_t curvature);
 

@@ -5,6 +5,7 @@ unsafe extern "C" {
     // Each takes and returns plain values and is defined for every bit pattern
     // of its arguments, so it is safe to call.
     safe fn ponguriena_net_angle(x: i32, y: i32) -> i32;
+    safe fn ponguriena_scan_angle(x: i32, y: i32, read: &mut u32) -> i32;
     safe fn ponguriena_velocity_ramp(value: f32, start: i32, range: i32, curvature: i32) -> f32;
 }
 
@@ -12,6 +13,27 @@ unsafe extern "C" {
 #[inline]
 pub fn net_angle(x: i32, y: i32) -> i32 {
     ponguriena_net_angle(x, y)
+}
+
+/// What a scan of the angle's tables tells.
+#[derive(Clone, Copy, Debug, Eq, PartialEq)]
+pub struct Scan {
+    /// As of [`net_angle`].
+    pub angle: i32,
+    /// How many entries were read: none for (0, 0), else at most 403.
+    pub read: u32,
+}
+
+/// The aim angle of a target by a scan down through the quarter that its signs allow.
+///
+/// ```
+/// assert_eq!(ponguriena::scan_angle(-1, 0), ponguriena::Scan { angle: 804, read: 1 });
+/// ```
+#[inline]
+pub fn scan_angle(x: i32, y: i32) -> Scan {
+    let mut read = 0;
+    let angle = ponguriena_scan_angle(x, y, &mut read);
+    Scan { angle, read }
 }
 
 /// The factor for a speed; the tunings are in hundredths.

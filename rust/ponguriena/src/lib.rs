@@ -14,7 +14,7 @@ mod snap_obj;
 mod walks;
 mod world;
 
-pub use aim::{net_angle, velocity_ramp};
+pub use aim::{Scan, net_angle, scan_angle, velocity_ramp};
 pub use buffers::SEATS;
 pub use floats::{
     from_256ths, hundredths_to_f32, i32_to_f32, quantize, quantize_256ths, root, round_to_i32,

@@ -14,6 +14,9 @@ fn net_angle_on_many_targets() {
     for (x, y) in target_edges().into_iter().chain(randoms) {
         let (port, reference) = (ponguriena::net_angle(x, y), reference::net_angle(x, y));
         assert_eq!(port, reference, "net_angle({x}, {y})");
+        let scan = ponguriena::scan_angle(x, y);
+        let expected = reference::quarter_scan(x, y);
+        assert_eq!((scan.angle, scan.read), expected, "scan_angle({x}, {y})");
     }
 }
 
@@ -25,6 +28,9 @@ fn net_angle_is_the_largest_that_fits() {
     for (x, y) in target_edges().into_iter().chain(randoms) {
         let expected = reference::scanned_angle(x, y);
         assert_eq!(ponguriena::net_angle(x, y), expected, "net_angle({x}, {y})");
+        let scan = ponguriena::scan_angle(x, y);
+        let expected = (expected, reference::entries_read(x, y));
+        assert_eq!((scan.angle, scan.read), expected, "scan_angle({x}, {y})");
     }
 }
 

@@ -38,6 +38,28 @@ pub fn scanned_angle(x: i32, y: i32) -> i32 {
     signed(x, y, largest as i32)
 }
 
+/// How many entries a scan of the quarter reads: by the customer's words, from the
+/// largest of all that fit.
+pub fn entries_read(x: i32, y: i32) -> u32 {
+    if (x, y) == (0, 0) {
+        return 0;
+    }
+    let above = if x > 0 { 403 } else { 805 };
+    above - scanned_angle(x, y).unsigned_abs()
+}
+
+/// The scan of the quarter as plain Rust would have it: the angle, and how many
+/// entries were read.
+pub fn quarter_scan(x: i32, y: i32) -> (i32, u32) {
+    if (x, y) == (0, 0) {
+        return (0, 0);
+    }
+    let first = if x > 0 { 402 } else { 804 };
+    let down = CIRCLE[..=first].iter().rev();
+    let missed = down.take_while(|entry| !fits(x, y, entry)).count();
+    (signed(x, y, (first - missed) as i32), missed as u32 + 1)
+}
+
 /// Whether the entry's angle is at most that of the target (x, |y|).
 fn fits(x: i32, y: i32, &(cos, sin): &(i64, i64)) -> bool {
     i64::from(y).abs() * cos - i64::from(x) * sin >= 0

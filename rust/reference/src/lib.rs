@@ -9,7 +9,7 @@ pub mod edges;
 pub mod packed;
 mod xorshift;
 
-pub use aim::{CIRCLE, net_angle, powf, scanned_angle, velocity_ramp};
+pub use aim::{CIRCLE, entries_read, net_angle, powf, quarter_scan, scanned_angle, velocity_ramp};
 pub use bits::{Bits, on_bits};
 pub use xorshift::Xorshift;
 

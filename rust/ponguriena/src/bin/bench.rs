@@ -43,6 +43,8 @@ fn main() {
     print_rows("any", &floats, &roots, &integers);
     print_angles("game", &inputs(|| target(&mut random, 21)));
     print_angles("any", &inputs(|| target(&mut random, 0)));
+    print_angles("axes", &inputs(|| on_an_axis(&mut random)));
+    print_angles("diagonals", &inputs(|| on_a_diagonal(&mut random)));
     print_ramps("game", &inputs(|| game_ramp(&mut random)));
     print_ramps("steep", &inputs(|| steep_ramp(&mut random)));
     print_packed("game", &inputs(|| record(&mut random)));
@@ -52,6 +54,25 @@ fn main() {
 fn target(random: &mut Xorshift, shift: u32) -> (i32, i32) {
     let mut coordinate = || random.pattern() as i32 >> shift;
     (coordinate(), coordinate())
+}
+
+/// As a player aims who turns by keys: right, left, up or down.
+fn on_an_axis(random: &mut Xorshift) -> (i32, i32) {
+    let (size, _) = target(random, 21);
+    if random.pattern() % 2 == 0 {
+        (size, 0)
+    } else {
+        (0, size)
+    }
+}
+
+fn on_a_diagonal(random: &mut Xorshift) -> (i32, i32) {
+    let (size, _) = target(random, 21);
+    if random.pattern() % 2 == 0 {
+        (size, size)
+    } else {
+        (size, -size)
+    }
 }
 
 /// A ramp that starts at once, so that a power is always needed.
@@ -128,6 +149,12 @@ fn print_angles(kind: &str, targets: &[(i32, i32)]) {
     let port = |(x, y)| ponguriena::net_angle(x, y);
     let reference = |(x, y)| reference::net_angle(x, y);
     print_row("net_angle", kind, PASSES, targets, port, reference);
+    let port = |(x, y)| ponguriena::scan_angle(x, y);
+    let reference = |(x, y)| {
+        let (angle, read) = reference::quarter_scan(x, y);
+        ponguriena::Scan { angle, read }
+    };
+    print_row("scan_angle", kind, PASSES, targets, port, reference);
 }
 
 fn print_ramps(kind: &str, ramps: &[Ramp]) {

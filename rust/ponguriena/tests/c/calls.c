@@ -206,7 +206,10 @@ static void walks(void) {
 }
 
 static void numbers(void) {
+    uint32_t read = 9;
     same("net_angle", ponguriena_net_angle(0, -1), -402);
+    same("scan_angle", ponguriena_scan_angle(0, -1, &read), -402);
+    same("entries read", read, 403);
     same_float("velocity_ramp", ponguriena_velocity_ramp(500.0f, 55000, 200000, 140), 1.0f);
     same_float("root", ponguriena_root(6.25f), 2.5f);
     same("round_to_i32", ponguriena_round_to_i32(-0.5f), -1);

@@ -14,7 +14,8 @@ fn main() {
     let mut random = Xorshift::default();
     let targets = target_edges();
     for (x, y) in with_random(targets, || random_target(&mut random)) {
-        print(1, &[x, y, reference::net_angle(x, y)].map(Bits::to_pattern));
+        let [x_bits, y_bits, angle] = [x, y, reference::net_angle(x, y)].map(Bits::to_pattern);
+        print(1, &[x_bits, y_bits, angle, reference::entries_read(x, y)]);
     }
     for (c, e) in with_random(power_edges(), || random_power(&mut random)) {
         print(2, &[c, e, reference::powf(c, e)].map(Bits::to_pattern));
