@@ -1,3 +1,4 @@
 pub mod Loop
 pub mod Kept
 pub mod Last
+pub mod Mapped

@@ -33,6 +33,7 @@ use Rattle.character_hook.specs.declared.flying.Way.the-variants as way
 use Rattle.character_motion.specs.Meeting.{meet, pullOn}
 use Rattle.character_motion.specs.declared.meeting.HookPull.{HookPull}
 use Rattle.character_motion.specs.declared.meeting.HookPull.the-variants as pull
+use Rattle.character.specs.Character.{withHook, withVel}
 use Rattle.character.specs.Slot.{emptySlot, withCharacter, withGrounded}
 use Rattle.character.specs.declared.Character.{Character}
 use Rattle.character.specs.declared.Slot.{Slot}
@@ -54,13 +55,6 @@ nowhere = withCharacter emptySlot (record { pos = vnew nan nan; vel = vnew nan n
 
 abbrev pub slotAt : List Slot → ℕ → Slot
 slotAt ss j = getD ss j nowhere
-
--- c with another hook, with another velocity
-abbrev pub withHook : Character → Hook → Character
-withHook c h = record { pos = c .pos; vel = c .vel; hook = h; «jumped_already» = c .«jumped_already»; «used_airjump» = c .«used_airjump»; angle = c .angle; «move_direction» = c .«move_direction» }
-
-abbrev pub withVel : Character → vec2 → Character
-withVel c v = record { pos = c .pos; vel = v; hook = c .hook; «jumped_already» = c .«jumped_already»; «used_airjump» = c .«used_airjump»; angle = c .angle; «move_direction» = c .«move_direction» }
 
 -- direction and angle, gravity and jump, the hook's button, walking and friction
 unfoldable pub steer : Character → Bool → PlayerInput → Tuning → Character

@@ -20,7 +20,7 @@ pub use tick::TickedAt;
 pub use walk::Moved;
 pub use walk::MovedAt;
 ghost use mathlib.Core.Path.{_≡_};
-ghost use Rattle.character.specs.Character.{spawn};
+ghost use Rattle.character.specs.Character.{spawn, withHook};
 
 pub struct Character {
     pub pos: vec2,
@@ -55,6 +55,25 @@ impl Character {
             used_airjump: false,
             angle: Angle::from_radians(0.0),
             move_direction: MoveDirection::None,
+        }
+    }
+
+    // An enum field is not assigned, so the character is built anew.
+    pub fn with_hook(self, hook: Hook) -> Character
+        ensures { λ r. ⌜ r ≡ withHook self hook ⌝ }
+    {
+        let pos = self.pos;
+        let vel = self.vel;
+        let angle = self.angle;
+        let direction = self.move_direction;
+        Character {
+            pos: pos,
+            vel: vel,
+            hook: hook,
+            jumped_already: self.jumped_already,
+            used_airjump: self.used_airjump,
+            angle: angle,
+            move_direction: direction,
         }
     }
 }

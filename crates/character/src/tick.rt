@@ -31,7 +31,7 @@ ghost use mathlib.Core.Path.{_≡_};
 ghost use lib.Dec.{T};
 ghost use Prim.Native.Nat.{_<_};
 ghost use Rattle.map_tiles.specs.Map.{isMap};
-ghost use Rattle.character.specs.Tick.{seats, withHook, steer, nearest, caught, meetAll, pullOf, hooked, tickAt, tick};
+ghost use Rattle.character.specs.Tick.{seats, steer, nearest, caught, meetAll, pullOf, hooked, tickAt, tick};
 
 // What `tick` answers.
 pub enum Ticked {
@@ -163,24 +163,6 @@ impl Character {
             jumped_already: jumped.jumped_already,
             used_airjump: landed(grounded, jumped.used_airjump),
             angle: aim(input),
-            move_direction: direction,
-        }
-    }
-
-    fn with_hook(self, hook: Hook) -> Character
-        ensures { λ r. ⌜ r ≡ withHook self hook ⌝ }
-    {
-        let pos = self.pos;
-        let vel = self.vel;
-        let angle = self.angle;
-        let direction = self.move_direction;
-        Character {
-            pos: pos,
-            vel: vel,
-            hook: hook,
-            jumped_already: self.jumped_already,
-            used_airjump: self.used_airjump,
-            angle: angle,
             move_direction: direction,
         }
     }

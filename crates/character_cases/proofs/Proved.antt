@@ -19,7 +19,8 @@ use lib.IntN.{ℤ}
 use borrow.Author.Tests.{lt-ltb}
 use Rattle.character.specs.declared.Character.{Character}
 use Rattle.character.specs.declared.Slot.{Slot}
-use Rattle.character.specs.Tick.{withHook, steer, caught, hooked, tickAt, tick}
+use Rattle.character.specs.Character.{withHook}
+use Rattle.character.specs.Tick.{steer, caught, hooked, tickAt, tick}
 use Rattle.character_hook.specs.Flying.{flown}
 use Rattle.character_hook.specs.Hooking.{fired, fire, retract, hold}
 use Rattle.character_hook.specs.declared.hook.CharacterId.{CharacterId}

@@ -23,7 +23,8 @@ use Rattle.aim_rule.specs.Angle.{netAngle}
 use Rattle.character_hook.specs.Hook.{tickOf}
 use Rattle.character.specs.declared.Character.{Character}
 use Rattle.character.specs.Records.{mostTick}
-use Rattle.character.specs.Tick.{withHook, tick}
+use Rattle.character.specs.Character.{withHook}
+use Rattle.character.specs.Tick.{tick}
 use Rattle.character.specs.declared.Slot.{Slot}
 use Rattle.character.specs.declared.tick.Ticked.{Ticked}
 use Rattle.character.specs.declared.tick.Ticked.the-variants as answer

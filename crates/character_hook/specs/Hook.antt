@@ -88,6 +88,10 @@ abbrev pub nobody : ℤ → Bool
 nobody (pos n) = false
 nobody (negsuc k) = eqb k 0
 
+-- whether it holds the character k
+unfoldable pub holds : Hook → ℕ → Bool
+holds h k = onGrabbed (λ c t. eqb (c .0) k) false h
+
 -- state 5 of a record: Attached where nobody is held, else the player's bits and the tick's as u32
 unfoldable pub attachedOrGrabbed : vec2 → ℤ → Tick → Hook
 attachedOrGrabbed p player t = cond (nobody player) (Attached p) (Grabbed (idOf (castUnsigned player)) (castUnsigned (t .0)))

@@ -37,7 +37,8 @@ use Rattle.character.specs.declared.Slot.{Slot}
 use Rattle.character.specs.declared.tick.AfterTick.{AfterTick}
 use Rattle.character.specs.declared.tick.HookFlight.{HookFlight}
 use Rattle.character.specs.declared.tick.HookFlight.the-variants.{TooFar, To}
-use Rattle.character.specs.Tick.{slotAt, nowhere, withVel, steer, flight, meetTurn, meetAll, pullFrom, pullOf, afterPull, hooked, ticked, tickAt}
+use Rattle.character.specs.Character.{withVel}
+use Rattle.character.specs.Tick.{slotAt, nowhere, steer, flight, meetTurn, meetAll, pullFrom, pullOf, afterPull, hooked, ticked, tickAt}
 use Rattle.character_laws.proofs.Choices.{either, on-attached, on-grabbed}
 use Rattle.character_laws.proofs.Others.{Then}
 use Rattle.character_laws.proofs.Slots.{set-every}

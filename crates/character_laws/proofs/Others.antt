@@ -25,7 +25,8 @@ use Rattle.character.specs.declared.tick.HookFlight.{HookFlight}
 use Rattle.character.specs.declared.tick.HookFlight.the-variants.{TooFar, To}
 use Rattle.character.specs.declared.tick.TickedAt.{TickedAt}
 use Rattle.character.specs.declared.tick.TickedAt.the-variants as at
-use Rattle.character.specs.Tick.{slotAt, nowhere, withVel, steer, flight, pullFrom, pullOf, afterPull, hooked, ticked, tickAt}
+use Rattle.character.specs.Character.{withVel}
+use Rattle.character.specs.Tick.{slotAt, nowhere, steer, flight, pullFrom, pullOf, afterPull, hooked, ticked, tickAt}
 use Rattle.character_laws.proofs.Choices.{either, on-grabbed}
 use Rattle.character_laws.proofs.Slots.{set-every}
 

@@ -15,24 +15,22 @@ use Rattle.map_tiles.specs.Box.{Clear, characterBox}
 use Rattle.map_tiles.proofs.Corners.{character-corners}
 use Rattle.world.specs.declared.call.Call.{Call}
 use Rattle.world.specs.declared.call.Call.the-variants.{Join, Leave, Input, Step, Tune}
-use Rattle.character.specs.Slot.{emptySlot, joinedSlot, withInput}
+use Rattle.character.specs.Slot.{joinedSlot, withInput}
 use Rattle.character.specs.Character.{spawn}
 use Rattle.character.specs.Tick.{slotAt}
-use Rattle.character.specs.declared.Slot.{Slot}
 use Rattle.character_laws.proofs.Back.{representable-back}
-use Rattle.world.specs.World.{fresh, withSlot, withTuning}
+use Rattle.world.specs.World.{fresh, withTuning}
 use Rattle.game_tuning.specs.Tuning.{tuningCount, playerCollision}
 use Rattle.world.specs.Calls.{refused, accepted, placeOf, pointOf}
 use Rattle.world.specs.Calls as calls
 use Rattle.world.specs.Run.{inputOf, ran, after}
 use Rattle.world.specs.Demand3.{collisionAfter, CollisionOff, presentAfter, present, CornersClear, StepFaithful, StepsFaithful, Demand3}
 use Rattle.world.specs.Settled.{Settled}
-use Rattle.world.specs.declared.Answer.{Answer}
 use Rattle.world.specs.declared.World.{World}
 use Rattle.world.proofs.Standing.{Standing, representable-fits}
-use Rattle.world.proofs.Reached.{Reached, set-reached, empty-standing, fresh-reached, steps}
+use Rattle.world.proofs.Reached.{Reached, set-reached, vacated-reached, fresh-reached, steps}
 use Rattle.world.proofs.Settled.{joined-representable, answer-settled, after-settled}
-use Rattle.world.proofs.Outcomes.{Outcome, no, yes, Joins, join-outcome, leave-outcome, input-outcome}
+use Rattle.world.proofs.Outcomes.{outcome-kept, Joins, join-outcome, leave-outcome, input-outcome}
 use Rattle.world.proofs.Present.{present-next, fresh-absent, present-follows}
 
 abbrev isStep : Call → Bool
@@ -46,10 +44,6 @@ not-step : (c : Call) → isStep c ≡ false → c ≡ Step → ⊥
 not-step c p e = true≢false (sym (ap isStep e) ∙ p)
 
 module _ (n : ℕ) (s : Sides) (ts : List ℕ) where
-  slot-reached : {F : Type 0} (z : ℤ) (w : World) (j : ℕ) (x : Slot) (a : Answer) → Outcome w (withSlot w j x) F a → Reached n s ts z w → (F → Standing s ts x) → Reached n s ts z (a .world)
-  slot-reached z w j x a (no r e) h f = rw e h
-  slot-reached z w j x a (yes q e) h f = rw e (set-reached n s ts z w j x h (f q))
-
   -- ---- each call
   -- what a call leaves of a world that is reached with player collision z
   record Next (z : ℤ) (w : World) (c : Call) : Type 0 where
@@ -62,21 +56,15 @@ module _ (n : ℕ) (s : Sides) (ts : List ℕ) where
 
   join-next : (z : ℤ) (w : World) (id x y : ℤ) → Settled n w → Reached n s ts z w → Next z w (Join id x y)
   join-next z w id x y g h =
-      let j = placeOf n id in
-      let a = calls.join n w s ts id x y in
-      let o = join-outcome n w s ts id x y in
       record {
-        reached = slot-reached z w j (joinedSlot (pointOf x y)) a o h (joined-stands w id x y);
+        reached = outcome-kept (Reached n s ts z) w _ _ (join-outcome n w s ts id x y) h (λ f. set-reached n s ts z w (placeOf n id) (joinedSlot (pointOf x y)) h (joined-stands w id x y f));
         told = λ e. absurd (not-step (Join id x y) refl e);
       }
 
   leave-next : (z : ℤ) (w : World) (id : ℤ) → Settled n w → Reached n s ts z w → Next z w (Leave id)
   leave-next z w id g h =
-      let j = placeOf n id in
-      let a = calls.leave n w id in
-      let o = leave-outcome n w id in
       record {
-        reached = slot-reached z w j emptySlot a o h (λ f. empty-standing n s ts);
+        reached = outcome-kept (Reached n s ts z) w _ _ (leave-outcome n w id) h (λ f. vacated-reached n s ts z w (placeOf n id) h);
         told = λ e. absurd (not-step (Leave id) refl e);
       }
 
@@ -86,7 +74,7 @@ module _ (n : ℕ) (s : Sides) (ts : List ℕ) where
       let i = inputOf a b c d e in
       let x = withInput (slotAt (w .slots) j) i in
       record {
-        reached = slot-reached z w j x (calls.input n w id i) (input-outcome n w id i) h (λ f. record { clear = λ q. h .stands j .clear (f .there); pos-fits = λ q. h .stands j .pos-fits (f .there); vel-fits = h .stands j .vel-fits });
+        reached = outcome-kept (Reached n s ts z) w _ _ (input-outcome n w id i) h (λ f. set-reached n s ts z w j x h (record { clear = λ q. h .stands j .clear (f .there); pos-fits = λ q. h .stands j .pos-fits (f .there); vel-fits = h .stands j .vel-fits }));
         told = λ q. absurd (not-step (Input id a b c d e) refl q);
       }
 

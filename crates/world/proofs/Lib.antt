@@ -4,10 +4,12 @@ pub mod Moves
 pub mod Reached
 pub mod Outcomes
 pub mod Vacated
+pub mod Leave
 pub mod Settled
 pub mod NextSlot
 pub mod Present
 pub mod Marks
+pub mod Held
 pub mod Numbers
 pub mod Demand1
 pub mod Demand3

@@ -32,7 +32,7 @@ use Rattle.world.specs.declared.Recorded.the-variants.{Refused, Core}
 use Rattle.world.specs.declared.Stepped.{Stepped}
 use Rattle.world.specs.declared.World.{World}
 use Rattle.world.specs.World.{fresh}
-use Rattle.world.specs.Calls.{placeOf, pointOf, join, leave, input, marked, unmarked, floorMark}
+use Rattle.world.specs.Calls.{placeOf, pointOf, join, releasedSlot, leave, input, marked, unmarked, floorMark}
 use Rattle.world.specs.Step.{Moving, afterTick, tickTurn, tickAll, recordOf, publish, moveIn, moveTurn, movingFrom, moveAll, stepAnswer, stepOn, step}
 use Rattle.world.specs.Run.{inputOf, ran, after}
 use Rattle.world.specs.Demand3.{present}
@@ -124,9 +124,10 @@ module _ (n : ℕ) (s : Sides) (ts : List ℕ) where
     joined true x last z e h = λ q. e
     joined false x last z e h = h
 
-    left : (b : Bool) (x : Slot) (last : LastStep) → Is last x → Is last (cond b emptySlot x)
-    left true x last h = λ q. absurd (true≢false (sym q))
-    left false x last h = h
+    left : (b c : Bool) (x : Slot) (j : ℕ) (last : LastStep) → Is last x → Is last (cond b (cond c emptySlot (releasedSlot x j)) x)
+    left true true x j last h = λ q. absurd (true≢false (sym q))
+    left true false x j last h = h
+    left false c x j last h = h
 
     told : (b : Bool) (x : Slot) (last : LastStep) (i : PlayerInput) → Is last x → Is last (cond b (withInput x i) x)
     told true x last i h = h
@@ -138,7 +139,7 @@ module _ (n : ℕ) (s : Sides) (ts : List ℕ) where
 
     mark-next : (w : World) (c : Call) (last : LastStep) → Settled n w → Is last (slotAt (w .slots) k) → Is (lastStepAfter n k w (ran n s ts w c) c last) (slotAt (ran n s ts w c .world .slots) k)
     mark-next w (Join id x y) last g h = rw (join-slot n s ts w (g .seats) k id x y) (joined (eqb (placeOf n id) k && eqb (join n w s ts id x y .number) 0) (slotAt (w .slots) k) last (joinedSlot (pointOf x y)) refl h)
-    mark-next w (Leave id) last g h = rw (leave-slot n s ts w (g .seats) k id) (left (eqb (placeOf n id) k && eqb (leave n w id .number) 0) (slotAt (w .slots) k) last h)
+    mark-next w (Leave id) last g h = rw (leave-slot n s ts w (g .seats) k id) (left (eqb (leave n w id .number) 0) (eqb (placeOf n id) k) (slotAt (w .slots) k) (placeOf n id) last h)
     mark-next w (Input id d x y j a) last g h = let i = inputOf d x y j a in rw (input-slot n s ts w (g .seats) k id i) (told (eqb (placeOf n id) k && eqb (input n w id i .number) 0) (slotAt (w .slots) k) last i h)
     mark-next w (Tune index z) last g h = rw (tune-slot n s ts w (g .seats) k index z) h
     mark-next w Step last g h = λ q.

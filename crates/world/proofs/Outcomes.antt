@@ -1,4 +1,4 @@
--- What becomes of a join, a leave and an input: refused, or one slot is set. Assumes nothing.
+-- What becomes of a join, a leave and an input: refused, or under what was tested one world. Assumes nothing.
 use Prim.Native.Nat.{ℕ, suc, _≤_, _<_}
 use native.Mathlib.Omega.{arith}
 use mathlib.Core.Bool.{Bool, true, false, cond, _&&_}
@@ -23,6 +23,11 @@ use Rattle.world.specs.declared.World.{World}
 pub data Outcome (w u : World) (F : Type 0) (a : Answer) : Type 0 where
   no : (r : ℕ) → a ≡ refused w (suc r) → Outcome w u F a
   yes : F → a ≡ accepted u → Outcome w u F a
+
+-- what w has, and u under those facts, the answer's world has
+pub outcome-kept : {F : Type 0} (P : World → Type 0) (w u : World) (a : Answer) → Outcome w u F a → P w → (F → P u) → P (a .world)
+outcome-kept P w u a (no r e) h f = rw e h
+outcome-kept P w u a (yes q e) h f = rw e (f q)
 
 -- a coordinate in reach is an i32
 pub reach-i32 : (z : ℤ) → inReach z ≡ true → IsI32 z

@@ -17,7 +17,7 @@ use Rattle.character_laws.proofs.Slots.{replicate-every}
 use Rattle.world.specs.declared.call.Call.{Call}
 use Rattle.world.specs.declared.call.Call.the-variants.{Join, Leave, Input, Step, Tune}
 use Rattle.world.specs.World.{fresh}
-use Rattle.world.specs.Calls.{placeOf, pointOf, join, leave, input}
+use Rattle.world.specs.Calls.{placeOf, pointOf, join, releasedSlot, leave, input}
 use Rattle.world.specs.Step.{Moving, tickAll, moveAll, stepAnswer, stepOn, step}
 use Rattle.world.specs.Run.{inputOf, ran, after}
 use Rattle.world.specs.Demand3.{presentAfter, present}
@@ -32,6 +32,13 @@ use Rattle.world.proofs.Settled.{answer-settled, after-settled}
 pick : (b : Bool) (x y : Slot) → cond b x y .present ≡ cond b (x .present) (y .present)
 pick true x y = refl
 pick false x y = refl
+
+-- a slot that is released is as present as it was
+left : (b c : Bool) (x : Slot) (j : ℕ) → cond b (cond c emptySlot (releasedSlot x j)) x .present ≡ cond (c && b) false (x .present)
+left true true x j = refl
+left true false x j = refl
+left false true x j = refl
+left false false x j = refl
 
 stays : (b c : Bool) → cond b c c ≡ c
 stays true c = refl
@@ -58,7 +65,7 @@ module _ (n : ℕ) (s : Sides) (ts : List ℕ) where
   -- ---- every call, and every list of them
   pub present-next : (w : World) (c : Call) → Settled n w → (k : ℕ) → slotAt (ran n s ts w c .world .slots) k .present ≡ presentAfter n k (slotAt (w .slots) k .present) (ran n s ts w c) c
   present-next w (Join id x y) g k = ap (λ (y : Slot). y .present) (join-slot n s ts w (g .seats) k id x y) ∙ pick (eqb (placeOf n id) k && eqb (join n w s ts id x y .number) 0) (joinedSlot (pointOf x y)) (slotAt (w .slots) k)
-  present-next w (Leave id) g k = ap (λ (y : Slot). y .present) (leave-slot n s ts w (g .seats) k id) ∙ pick (eqb (placeOf n id) k && eqb (leave n w id .number) 0) emptySlot (slotAt (w .slots) k)
+  present-next w (Leave id) g k = ap (λ (y : Slot). y .present) (leave-slot n s ts w (g .seats) k id) ∙ left (eqb (leave n w id .number) 0) (eqb (placeOf n id) k) (slotAt (w .slots) k) (placeOf n id)
   present-next w (Input id d x y j h) g k =
       let i = inputOf d x y j h in
       let old = slotAt (w .slots) k in

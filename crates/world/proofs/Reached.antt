@@ -25,11 +25,13 @@ use Rattle.character.specs.declared.Slot.{Slot}
 use Rattle.character_laws.proofs.Slots.{set-every, replicate-every}
 use Rattle.world.specs.World.{fresh, withSlot}
 use Rattle.game_tuning.specs.Tuning.{freshTunings, playerCollision}
+use Rattle.world.specs.Calls.{vacate}
 use Rattle.world.specs.Step.{Moving, tickAll, moveAll, moveTurn, movingFrom, stepRefused, stepAnswer, stepOn, step}
 use Rattle.world.specs.Demand3.{left, leftIn, leftFrom, recordAt, FaithfulTo}
 use Rattle.world.specs.declared.Stepped.{Stepped}
 use Rattle.world.specs.declared.World.{World}
 use Rattle.world.proofs.Seats.{Same, Settling, ticks-same, moves-settle}
+use Rattle.world.proofs.Vacated.{vacated-every}
 use Rattle.world.proofs.Standing.{Standing, Stands, ticks-stand}
 use Rattle.world.proofs.Moves.{Sofar, moves-sofar}
 
@@ -48,9 +50,13 @@ module _ (n : ℕ) (s : Sides) (ts : List ℕ) where
   pub set-reached : (z : ℤ) (w : World) (j : ℕ) (x : Slot) → Reached z w → Standing s ts x → Reached z (withSlot w j x)
   set-reached z w j x h a = record { stands = set-every (λ k. Standing s ts) (w .slots) j x nowhere (h .stands) a; tuned = h .tuned }
 
-  pub empty-standing : Standing s ts emptySlot
+  empty-standing : Standing s ts emptySlot
   unfolding spawn
   empty-standing = record { clear = λ e. absurd (true≢false (sym e)); pos-fits = λ e. absurd (true≢false (sym e)); vel-fits = (ofBits-fits binary32 0, ofBits-fits binary32 0) }
+
+  -- a hook is no part of it
+  pub vacated-reached : (z : ℤ) (w : World) (k : ℕ) → Reached z w → Reached z (vacate w k)
+  vacated-reached z w k h = record { stands = vacated-every w k (λ j. Standing s ts) empty-standing (λ j. record { clear = h .stands j .clear; pos-fits = h .stands j .pos-fits; vel-fits = h .stands j .vel-fits }); tuned = h .tuned }
 
   nowhere-standing : Standing s ts nowhere
   nowhere-standing = record { clear = λ e. absurd (true≢false (sym e)); pos-fits = λ e. absurd (true≢false (sym e)); vel-fits = (nan-fits binary32, nan-fits binary32) }

@@ -14,7 +14,8 @@ use Rattle.game_tuning.specs.Tuning.{tuningOf}
 use Rattle.game_tuning.specs.declared.Tuning.{Tuning}
 use Rattle.world.specs.declared.call.Call.{Call}
 use Rattle.world.specs.declared.call.Call.the-variants.{Join, Leave, Input, Step, Tune}
-use Rattle.character.specs.Slot.{emptySlot, joinedSlot, withInput}
+use Rattle.character_hook.specs.Hook.{holds}
+use Rattle.character.specs.Slot.{emptySlot, joinedSlot}
 use Rattle.character.specs.Character.{spawn}
 use Rattle.character.specs.Tick.{slotAt, nowhere}
 use Rattle.character.specs.declared.Slot.{Slot}
@@ -23,14 +24,15 @@ use Rattle.character_laws.proofs.FromNet.{spawn-representable}
 use Rattle.character_laws.proofs.Slots.{set-every}
 use Rattle.world.specs.World.{fresh, withSlot, withTuning}
 use Rattle.game_tuning.specs.Tuning.{freshTunings, tuningCount}
-use Rattle.world.specs.Calls.{placeOf, pointOf, tune}
+use Rattle.world.specs.Calls.{placeOf, pointOf, released, releasedSlot, vacate, tune}
 use Rattle.world.specs.Step.{Moving, tickAll, moveAll, stepAnswer, stepOn, step}
 use Rattle.world.specs.Run.{inputOf, ran, after}
 use Rattle.world.specs.Settled.{Settled, AfterSettled}
 use Rattle.world.specs.declared.Answer.{Answer}
 use Rattle.world.specs.declared.Stepped.{Stepped}
 use Rattle.world.specs.declared.World.{World}
-use Rattle.world.proofs.Outcomes.{Outcome, no, yes, reach-i32, Joins, join-outcome, leave-outcome, input-outcome}
+use Rattle.world.proofs.Outcomes.{outcome-kept, reach-i32, Joins, join-outcome, leave-outcome, input-outcome}
+use Rattle.world.proofs.Vacated.{released-representable, vacated-length, vacated-every}
 use Rattle.world.proofs.Seats.{by-test, Same, Settling, same-on, ticks-same, moves-settle}
 
 -- where an accepted join puts somebody
@@ -48,15 +50,27 @@ module _ (n : ℕ) where
     empty = λ k l q. getD-replicate n k emptySlot nowhere l;
   }
 
-  -- ---- a slot set
-  slot-settled : {F : Type 0} (w : World) (j : ℕ) (x : Slot) (a : Answer) → Outcome w (withSlot w j x) F a → Settled n w → (F → (x .present ≡ true → Representable (x .character)) × (x .present ≡ false → x ≡ emptySlot)) → Settled n (a .world)
-  slot-settled w j x a (no r e) h f = rw e h
-  slot-settled w j x a (yes q e) h f = rw e (record {
+  -- ---- a slot set, and one vacated
+  set-settled : (w : World) (j : ℕ) (x : Slot) → Settled n w → (x .present ≡ true → Representable (x .character)) → (x .present ≡ false → x ≡ emptySlot) → Settled n (withSlot w j x)
+  set-settled w j x h r e = record {
     seats = length-set (w .slots) j x ∙ h .seats;
     tunings = h .tunings;
-    representable = set-every (λ k y. k < n → y .present ≡ true → Representable (y .character)) (w .slots) j x nowhere (h .representable) (λ l. f q .0);
-    empty = set-every (λ k y. k < n → y .present ≡ false → y ≡ emptySlot) (w .slots) j x nowhere (h .empty) (λ l. f q .1);
-  })
+    representable = set-every (λ k y. k < n → y .present ≡ true → Representable (y .character)) (w .slots) j x nowhere (h .representable) (λ l. r);
+    empty = set-every (λ k y. k < n → y .present ≡ false → y ≡ emptySlot) (w .slots) j x nowhere (h .empty) (λ l. e);
+  }
+
+  -- an empty slot holds nobody
+  released-empty : (x : Slot) (k : ℕ) → x ≡ emptySlot → releasedSlot x k ≡ emptySlot
+  unfolding released holds spawn
+  released-empty x k e = ap (λ (y : Slot). releasedSlot y k) e
+
+  pub vacated-settled : (w : World) (k : ℕ) → Settled n w → Settled n (vacate w k)
+  vacated-settled w k h = record {
+    seats = vacated-length w k ∙ h .seats;
+    tunings = h .tunings;
+    representable = vacated-every w k (λ j y. j < n → y .present ≡ true → Representable (y .character)) (λ l q. absurd (true≢false (sym q))) (λ j l q. released-representable (slotAt (w .slots) j .character) k (h .representable j l q));
+    empty = vacated-every w k (λ j y. j < n → y .present ≡ false → y ≡ emptySlot) (λ l q. refl) (λ j l q. released-empty (slotAt (w .slots) j) k (h .empty j l q));
+  }
 
   -- ---- tune
   tune-settled : (w : World) (index z : ℤ) → Settled n w → Settled n (tune w index z .world)
@@ -96,9 +110,9 @@ module _ (n : ℕ) where
   -- ---- every call, and every list of them
   module _ (s : Sides) (ts : List ℕ) where
     pub answer-settled : (w : World) (c : Call) → Settled n w → Settled n (ran n s ts w c .world)
-    answer-settled w (Join id x y) h = slot-settled w (placeOf n id) (joinedSlot (pointOf x y)) _ (join-outcome n w s ts id x y) h (λ f. (λ e. joined-representable n w s ts id x y f, λ e. absurd (true≢false e)))
-    answer-settled w (Leave id) h = slot-settled w (placeOf n id) emptySlot _ (leave-outcome n w id) h (λ f. (λ e. absurd (true≢false (sym e)), λ e. refl))
-    answer-settled w (Input id d x y j k) h = slot-settled w (placeOf n id) (withInput (slotAt (w .slots) (placeOf n id)) (inputOf d x y j k)) _ (input-outcome n w id (inputOf d x y j k)) h (λ f. (λ e. h .representable (placeOf n id) (f .seat) (f .there), λ e. absurd (true≢false (sym (f .there) ∙ e))))
+    answer-settled w (Join id x y) h = outcome-kept (Settled n) w _ _ (join-outcome n w s ts id x y) h (λ f. set-settled w (placeOf n id) (joinedSlot (pointOf x y)) h (λ e. joined-representable n w s ts id x y f) (λ e. absurd (true≢false e)))
+    answer-settled w (Leave id) h = outcome-kept (Settled n) w _ _ (leave-outcome n w id) h (λ f. vacated-settled w (placeOf n id) h)
+    answer-settled w (Input id d x y j k) h = outcome-kept (Settled n) w _ _ (input-outcome n w id (inputOf d x y j k)) h (λ f. set-settled w (placeOf n id) _ h (λ e. h .representable (placeOf n id) (f .seat) (f .there)) (λ e. absurd (true≢false (sym (f .there) ∙ e))))
     answer-settled w Step h = step-settled s ts w h
     answer-settled w (Tune index z) h = tune-settled w index z h
 

@@ -1,7 +1,7 @@
 -- Join, leave, input and tune on a world of n slots, and the reader of a floor mark, with the numbers of document 01's refusals. Definitions only.
 use Prim.Native.Nat.{ℕ}
 use mathlib.Core.Bool.{Bool, false, cond, _&&_}
-use mathlib.Core.List.{List}
+use mathlib.Core.List.{List, map}
 use lib.Dec.{leb, ltb}
 use lib.IntN.{ℤ, pos, negsuc, natAbs}
 use Rattle.num_convert.specs.Convert.{i32ToF32}
@@ -12,8 +12,13 @@ use Rattle.map_tiles.specs.declared.tiles.Sides.{Sides}
 use Rattle.map_tiles.specs.Box.{checkBox, characterBox}
 use Rattle.game_records.specs.declared.PlayerInput.{PlayerInput}
 use Rattle.game_refusals.specs.Refusals.{badMap, badId, badTuning, outOfReach, notClear, isPresent, isAbsent}
-use Rattle.character.specs.Slot.{emptySlot, joinedSlot, withInput}
+use Rattle.character_hook.specs.Hook.{holds}
+use Rattle.character_hook.specs.declared.hook.Hook.{Hook}
+use Rattle.character_hook.specs.declared.hook.Hook.the-variants.{Retracted}
+use Rattle.character.specs.Character.{withHook}
+use Rattle.character.specs.Slot.{emptySlot, joinedSlot, withCharacter, withInput}
 use Rattle.character.specs.Tick.{slotAt}
+use Rattle.character.specs.declared.Slot.{Slot}
 use Rattle.world.specs.World.{withSlot, withTuning}
 use Rattle.game_tuning.specs.Tuning.{tuningCount}
 use Rattle.world.specs.declared.Answer.{Answer}
@@ -57,9 +62,21 @@ join n w s ts id x y =
 abbrev pub ifPresent : World → ℕ → World → Answer
 ifPresent w k next = cond (slotAt (w .slots) k .present) (accepted next) (refused w isAbsent)
 
--- the slot k is again as every fresh one; hooks that hold it are not touched
+-- a hook that holds k is Retracted, any other stays
+unfoldable pub released : Hook → ℕ → Hook
+released h k = cond (holds h k) Retracted h
+
+-- a slot with its hook released from k
+abbrev pub releasedSlot : Slot → ℕ → Slot
+releasedSlot x k = withCharacter x (withHook (x .character) (released (x .character .hook) k))
+
+-- every hook that holds k is Retracted, whoever it belongs to
+abbrev pub release : World → ℕ → World
+release w k = record { slots = map (λ x. releasedSlot x k) (w .slots); tunings = w .tunings }
+
+-- whoever was at k is gone: no hook holds it, and the slot is again as every fresh one
 abbrev pub vacate : World → ℕ → World
-vacate w k = withSlot w k emptySlot
+vacate w k = withSlot (release w k) k emptySlot
 
 unfoldable pub leave : ℕ → World → ℤ → Answer
 leave n w id = let k = placeOf n id in cond (ltb k n) (ifPresent w k (vacate w k)) (refused w badId)

@@ -6,3 +6,5 @@ pub mod Demand1
 pub mod Demand3
 pub mod Settled
 pub mod Marks
+pub mod Leave
+pub mod Held

@@ -1,8 +1,8 @@
 // The calls of a world that need no map: leave, input and tune.
+use crate::leaving::vacate;
 use crate::seats::accepted;
 use crate::seats::place_of;
 use crate::seats::refused;
-use crate::seats::vacate;
 use crate::seats::with_slot;
 use character::SEATS;
 use game_records::PlayerInput;

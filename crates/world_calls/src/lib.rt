@@ -1,6 +1,7 @@
 // The calls of a world but step: its seats, join, leave, input and tune, and the reader of a floor mark.
 mod calls;
 mod joins;
+mod leaving;
 mod marks;
 mod seats;
 

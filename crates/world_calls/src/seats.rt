@@ -1,4 +1,4 @@
-// A world's seats: which one a number names, one read, set and vacated; a fresh world; and the two forms of a call's answer.
+// A world's seats: which one a number names, one read and set; a fresh world; and the two forms of a call's answer.
 use character::SEATS;
 use character::Slot;
 use game_tuning::fresh_tunings;
@@ -8,7 +8,7 @@ ghost use mathlib.Core.Path.{_≡_};
 ghost use Prim.Native.Nat.{_<_};
 ghost use Rattle.character.specs.Tick.{seats, slotAt};
 ghost use Rattle.world.specs.World.{fresh, withSlot};
-ghost use Rattle.world.specs.Calls.{refused, accepted, placeOf, vacate};
+ghost use Rattle.world.specs.Calls.{refused, accepted, placeOf};
 
 pub fn fresh() -> World
     ensures { λ r. ⌜ r ≡ fresh seats ⌝ }
@@ -44,14 +44,6 @@ pub fn with_slot(mut world: World, at: usize, slot: Slot) -> World
 {
     world.slots[at] = slot;
     world
-}
-
-// Whoever left: the slot is as every fresh one.
-pub fn vacate(world: World, at: usize) -> World
-    requires { ⌜ at < seats ⌝ }
-    ensures { λ r. ⌜ r ≡ vacate world at ⌝ }
-{
-    with_slot(world, at, Slot::empty())
 }
 
 pub fn refused(world: World, number: u32) -> Answer

@@ -12,7 +12,8 @@ use Rattle.character_hook.specs.declared.hook.CharacterId.{CharacterId}
 use Rattle.character_motion.specs.declared.meeting.HookPull.{HookPull}
 use Rattle.character_motion.specs.declared.meeting.HookPull.the-variants.{Nobody, Of}
 use Rattle.character.specs.Slot.{withCharacter}
-use Rattle.character.specs.Tick.{nowhere, slotAt, withVel, afterPull, pulledSeat, pulledSlot}
+use Rattle.character.specs.Character.{withVel}
+use Rattle.character.specs.Tick.{nowhere, slotAt, afterPull, pulledSeat, pulledSlot}
 use Rattle.character.specs.declared.Slot.{Slot}
 use Rattle.num_vec2.specs.declared.vec2.{vec2}
 

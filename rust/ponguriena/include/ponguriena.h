@@ -70,7 +70,7 @@ uint32_t ponguriena_join(int32_t *world, size_t world_length, uint32_t width, ui
                          const uint8_t *tiles, size_t tiles_length, int32_t id, int32_t x,
                          int32_t y);
 
-/* The id is absent from now on; hooks that are held on it stay as they are. */
+/* The id is absent from now on; every hook that holds it is retracted. */
 uint32_t ponguriena_leave(int32_t *world, size_t world_length, int32_t id);
 
 /* What the id wants in every step from now on. */

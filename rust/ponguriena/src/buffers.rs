@@ -125,7 +125,7 @@ pub fn join(world: &mut [i32], map: &Map<'_>, id: i32, x: i32, y: i32) -> Result
     })
 }
 
-/// The id is absent from now on. Hooks that are held on it stay as they are.
+/// The id is absent from now on. Every hook that holds it is retracted.
 #[inline]
 pub fn leave(world: &mut [i32], id: i32) -> Result<(), Refusal> {
     // SAFETY: the pointer and the length are those of one slice.

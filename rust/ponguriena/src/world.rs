@@ -68,7 +68,7 @@ impl World {
         buffers::join(&mut self.numbers, map, id, x, y)
     }
 
-    /// The id is absent from now on. Hooks that are held on it stay as they are.
+    /// The id is absent from now on. Every hook that holds it is retracted.
     pub fn leave(&mut self, id: i32) -> Result<(), Refusal> {
         buffers::leave(&mut self.numbers, id)
     }

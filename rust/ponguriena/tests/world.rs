@@ -98,6 +98,28 @@ fn who_left_is_as_if_never_there() -> Result<(), Refusal> {
     Ok(())
 }
 
+/// The first holds the second, the third the first.
+#[test]
+fn who_left_is_held_by_nobody() -> Result<(), Refusal> {
+    let mut world = World::fresh();
+    for (id, x) in [(1, 0), (2, 120), (3, -120)] {
+        world.join(&OPEN, id, x, 0)?;
+    }
+    world.input(1, HOOK)?;
+    world.input(3, HOOK)?;
+    for _ in 0..3 {
+        world.step(&OPEN)?;
+    }
+    let hook = |world: &World, id| {
+        let core = world.record(id).expect("present");
+        (core.hook_state, core.hooked_player)
+    };
+    assert_eq!([hook(&world, 1), hook(&world, 3)], [(5, 2), (5, 1)]);
+    world.leave(2)?;
+    assert_eq!([hook(&world, 1), hook(&world, 3)], [(-1, -1), (5, 1)]);
+    Ok(())
+}
+
 #[test]
 fn a_tuning_is_any_number() {
     let mut world = World::fresh();

@@ -1,7 +1,7 @@
 //! The seats of a world.
 
 use libtw2_gamenet::snap_obj::PlayerInput;
-use original::{Character, vec2};
+use original::{Character, Hook, State, vec2};
 
 pub const SEATS: usize = 16;
 
@@ -33,6 +33,15 @@ impl Slot {
             character: Character::spawn(pos),
             input: PlayerInput::default(),
             grounded: false,
+        }
+    }
+
+    /// A hook on that one is retracted.
+    pub fn release(&mut self, held: u32) {
+        let state = State::from(self.character);
+        if matches!(state.hook, Hook::Grabbed(id, _) if id.0 == held) {
+            let hook = Hook::Retracted;
+            self.character = State { hook, ..state }.into();
         }
     }
 }

@@ -117,6 +117,25 @@ fn who_left_is_as_if_never_there() {
     assert_eq!(numbers(&world), numbers(&World::fresh()));
 }
 
+/// The first holds the second, the third the first.
+#[test]
+fn who_left_is_held_by_nobody() {
+    let mut world = World::fresh();
+    for (id, x) in [(1, 0), (2, 120), (3, -120)] {
+        world.join(&open(), id, x, 0).expect("clear");
+        world.input(id, HOOK).expect("present");
+    }
+    world.input(2, PlayerInput::default()).expect("present");
+    for _ in 0..3 {
+        world.step(&open()).expect("short walks");
+    }
+    let hook =
+        |world: &World, id: usize| State::from(world.slots[id].character).words()[4..6].to_vec();
+    assert_eq!([hook(&world, 1), hook(&world, 3)], [[3, 2], [3, 1]]);
+    assert_eq!(world.leave(2), Ok(()));
+    assert_eq!([hook(&world, 1), hook(&world, 3)], [[0, 0], [3, 1]]);
+}
+
 #[test]
 fn a_tuning_is_any_number() {
     let mut world = World::fresh();

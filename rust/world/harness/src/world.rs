@@ -54,9 +54,12 @@ impl World {
         Ok(())
     }
 
-    /// Hooks that are held on it stay as they are.
+    /// Whoever held it holds nobody from now on.
     pub fn leave(&mut self, id: i32) -> Result<(), Refusal> {
         *self.present(id)? = Slot::absent();
+        for slot in &mut self.slots {
+            slot.release(id as u32);
+        }
         Ok(())
     }
 

@@ -1,6 +1,6 @@
 //! Who is held leaves, and somebody else comes under the same id.
 
-use crate::inputs::{hook, walk};
+use crate::inputs::{hook, nothing, walk};
 use crate::sequence::Sequence;
 use tile_map::maps::{floor, open};
 
@@ -16,7 +16,7 @@ pub fn leaver_sequences() -> Vec<Sequence> {
     sequences
 }
 
-/// The holder's hook drags the newcomer, from wherever it is.
+/// The holder's hook lets the newcomer alone, wherever it is.
 fn replaced(holder: i32, x: i32, y: i32) -> Sequence {
     let held = 6;
     Sequence::on(&floor())
@@ -63,4 +63,28 @@ fn holder_leaves() -> Sequence {
         .steps(2)
         .told(9, hook(100, 0))
         .steps(3)
+}
+
+/// Hooks on another stay; who was released fires anew with the button pressed anew.
+pub fn held_by_several() -> Sequence {
+    let (lower, held, higher, another) = (3, 6, 9, 12);
+    Sequence::on(&floor())
+        .join(lower, 40, 60)
+        .join(held, 160, 60)
+        .join(higher, 280, 60)
+        .join(another, -80, 60)
+        .told(lower, hook(120, 0))
+        .told(higher, hook(-120, 0))
+        .told(another, hook(120, 0))
+        .steps(3)
+        .leave(held)
+        .steps(2)
+        .join(held, 160, 60)
+        .steps(2)
+        .told(lower, nothing())
+        .steps(1)
+        .told(lower, hook(120, 0))
+        .steps(4)
+        .leave(lower)
+        .steps(2)
 }

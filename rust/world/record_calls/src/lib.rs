@@ -23,10 +23,11 @@ use reference::Xorshift;
 pub fn all_sequences() -> Vec<Sequence> {
     let mut sequences = session_sequences();
     sequences.extend(marks::mark_sequences());
+    sequences.push(leavers::held_by_several());
     sequences
 }
 
-/// Those that are played as texts too, which print no floor mark.
+/// Those that texts are drawn from too. One more would draw other texts.
 pub fn session_sequences() -> Vec<Sequence> {
     let mut random = Xorshift::default();
     let mut sequences = refusals::refusal_sequences();

@@ -152,19 +152,36 @@ fn holds(world: &World) -> Vec<(usize, usize)> {
     (0..SEATS).filter_map(hold).collect()
 }
 
+/// By lower and by higher ids; a hook on another stays as it was.
 #[test]
-fn leavers_are_held_and_newcomers_too() {
+fn leavers_are_released() {
     let mut counts = [0; 3];
     for (before, line) in all_lines() {
-        for (_, held) in holds(&line.after) {
-            let present = |world: &World| world.slots[held].present;
-            let changed = present(&before) != present(&line.after);
-            counts[0] += usize::from(changed && present(&before));
-            counts[1] += usize::from(changed && present(&line.after));
-            counts[2] += usize::from(is_step(&line) && !present(&line.after));
+        let Call::Leave { id } = line.call else {
+            continue;
+        };
+        for (holder, held) in holds(&before) {
+            if line.answer.is_err() || (holder != id as usize && held != id as usize) {
+                assert_eq!(
+                    state(&line.after.slots, holder),
+                    state(&before.slots, holder)
+                );
+                counts[0] += 1;
+            } else if held == id as usize {
+                assert!(matches!(hook_of(&line.after, holder), Hook::Retracted));
+                counts[if holder < held { 1 } else { 2 }] += 1;
+            }
         }
     }
     assert!(counts.iter().all(|&count| count >= 5), "{counts:?}");
+}
+
+#[test]
+fn nobody_absent_is_held() {
+    for (_, line) in all_lines() {
+        let there = |&(_, held): &(usize, usize)| line.after.slots[held].present;
+        assert!(holds(&line.after).iter().all(there));
+    }
 }
 
 /// The slots when the step ended, and whether all had ticked by then.
