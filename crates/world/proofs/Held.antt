@@ -112,7 +112,7 @@ module _ (n : ℕ) (s : Sides) (ts : List ℕ) where
     -- who goes away is held by nobody
     vacated-held : (i : ℕ) → HeldIn (vacate w i)
     unfolding spawn
-    vacated-held i j = holds-only (There (w .slots)) (There (vacate w i .slots)) (hook j) (vacated-every w i (λ m y. Holds (w .slots) y) tt (λ m. released-only (There (w .slots)) (slotAt (w .slots) m .character .hook) i (h m)) j) others
+    vacated-held i j = holds-only (There (w .slots)) (There (vacate w i .slots)) (hook j) (vacated-every w i (λ m y. Holds (w .slots) y) tt (λ m. released-only (slotAt (w .slots) m .character .hook) i (There (w .slots)) (h m)) j) others
       where
         hook : ℕ → Hook
         hook m = slotAt (vacate w i .slots) m .character .hook

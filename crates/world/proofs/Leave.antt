@@ -1,8 +1,8 @@
 -- An accepted leave is what specs/Leave.antt says, in every world. Assumes nothing.
 use Prim.Native.Nat.{ℕ, suc, _<_}
 use native.Mathlib.Omega.{arith}
-use mathlib.Core.Bool.{Bool, true, false, cond, true≢false}
-use mathlib.Core.Path.{_≡_, refl, sym, ap, _∙_, subst}
+use mathlib.Core.Bool.{Bool, true, false, true≢false}
+use mathlib.Core.Path.{_≡_, refl, sym, ap, _∙_}
 use lib.IntN.{ℤ}
 use lib.ListN.{length}
 use borrow.Author.Tests.{eq-eqb, eqb-true}
@@ -18,12 +18,12 @@ use Rattle.world.specs.Leave.{Holds, Left, LeaveReleases}
 use Rattle.world.specs.declared.Answer.{Answer}
 use Rattle.world.specs.declared.World.{World}
 use Rattle.world.proofs.Outcomes.{Outcome, no, yes, Seated, leave-outcome}
-use Rattle.world.proofs.Vacated.{vacated-at, vacated-others, vacated-length}
+use Rattle.world.proofs.Vacated.{held-released, other-released, vacated-at, vacated-others, vacated-length}
 
 -- ---- one hook
 held-retracted : (h : Hook) (k : ℕ) → Holds h k → released h k ≡ Retracted
-unfolding released holds
-held-retracted h k e = rw (e .grabbed, eq-eqb (e .who .0) k (e .is))
+unfolding holds
+held-retracted h k e = held-released h k (rw (e .grabbed, eq-eqb (e .who .0) k (e .is)))
 
 holds-true : (h : Hook) (k : ℕ) → holds h k ≡ true → Holds h k
 unfolding holds
@@ -37,12 +37,11 @@ holds-true (Retracting1 p) k e = absurd (true≢false (sym e))
 holds-true (Retracting2 p) k e = absurd (true≢false (sym e))
 
 other-stays : (h : Hook) (k : ℕ) → (Holds h k → ⊥) → released h k ≡ h
-unfolding released
 other-stays h k f = go (holds h k) refl
   where
-    go : (b : Bool) → holds h k ≡ b → cond b Retracted h ≡ h
+    go : (b : Bool) → holds h k ≡ b → released h k ≡ h
     go true e = absurd (f (holds-true h k e))
-    go false e = refl
+    go false e = other-released h k e
 
 -- ---- the world
 abbrev withHeld : Slot → Hook → Slot

@@ -1,6 +1,6 @@
 -- What a leave does to the slots: every hook on who leaves is Retracted, and one slot is empty again; nothing else changes. Assumes nothing.
 use Prim.Native.Nat.{ℕ, _<_}
-use mathlib.Core.Bool.{Bool, true, false, cond}
+use mathlib.Core.Bool.{Bool, true, false}
 use mathlib.Core.Path.{_≡_, refl, sym, ap, _∙_, subst}
 use lib.ListN.{length, length-set, length-map, List·getD-map}
 use lib.Seq.{getD-set-same, getD-set-other}
@@ -13,30 +13,40 @@ use Rattle.character.specs.Tick.{slotAt, nowhere}
 use Rattle.character.specs.declared.Character.{Character}
 use Rattle.character.specs.declared.Slot.{Slot}
 use Rattle.character_laws.specs.Representable.{RepresentableHook, Representable}
-use Rattle.character_laws.proofs.Choices.{either}
 use Rattle.character_laws.proofs.Held.{Only}
 use Rattle.character_laws.proofs.Slots.{set-every}
 use Rattle.world.specs.Calls.{released, releasedSlot, release, vacate}
 use Rattle.world.specs.declared.World.{World}
 
 -- ---- one hook
-released-holds : (h : Hook) (k : ℕ) → holds (released h k) k ≡ false
-unfolding released holds
-released-holds h k = go (holds h k) refl
-  where
-    go : (b : Bool) → holds h k ≡ b → holds (cond b Retracted h) k ≡ false
-    go true e = refl
-    go false e = e
+module _ (h : Hook) (k : ℕ) where
+  pub held-released : holds h k ≡ true → released h k ≡ Retracted
+  unfolding released
+  held-released e = rw e
+
+  pub other-released : holds h k ≡ false → released h k ≡ h
+  unfolding released
+  other-released e = rw e
+
+  -- what Retracted has, and h where it does not hold k
+  released-kept : (P : Hook → Type 0) → P Retracted → (holds h k ≡ false → P h) → P (released h k)
+  released-kept P r p = go (holds h k) refl
+    where
+      go : (b : Bool) → holds h k ≡ b → P (released h k)
+      go true e = subst P (sym (held-released e)) r
+      go false e = subst P (sym (other-released e)) (p e)
+
+  released-holds : holds (released h k) k ≡ false
+  unfolding holds
+  released-holds = released-kept (λ g. holds g k ≡ false) refl (λ e. e)
+
+  -- it holds nobody whom it did not hold
+  pub released-only : (P : ℕ → Type 0) → Only P h → Only P (released h k)
+  released-only P p = released-kept (Only P) tt (λ e. p)
 
 -- it is as representable as it was
 pub released-representable : (c : Character) (k : ℕ) → Representable c → Representable (withHook c (released (c .hook) k))
-unfolding released
-released-representable c k r = record { pos = r .pos; vel = r .vel; hook = either RepresentableHook (holds (c .hook) k) tt (r .hook); angle = r .angle }
-
--- it holds nobody whom it did not hold
-pub released-only : (P : ℕ → Type 0) (h : Hook) (k : ℕ) → Only P h → Only P (released h k)
-unfolding released
-released-only P h k p = either (Only P) (holds h k) tt p
+released-representable c k r = record { pos = r .pos; vel = r .vel; hook = released-kept (c .hook) k RepresentableHook tt (λ e. r .hook); angle = r .angle }
 
 -- ---- the slots
 module _ (w : World) (k : ℕ) where
