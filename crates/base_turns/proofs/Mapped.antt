@@ -12,11 +12,6 @@ module _ {A : Type 0} (f : A → A) where
   replaced (suc i) [] = []
   replaced (suc i) (x ∷ l) = f x ∷ replaced i l
 
-  pub replaced-length : (i : ℕ) (l : List A) → length (replaced i l) ≡ length l
-  replaced-length zero l = refl
-  replaced-length (suc i) [] = refl
-  replaced-length (suc i) (x ∷ l) = ap suc (replaced-length i l)
-
   pub replaced-on : (d : A) (i : ℕ) (l : List A) → i < length l → set (replaced i l) i (f (getD (replaced i l) i d)) ≡ replaced (suc i) l
   replaced-on d i [] h = absurd (omega arith)
   replaced-on d zero (x ∷ l) h = refl

@@ -13,7 +13,7 @@ use Rattle.character_hook.specs.declared.hook.CharacterId.{CharacterId}
 use Rattle.character_hook.specs.declared.hook.Hook.{Hook}
 use Rattle.character_hook.specs.declared.hook.Hook.the-variants.{Retracted, Idle, Flying, Grabbed, Attached, Retracting0, Retracting1, Retracting2}
 use Rattle.map_tiles.specs.declared.point.Tile.{Tile}
-use Rattle.map_tiles.specs.declared.point.Tile.the-variants.{Open, Normal, Unhookable}
+use Rattle.map_tiles.specs.declared.point.Tile.the-variants.{Open, Normal, Deadly, Unhookable}
 use Rattle.map_walks.specs.declared.lines.LineHit.{LineHit}
 use Rattle.map_walks.specs.declared.lines.LineHit.the-variants.{Nothing, At}
 use Rattle.game_tuning.specs.declared.Tuning.{Tuning}
@@ -48,6 +48,7 @@ fly p d character t =
 abbrev pub struckBy : Hook → vec2 → Tile → Hook
 struckBy h p Open = h
 struckBy h p Normal = Attached p
+struckBy h p Deadly = h
 struckBy h p Unhookable = Retracting0 p
 
 unfoldable pub strike : Hook → LineHit → Hook

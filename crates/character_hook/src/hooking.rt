@@ -37,6 +37,7 @@ impl Hook {
         match tile {
             Tile::Open => self,
             Tile::Normal => Hook::Attached(p),
+            Tile::Deadly => self,
             Tile::Unhookable => Hook::Retracting0(p),
         }
     }

@@ -3,7 +3,7 @@ use Prim.Native.Nat.{ℕ, suc, _+_, _-_, _^_}
 use native.Mathlib.Omega.{arith}
 use mathlib.Core.Bool.{Bool, true, false, cond, true≢false}
 use mathlib.Core.List.{List}
-use mathlib.Core.Path.{_≡_, refl, sym, ap, subst}
+use mathlib.Core.Path.{_≡_, refl, sym, subst}
 use lib.Dec.{eqb, ltb}
 use lib.Ieee.{Float, lt, ne}
 use lib.IntN.{pos, negsuc}
@@ -17,7 +17,7 @@ use Rattle.game_constants.specs.Constants.{maxHookGrabTime, characterSize}
 use Rattle.game_records.specs.declared.PlayerInput.{PlayerInput}
 use Rattle.game_records.specs.declared.Tick.{Tick}
 use Rattle.game_tuning.specs.declared.Tuning.{Tuning}
-use Rattle.map_tiles.specs.declared.point.Tile.the-variants.{Open, Normal, Unhookable}
+use Rattle.map_tiles.specs.declared.point.Tile.the-variants.{Open, Normal, Deadly, Unhookable}
 use Rattle.map_tiles.specs.declared.tiles.Sides.{Sides}
 use Rattle.map_walks.specs.Line.{walkLine}
 use Rattle.map_walks.specs.declared.lines.LineHit.{LineHit}
@@ -31,7 +31,6 @@ use Rattle.character_motion.specs.Walking.{rampedMove}
 use Rattle.character_hook.specs.Hook.{idOf, onGrabbed, holds, netState, netHookedPlayer, attachedOrGrabbed, hookFromNet}
 use Rattle.character_hook.specs.Hooking.{fired, fire, fly, strike, closer, nearer, grab, retract, hold}
 use Rattle.character_hook.specs.Flying.{struckOn, flown}
-use Rattle.character_hook.specs.declared.hook.CharacterId.{CharacterId}
 use Rattle.character_hook.specs.declared.hook.Hook.{Hook}
 use Rattle.character_hook.specs.declared.hook.Hook.the-variants.{Retracted, Idle, Flying, Grabbed, Attached, Retracting0, Retracting1, Retracting2}
 use Rattle.character_hook.specs.declared.hooking.Flight.{Flight}
@@ -106,6 +105,7 @@ module _ (P : ℕ → Type 0) where
   strike-only h Nothing k = k
   strike-only h (At p Open) k = k
   strike-only h (At p Normal) k = tt
+  strike-only h (At p Deadly) k = k
   strike-only h (At p Unhookable) k = tt
 
   -- the hook after its flight

@@ -9,7 +9,9 @@ use Rattle.num_vec2.specs.declared.vec2.{vec2}
 use Rattle.map_corners.specs.Tile.{tileAt}
 use Rattle.map_tiles.specs.declared.tiles.Sides.{Sides}
 use Rattle.map_tiles.specs.declared.point.Tile.{Tile}
-use Rattle.map_tiles.specs.declared.point.Tile.the-variants.{Open, Normal, Unhookable}
+use Rattle.map_tiles.specs.declared.point.Tile.the-variants.{Open, Normal, Deadly, Unhookable}
+use Rattle.map_tiles.specs.declared.point.Quality.{Quality}
+use Rattle.map_tiles.specs.declared.point.Quality.the-variants as quality
 
 -- width and height by two numbers
 abbrev pub sidesOf : ℕ → ℕ → Sides
@@ -24,9 +26,9 @@ unfoldable pub isMap : Sides → List ℕ → Bool
 unfolding isSide
 isMap s ts = isSide (s .width) && isSide (s .height) && eqb (length ts) (s .width * s .height)
 
--- byte 1 is Normal, 3 Unhookable, every other byte open
+-- byte 1 is Normal, 2 Deadly, 3 Unhookable, every other byte open
 abbrev pub tileOfByte : ℕ → Tile
-tileOfByte b = cond (eqb b 1) Normal (cond (eqb b 3) Unhookable Open)
+tileOfByte b = cond (eqb b 1) Normal (cond (eqb b 2) Deadly (cond (eqb b 3) Unhookable Open))
 
 -- the tile in a column and a row; the bytes stand row by row
 unfoldable pub tileIn : Sides → List ℕ → ℕ → ℕ → Tile
@@ -40,7 +42,19 @@ checkPoint s ts p = tileIn s ts (tileAt (s .width) (p .x)) (tileAt (s .height) (
 abbrev pub solid : Tile → Bool
 solid Open = false
 solid Normal = true
+solid Deadly = false
 solid Unhookable = true
+
+abbrev pub deadly : Tile → Bool
+deadly Open = false
+deadly Normal = false
+deadly Deadly = true
+deadly Unhookable = false
+
+-- one of the two, as it is asked for
+abbrev pub has : Quality → Tile → Bool
+has quality.Solid t = solid t
+has quality.Deadly t = deadly t
 
 -- how often `for _ in 0..z` turns
 abbrev pub count : ℤ → ℕ

@@ -4,6 +4,8 @@ mod point;
 mod tiles;
 
 pub use boxes::check_box;
+pub use boxes::on_deadly;
+pub use point::Quality;
 pub use point::Tile;
 pub use point::check_point;
 pub use tiles::Sides;

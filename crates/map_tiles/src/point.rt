@@ -6,12 +6,19 @@ ghost use mathlib.Core.Path.{_≡_};
 ghost use Prim.Native.Nat.{_<_};
 ghost use lib.Dec.{T};
 ghost use Rattle.map_corners.specs.Tile.{tileAt};
-ghost use Rattle.map_tiles.specs.Map.{isMap, tileIn, checkPoint, solid};
+ghost use Rattle.map_tiles.specs.Map.{isMap, tileIn, checkPoint, solid, deadly, has};
 
 pub enum Tile {
     Open,
     Normal,
+    Deadly,
     Unhookable,
+}
+
+// What a tile may be asked for: it stops a body, or it kills one.
+pub enum Quality {
+    Solid,
+    Deadly,
 }
 
 impl Tile {
@@ -21,7 +28,28 @@ impl Tile {
         match self {
             Tile::Open => false,
             Tile::Normal => true,
+            Tile::Deadly => false,
             Tile::Unhookable => true,
+        }
+    }
+
+    pub fn has(self, quality: Quality) -> bool
+        ensures { λ r. ⌜ r ≡ has quality self ⌝ }
+    {
+        match quality {
+            Quality::Solid => self.is_solid(),
+            Quality::Deadly => self.is_deadly(),
+        }
+    }
+
+    fn is_deadly(self) -> bool
+        ensures { λ r. ⌜ r ≡ deadly self ⌝ }
+    {
+        match self {
+            Tile::Open => false,
+            Tile::Normal => false,
+            Tile::Deadly => true,
+            Tile::Unhookable => false,
         }
     }
 }
@@ -44,6 +72,7 @@ pub fn tile_in(sides: Sides, tiles: &[u8], column: u32, row: u32) -> Tile
     let byte = tiles[at];
     match byte {
         1 => Tile::Normal,
+        2 => Tile::Deadly,
         3 => Tile::Unhookable,
         _ => Tile::Open,
     }

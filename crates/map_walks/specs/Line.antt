@@ -16,7 +16,7 @@ use Rattle.map_tiles.specs.Map.{isMap, count, checkPoint}
 use Rattle.map_walks.specs.Limit.{mostTurns}
 use Rattle.map_tiles.specs.declared.tiles.Sides.{Sides}
 use Rattle.map_tiles.specs.declared.point.Tile.{Tile}
-use Rattle.map_tiles.specs.declared.point.Tile.the-variants.{Open, Normal, Unhookable}
+use Rattle.map_tiles.specs.declared.point.Tile.the-variants.{Open, Normal, Deadly, Unhookable}
 use Rattle.map_walks.specs.declared.lines.LineCheck.{LineCheck}
 use Rattle.map_walks.specs.declared.lines.LineCheck.the-variants.{BadMap, TooFar, Met}
 use Rattle.map_walks.specs.declared.lines.LineHit.{LineHit}
@@ -28,10 +28,11 @@ use Rattle.map_walks.specs.declared.lines.LineWalk.the-variants as walk
 unfoldable pub lineTurns : Float → ℕ
 lineTurns dist = count (truncToI32 (add binary32 dist c1))
 
--- a point that is open goes on; one that is not ends the walk, with its tile
+-- a point that is open or deadly goes on; one that is solid ends the walk, with its tile
 abbrev pub orHit : vec2 → Tile → Turn (Unit {0}) LineHit
 orHit p Open = more tt
 orHit p Normal = stop (At p Normal)
+orHit p Deadly = more tt
 orHit p Unhookable = stop (At p Unhookable)
 
 -- the point i / dist of the way, dist and not the number of turns being what the Rust divides by

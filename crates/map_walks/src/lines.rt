@@ -77,6 +77,7 @@ fn line_hit(sides: Sides, tiles: &[u8], from: vec2, to: vec2, dist: f32, turns: 
         match tile {
             Tile::Open => {}
             Tile::Normal => break LineHit::At(point, tile),
+            Tile::Deadly => {}
             Tile::Unhookable => break LineHit::At(point, tile),
         }
         i += 1;

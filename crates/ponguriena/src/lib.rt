@@ -78,10 +78,19 @@ pub extern "C" fn ponguriena_step(
     height: u32,
     tiles: &[u8],
     records: &mut [i32],
+    removed: &mut [i32],
+    count: &mut usize,
 ) -> u32
-    ensures { λ r. ⌜ stepIn (sidesOf width height) (now (tiles .entry)) (now (world .entry)) (now (records .entry)) ≡ record { number = r; world = now (world .exit); records = now (records .exit) } ⌝ }
+    ensures { λ r. ⌜ stepIn (sidesOf width height) (now (tiles .entry)) (now (world .entry)) (record { records = now (records .entry); removed = now (removed .entry); count = now (count .entry) }) ≡ record { number = r; world = now (world .exit); told = record { records = now (records .exit); removed = now (removed .exit); count = now (count .exit) } } ⌝ }
 {
-    world_buffers::step_in(world, Sides { width, height }, tiles, records)
+    world_buffers::step_in(
+        world,
+        Sides { width, height },
+        tiles,
+        records,
+        removed,
+        count,
+    )
 }
 
 #[no_mangle]

@@ -4,7 +4,7 @@ use lib.Ieee.{Float}
 use Rattle.num_vec2.specs.declared.vec2.{vec2}
 use Rattle.num_vec2.specs.Vec2.{vnew}
 use Rattle.map_tiles.specs.declared.point.Tile.{Tile}
-use Rattle.map_tiles.specs.declared.point.Tile.the-variants.{Open, Normal, Unhookable}
+use Rattle.map_tiles.specs.declared.point.Tile.the-variants.{Open, Normal, Deadly, Unhookable}
 use Rattle.map_walks.specs.declared.moves.Body.{Body}
 use Rattle.map_walks.specs.declared.moves.BoxMove.{BoxMove}
 use Rattle.map_walks.specs.declared.moves.BoxMove.the-variants as moved
@@ -29,6 +29,7 @@ pointOr x y (checked.Met (hit.At p t)) = p
 abbrev pub byteOf : Tile → ℕ
 byteOf Open = 0
 byteOf Normal = 1
+byteOf Deadly = 2
 byteOf Unhookable = 3
 
 -- the tile that is hit, 0 where none is, and what was handed in where the check is refused

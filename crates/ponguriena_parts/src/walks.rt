@@ -1,17 +1,21 @@
-// The walks of a line and of a box. Their answers are a refusal's number, or 0 with the values written through the references.
+// The walks of a line and of a box, and the tile of a point. Their answers are a refusal's number, or 0 with the values written through the references.
 use game_refusals::BAD_MAP;
 use game_refusals::TOO_FAR;
 use map_tiles::Sides;
 use map_tiles::Tile;
+use map_tiles::check_point;
+use map_tiles::is_map;
 use map_walks::BoxMove;
 use map_walks::LineCheck;
 use map_walks::LineHit;
 use num_vec2::vec2;
+ghost use mathlib.Core.Bool.{cond};
 ghost use mathlib.Core.Path.{_≡_};
 ghost use Rattle.num_vec2.specs.Vec2.{vnew};
 ghost use Rattle.map_walks.specs.Move.{moveBox, boxNumber};
 ghost use Rattle.map_walks.specs.Line.{checkLine, lineNumber};
-ghost use Rattle.map_tiles.specs.Map.{sidesOf};
+ghost use Rattle.game_refusals.specs.Refusals.{badMap};
+ghost use Rattle.map_tiles.specs.Map.{sidesOf, isMap, checkPoint};
 ghost use Rattle.ponguriena_parts.specs.Walks.{bodyOr, pointOr, byteOf, tileOr};
 
 #[no_mangle]
@@ -94,12 +98,34 @@ pub extern "C" fn ponguriena_check_line(
     }
 }
 
+// The tile of a point, as its byte on the map.
+#[no_mangle]
+pub extern "C" fn ponguriena_check_point(
+    width: u32,
+    height: u32,
+    tiles: &[u8],
+    x: f32,
+    y: f32,
+    tile: &mut u32,
+) -> u32
+    ensures { λ r. ⌜ r ≡ cond (isMap (sidesOf width height) (now (tiles .entry))) 0 badMap ⌝ }
+    ensures { λ _. ⌜ now (tile .exit) ≡ cond (isMap (sidesOf width height) (now (tiles .entry))) (byteOf (checkPoint (sidesOf width height) (now (tiles .entry)) (vnew x y))) (now (tile .entry)) ⌝ }
+{
+    let sides = Sides { width, height };
+    if is_map(sides, tiles) {
+        *tile = byte_of(check_point(sides, tiles, vec2::new(x, y)));
+        return 0;
+    }
+    BAD_MAP
+}
+
 fn byte_of(tile: Tile) -> u32
     ensures { λ r. ⌜ r ≡ byteOf tile ⌝ }
 {
     match tile {
         Tile::Open => 0,
         Tile::Normal => 1,
+        Tile::Deadly => 2,
         Tile::Unhookable => 3,
     }
 }

@@ -97,6 +97,7 @@ fn byte_of(tile: Tile) -> u32 {
     match tile {
         Tile::Open => 0,
         Tile::Normal => 1,
+        Tile::Deadly => 2,
         Tile::Unhookable => 3,
     }
 }

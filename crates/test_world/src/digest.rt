@@ -2,13 +2,14 @@
 use character::SEATS;
 use num_convert::cast_unsigned;
 use world::Published;
+use world::Removed;
 use world::World;
 use world_numbers::RECORDS;
 use world_numbers::WORLD;
 use world_numbers::encode;
 use world_numbers::encode_records;
 ghost use mathlib.Core.Path.{_≡_};
-ghost use Rattle.test_world.specs.Digest.{mixed, digestOf, worldDigest, recordsDigest};
+ghost use Rattle.test_world.specs.Digest.{mixed, digestOf, worldDigest, withIds, toldDigest};
 
 const FACTOR: u64 = 16777619;
 
@@ -41,10 +42,26 @@ pub fn world_digest(world: World) -> u32
     digest(&numbers)
 }
 
-pub fn records_digest(records: [Published; SEATS]) -> u32
-    ensures { λ r. ⌜ r ≡ recordsDigest records ⌝ }
+pub fn told_digest(records: [Published; SEATS], removed: Removed) -> u32
+    ensures { λ r. ⌜ r ≡ toldDigest records removed ⌝ }
 {
     let mut numbers = [0i32; RECORDS];
     encode_records(records, &mut numbers);
-    digest(&numbers)
+    with_ids(digest(&numbers), removed)
+}
+
+// A step that removes nobody has the digest of its records.
+fn with_ids(digest: u32, removed: Removed) -> u32
+    ensures { λ r. ⌜ r ≡ withIds digest removed ⌝ }
+{
+    let ids = removed.ids;
+    let count = removed.count;
+    let mut sum = digest;
+    for i in 0..SEATS {
+        let id = ids[i];
+        if i < count {
+            sum = with(sum, id);
+        }
+    }
+    sum
 }

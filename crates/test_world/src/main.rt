@@ -2,7 +2,7 @@
 // rust/world/record_calls prints the lines: n or c, the map's sides and 64 tiles, then twelve words.
 mod digest;
 
-use digest::records_digest;
+use digest::told_digest;
 use digest::world_digest;
 use map_tiles::Sides;
 use test_common::AFTER_MAP;
@@ -109,7 +109,8 @@ fn answer(world: World, line: &[u8], words: &[u8], call: Call) -> Stepped {
 fn answer_agrees(stepped: Stepped, words: &[u8]) -> bool {
     let world = stepped.world;
     let records = stepped.records;
+    let removed = stepped.removed;
     stepped.number == nth(words, ANSWER)
-        && records_digest(records) == nth(words, RECORDS)
+        && told_digest(records, removed) == nth(words, RECORDS)
         && world_digest(world) == nth(words, WORLD)
 }

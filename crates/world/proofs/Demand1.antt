@@ -33,16 +33,16 @@ tune-left w index z = go (ltb (placeOf tuningCount index) tuningCount)
     go true h = absurd (h refl)
     go false h = refl
 
-answer-left : (n : ℕ) (w : World) (a : Turn Moving ℕ) → (stepAnswer n w a .number ≡ 0 → ⊥) → stepAnswer n w a .world ≡ w
-answer-left n w (more m) h = absurd (h refl)
-answer-left n w (stop k) h = refl
+answer-left : (n : ℕ) (w : World) (s : Sides) (ts : List ℕ) (a : Turn Moving ℕ) → (stepAnswer n w s ts a .number ≡ 0 → ⊥) → stepAnswer n w s ts a .world ≡ w
+answer-left n w s ts (more m) h = absurd (h refl)
+answer-left n w s ts (stop k) h = refl
 
 step-left : (n : ℕ) (w : World) (s : Sides) (ts : List ℕ) → (step n w s ts .number ≡ 0 → ⊥) → step n w s ts .world ≡ w
 unfolding step stepOn
 step-left n w s ts = go (isMap s ts)
   where
     go : (b : Bool) → (cond b (stepOn n w s ts) (stepRefused n w 1) .number ≡ 0 → ⊥) → cond b (stepOn n w s ts) (stepRefused n w 1) .world ≡ w
-    go true h = let t = tuningOf (w .tunings) in answer-left n w (next (λ ss. moveAll n ss s ts t) (tickAll n (w .slots) s ts t)) h
+    go true h = let t = tuningOf (w .tunings) in answer-left n w s ts (next (λ ss. moveAll n ss s ts t) (tickAll n (w .slots) s ts t)) h
     go false h = refl
 
 pub demand1 : (n : ℕ) → Demand1 n

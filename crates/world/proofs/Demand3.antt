@@ -1,7 +1,7 @@
 -- Demand 3 holds, for every number of slots. Assumes nothing.
 use Prim.Native.Nat.{ℕ, _≤_, _<_}
 use native.Mathlib.Omega.{arith}
-use mathlib.Core.Bool.{Bool, true, false, cond, _||_, true≢false}
+use mathlib.Core.Bool.{Bool, true, false, cond, _&&_, _||_, true≢false}
 use mathlib.Core.List.{List, [], _∷_}
 use mathlib.Core.Path.{_≡_, refl, sym, ap, _∙_, subst}
 use lib.Dec.{eqb, ltb}
@@ -11,7 +11,8 @@ use lib.Seq.{getD-set-same, getD-set-other}
 use borrow.Author.Tests.{ne-eqb, eqb-true, eqb-false, ltb-true, ltb-false}
 use Rattle.num_vec2.specs.declared.vec2.{vec2}
 use Rattle.map_tiles.specs.declared.tiles.Sides.{Sides}
-use Rattle.map_tiles.specs.Box.{Clear, characterBox}
+use Rattle.map_tiles.specs.Box.{checkBox, Clear, characterBox}
+use Rattle.map_tiles.specs.Map.{solid}
 use Rattle.map_tiles.proofs.Corners.{character-corners}
 use Rattle.world.specs.declared.call.Call.{Call}
 use Rattle.world.specs.declared.call.Call.the-variants.{Join, Leave, Input, Step, Tune}
@@ -24,7 +25,7 @@ use Rattle.game_tuning.specs.Tuning.{tuningCount, playerCollision}
 use Rattle.world.specs.Calls.{refused, accepted, placeOf, pointOf}
 use Rattle.world.specs.Calls as calls
 use Rattle.world.specs.Run.{inputOf, ran, after}
-use Rattle.world.specs.Demand3.{collisionAfter, CollisionOff, presentAfter, present, CornersClear, StepFaithful, StepsFaithful, Demand3}
+use Rattle.world.specs.Demand3.{collisionAfter, CollisionOff, presentAfter, present, CornersClear, left, leftOnDeadly, StepFaithful, StepsFaithful, Demand3}
 use Rattle.world.specs.Settled.{Settled}
 use Rattle.world.specs.declared.World.{World}
 use Rattle.world.proofs.Standing.{Standing, representable-fits}
@@ -102,7 +103,7 @@ module _ (n : ℕ) (s : Sides) (ts : List ℕ) where
       let x = steps n s ts w (subst (λ (v : ℤ). Reached n s ts v w) e h) in
       record {
         reached = subst (λ (v : ℤ). Reached n s ts v (ran n s ts w Step .world)) (sym e) (x .reached);
-        told = λ i q. record { published = x .published q; faithful = x .faithful q };
+        told = λ i q. record { published = x .published q; faithful = x .faithful q; removed = x .removed q };
       }
 
   next : (z : ℤ) (w : World) (c : Call) → Settled n w → Reached n s ts z w → (c ≡ Step → z ≡ pos 0) → Next z w c
@@ -118,7 +119,7 @@ module _ (n : ℕ) (s : Sides) (ts : List ℕ) where
   Agrees w there = (k : ℕ) → slotAt (w .slots) k .present ≡ there k
 
   faithful-told : (w : World) (there : ℕ → Bool) → Agrees w there → StepFaithful n w s ts (λ k. slotAt (w .slots) k .present) → StepFaithful n w s ts there
-  faithful-told w there h f = record { published = λ j l. f .published j l ∙ h j; faithful = λ j l q. f .faithful j l (h j ∙ q) }
+  faithful-told w there h f = record { published = λ j l. f .published j l ∙ h j; faithful = λ j l q. f .faithful j l (h j ∙ q); removed = λ j l. f .removed j l ∙ ap (λ (b : Bool). b && leftOnDeadly s ts (left n w s ts j)) (h j) }
 
   record Upto (w : World) (cs : List Call) : Type 0 where
     collision : ℤ
@@ -145,7 +146,8 @@ all-false false false true d e = absurd (true≢false e)
 all-false false false false true e = absurd (true≢false e)
 
 corners-clear : (s : Sides) (ts : List ℕ) (p : vec2) → Clear s ts p characterBox → CornersClear s ts p
-corners-clear s ts p h = let e = all-false _ _ _ _ (sym (character-corners s ts p) ∙ h) in record { right-bottom = e .0; left-top = e .1; right-top = e .2; left-bottom = e .3 }
+unfolding checkBox
+corners-clear s ts p h = let e = all-false _ _ _ _ (sym (character-corners solid s ts p) ∙ h) in record { right-bottom = e .0; left-top = e .1; right-top = e .2; left-bottom = e .3 }
 
 pub demand3 : (n : ℕ) → Demand3 n
 demand3 n s ts cs o =

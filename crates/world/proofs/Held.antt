@@ -35,11 +35,13 @@ use Rattle.world.specs.declared.Stepped.{Stepped}
 use Rattle.world.specs.declared.World.{World}
 use Rattle.world.specs.World.{fresh, withSlot}
 use Rattle.world.specs.Calls.{placeOf, pointOf, vacate, tune}
+use Rattle.world.specs.Removal.{dying}
 use Rattle.world.specs.Step.{Moving, afterTick, tickTurn, tickAll, ofNet, recordOf, publish, moveIn, moveTurn, movingFrom, moveAll, stepAnswer, stepOn, step}
 use Rattle.world.specs.Run.{inputOf, ran, after}
 use Rattle.world.specs.Held.{HeldPresent}
 use Rattle.world.proofs.Outcomes.{outcome-kept, join-outcome, leave-outcome, input-outcome}
 use Rattle.world.proofs.Present.{present-follows}
+use Rattle.world.proofs.Removal.{removed-kept}
 use Rattle.world.proofs.Seats.{by-test}
 use Rattle.world.proofs.Vacated.{released-only, vacated-every, vacated-others, nobody-holds}
 
@@ -120,15 +122,16 @@ module _ (n : ℕ) (s : Sides) (ts : List ℕ) where
         others : (k : ℕ) → holds (hook j) k ≡ true → There (w .slots) k → There (vacate w i .slots) k
         others k e q = ap (λ (y : Slot). y .present) (vacated-others w i k (λ d. true≢false (sym e ∙ ap (holds (hook j)) d ∙ nobody-holds w i j))) ∙ q
 
-    -- ---- step
+  -- ---- step
+  module _ (w : World) (h : HeldIn w) where
     abbrev t : Tuning
     t = tuningOf (w .tunings)
 
-    moved-held : (a : Turn Moving ℕ) → Ends (λ (m : Moving). Holding n s ts t (w .slots) (m .slots)) (λ r. Unit {0}) a → HeldIn (stepAnswer n w a .world)
+    moved-held : (a : Turn Moving ℕ) → Ends (λ (m : Moving). Holding n s ts t (w .slots) (m .slots)) (λ r. Unit {0}) a → HeldIn (stepAnswer n w s ts a .world)
     moved-held (stop r) k = h
-    moved-held (more m) k = λ j. holds-only (There (w .slots)) (There (m .slots)) (slotAt (m .slots) j .character .hook) (k .held j) (λ i e q. k .there i ∙ q)
+    moved-held (more m) k = removed-kept HeldIn (λ v i g. vacated-held v g i) (dying n s ts (m .slots)) (record { slots = m .slots; tunings = w .tunings }) (λ j. holds-only (There (w .slots)) (There (m .slots)) (slotAt (m .slots) j .character .hook) (k .held j) (λ i e q. k .there i ∙ q))
 
-    ticked-held : (a : Turn (List Slot) ℕ) → Ends (Holding n s ts t (w .slots)) (λ r. Unit {0}) a → HeldIn (stepAnswer n w (next (λ us. moveAll n us s ts t) a) .world)
+    ticked-held : (a : Turn (List Slot) ℕ) → Ends (Holding n s ts t (w .slots)) (λ r. Unit {0}) a → HeldIn (stepAnswer n w s ts (next (λ us. moveAll n us s ts t) a) .world)
     ticked-held (stop r) k = h
     ticked-held (more us) k = moved-held (moveAll n us s ts t) (moves-hold n s ts t (w .slots) us k)
 

@@ -4,12 +4,14 @@ pub mod Moves
 pub mod Reached
 pub mod Outcomes
 pub mod Vacated
+pub mod Removal
 pub mod Leave
 pub mod Settled
 pub mod NextSlot
 pub mod Present
 pub mod Marks
 pub mod Held
+pub mod Deadly
 pub mod Numbers
 pub mod Demand1
 pub mod Demand3

@@ -33,11 +33,13 @@ use Rattle.world.specs.declared.Stepped.{Stepped}
 use Rattle.world.specs.declared.World.{World}
 use Rattle.world.specs.World.{fresh}
 use Rattle.world.specs.Calls.{placeOf, pointOf, join, releasedSlot, leave, input, marked, unmarked, floorMark}
+use Rattle.world.specs.Removal.{dying, idsIn, isIn}
 use Rattle.world.specs.Step.{Moving, afterTick, tickTurn, tickAll, recordOf, publish, moveIn, moveTurn, movingFrom, moveAll, stepAnswer, stepOn, step}
 use Rattle.world.specs.Run.{inputOf, ran, after}
 use Rattle.world.specs.Demand3.{present}
 use Rattle.world.specs.Marks.{LastStep, none, from, lastStepAfter, lastStep, groundedThen, MarksFollow}
 use Rattle.world.specs.Settled.{Settled}
+use Rattle.world.proofs.Removal.{removed-every}
 use Rattle.world.proofs.Seats.{last-or-below, present-within, by-test, Settling, moves-settle}
 use Rattle.world.proofs.NextSlot.{join-slot, leave-slot, input-slot, tune-slot}
 use Rattle.world.proofs.Present.{present-next, fresh-absent, present-follows}
@@ -91,28 +93,28 @@ module _ (n : ℕ) (s : Sides) (ts : List ℕ) where
     moves-keep = run-kept (moveTurn n s ts t) (λ i. Marked) (λ r. Unit {0}) move-turn n 0 (movingFrom n us) (λ k. refl)
 
   -- ---- a step
-  -- an accepted one marks everybody who is there by where the step began, a refused one leaves everything
+  -- an accepted one marks everybody who is there and stays by where the step began, a refused one leaves everything
   module _ (w : World) (k : ℕ) (l : k < n) (p : slotAt (w .slots) k .present ≡ true) where
     abbrev t : Tuning
     t = tuningOf (w .tunings)
 
     abbrev Marks : Stepped → Type 0
-    Marks a = slotAt (a .world .slots) k .grounded ≡ cond (eqb (a .number) 0) (grounded s ts (slotAt (w .slots) k .character .pos)) (slotAt (w .slots) k .grounded)
+    Marks a = slotAt (a .world .slots) k .present ≡ true → slotAt (a .world .slots) k .grounded ≡ cond (eqb (a .number) 0) (grounded s ts (slotAt (w .slots) k .character .pos)) (slotAt (w .slots) k .grounded)
 
-    refused : (r : ℕ) → 0 < r → Marks (stepAnswer n w (stop r))
-    refused r h = rw (ne-eqb r 0 (λ e. omega arith))
+    refused : (r : ℕ) → 0 < r → Marks (stepAnswer n w s ts (stop r))
+    refused r h q = rw (ne-eqb r 0 (λ e. omega arith))
 
-    moved : (us : List Slot) → Ticking t (w .slots) n us → (a : Turn Moving ℕ) → Ends (Settling n s ts t us n) (λ r. 0 < r) a → Ends (Marked t us) (λ r. Unit {0}) a → Marks (stepAnswer n w a)
+    moved : (us : List Slot) → Ticking t (w .slots) n us → (a : Turn Moving ℕ) → Ends (Settling n s ts t us n) (λ r. 0 < r) a → Ends (Marked t us) (λ r. Unit {0}) a → Marks (stepAnswer n w s ts a)
     moved us h (stop r) f z = refused r f
-    moved us h (more m) f z = z k ∙ h .marks k l p
+    moved us h (more m) f z = λ q. removed-every (λ j x. x .present ≡ true → x .grounded ≡ slotAt (m .slots) j .grounded) (λ j e. absurd (true≢false (sym e))) (λ j i x g. g) (dying n s ts (m .slots)) (record { slots = m .slots; tunings = w .tunings }) (λ j e. refl) k q ∙ z k ∙ h .marks k l p
 
-    ticked-marks : (a : Turn (List Slot) ℕ) → Ends (Ticking t (w .slots) n) (λ r. 0 < r) a → Marks (stepAnswer n w (next (λ us. moveAll n us s ts t) a))
+    ticked-marks : (a : Turn (List Slot) ℕ) → Ends (Ticking t (w .slots) n) (λ r. 0 < r) a → Marks (stepAnswer n w s ts (next (λ us. moveAll n us s ts t) a))
     ticked-marks (stop r) z = refused r z
     ticked-marks (more us) h = moved us h (moveAll n us s ts t) (moves-settle n s ts t us) (moves-keep t us)
 
     step-marks : Marks (step n w s ts)
     unfolding step stepOn
-    step-marks = by-test Marks (isMap s ts) (λ e. ticked-marks (tickAll n (w .slots) s ts t) (ticks-mark t (w .slots))) (λ e. refl)
+    step-marks = by-test Marks (isMap s ts) (λ e. ticked-marks (tickAll n (w .slots) s ts t) (ticks-mark t (w .slots))) (λ e q. refl)
 
   -- ---- every call, and every list of them
   module _ (k : ℕ) (l : k < n) where
@@ -137,16 +139,20 @@ module _ (n : ℕ) (s : Sides) (ts : List ℕ) where
     stepped true last p = refl
     stepped false last p = refl
 
+    still : (b c : Bool) → cond b false c ≡ true → c ≡ true
+    still true c e = absurd (true≢false (sym e))
+    still false c e = e
+
     mark-next : (w : World) (c : Call) (last : LastStep) → Settled n w → Is last (slotAt (w .slots) k) → Is (lastStepAfter n k w (ran n s ts w c) c last) (slotAt (ran n s ts w c .world .slots) k)
     mark-next w (Join id x y) last g h = rw (join-slot n s ts w (g .seats) k id x y) (joined (eqb (placeOf n id) k && eqb (join n w s ts id x y .number) 0) (slotAt (w .slots) k) last (joinedSlot (pointOf x y)) refl h)
     mark-next w (Leave id) last g h = rw (leave-slot n s ts w (g .seats) k id) (left (eqb (leave n w id .number) 0) (eqb (placeOf n id) k) (slotAt (w .slots) k) (placeOf n id) last h)
     mark-next w (Input id d x y j a) last g h = let i = inputOf d x y j a in rw (input-slot n s ts w (g .seats) k id i) (told (eqb (placeOf n id) k && eqb (input n w id i .number) 0) (slotAt (w .slots) k) last i h)
     mark-next w (Tune index z) last g h = rw (tune-slot n s ts w (g .seats) k index z) h
     mark-next w Step last g h = λ q.
-        let p = sym (present-next n s ts w Step g k) ∙ q in
+        let p = still (isIn k (idsIn (step n w s ts .removed))) (slotAt (w .slots) k .present) (sym (present-next n s ts w Step g k) ∙ q) in
         let b = eqb (step n w s ts .number) 0 in
         let at = slotAt (w .slots) k .character .pos in
-        step-marks w k l p ∙ ap (λ (m : Bool). cond b (grounded s ts at) m) (h p) ∙ stepped b last at
+        step-marks w k l p q ∙ ap (λ (m : Bool). cond b (grounded s ts at) m) (h p) ∙ stepped b last at
 
     marks-after : (cs : List Call) (w : World) (last : LastStep) → Settled n w → Is last (slotAt (w .slots) k) → Is (lastStep n s ts k last w cs) (slotAt (after n s ts w cs .slots) k)
     marks-after [] w last g h = h

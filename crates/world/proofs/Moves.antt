@@ -15,7 +15,7 @@ use Rattle.num_convert.specs.Number.{c0}
 use Rattle.map_tiles.specs.Map.{isMap}
 use Rattle.map_tiles.specs.declared.tiles.Sides.{Sides}
 use Rattle.game_tuning.specs.declared.Tuning.{Tuning}
-use Rattle.map_tiles.specs.Box.{Clear, characterBox}
+use Rattle.map_tiles.specs.Box.{Clear, characterBox, onDeadly}
 use Rattle.game_records.specs.declared.CharacterCore.{CharacterCore}
 use Rattle.character_hook.specs.Hook.{tickOf}
 use Rattle.character.specs.Slot.{withCharacter}
@@ -29,15 +29,15 @@ use Rattle.character.specs.Records.{coreOf, toNet, fromNet, mostTick}
 use Rattle.character_laws.specs.Representable.{Representable}
 use Rattle.character.specs.declared.records.Net.{Net}
 use Rattle.character.specs.declared.records.Net.the-variants as net
-use Rattle.character_laws.proofs.Faithful.{core-faithful, core-clear}
+use Rattle.character_laws.proofs.Faithful.{core-faithful, core-clear, core-deadly}
 use Rattle.character_laws.proofs.Slots.{set-every, set-others, replicate-every}
 use Rattle.character_laws.proofs.Moved.{move-clear}
 use Rattle.character_laws.proofs.FitsTick.{FitsPair}
 use Rattle.character_laws.proofs.FitsMove.{move-fits}
 use Rattle.world.specs.Step.{Moving, unpublished, ofNet, recordOf, publish, moveIn, moveTurn, movingFrom, moveAll}
-use Rattle.world.specs.Demand3.{leftIn, leftFrom, FaithfulTo, recordAt}
+use Rattle.world.specs.Demand3.{leftIn, leftFrom, FaithfulTo, recordAt, leftOnDeadly}
 use Rattle.world.specs.declared.Published.{Published}
-use Rattle.world.proofs.Seats.{last-or-below, net-representable, Settling, move-turn, nobody-moved}
+use Rattle.world.proofs.Seats.{last-or-below, present-within, net-representable, Settling, move-turn, nobody-moved}
 use Rattle.world.proofs.Standing.{representable-fits, Standing, Stands}
 
 -- ---- the record of a character
@@ -57,6 +57,7 @@ module _ (s : Sides) (ts : List ℕ) where
     faithful : Faithful core (c .pos) (c .vel)
     representable : Representable (fromNet core)
     clear : Clear s ts (fromNet core .pos) characterBox
+    deadly : onDeadly s ts (fromNet core .pos) ≡ onDeadly s ts (c .pos)
 
   read : (c : Character) (core : CharacterCore) → T (isMap s ts) → FitsPair (c .pos) → FitsPair (c .vel) → Clear s ts (c .pos) characterBox → toNet c ≡ net.Core core → Read c core
   read c core m p v h e =
@@ -65,6 +66,7 @@ module _ (s : Sides) (ts : List ℕ) where
         faithful = subst (λ (k : CharacterCore). Faithful k (c .pos) (c .vel)) (sym i) (core-faithful c (v .0) (v .1));
         representable = net-representable c core e;
         clear = subst (λ (k : CharacterCore). Clear s ts (fromNet k .pos) characterBox) (sym i) (core-clear s ts c m (p .0) (p .1) ∙ h);
+        deadly = ap (λ (k : CharacterCore). onDeadly s ts (fromNet k .pos)) i ∙ core-deadly s ts c m (p .0) (p .1);
       }
 
 -- the two ways of a turn are apart, and what goes on is one
@@ -87,6 +89,7 @@ module _ (n : ℕ) (s : Sides) (ts : List ℕ) (t : Tuning) (ss : List Slot) whe
     pub stands : Stands s ts (m .slots)
     pub size : length (m .records) ≡ n
     pub told : (k : ℕ) → k < i → Told k (recordAt (m .records) k)
+    pub spiked : (k : ℕ) → k < i → slotAt ss k .present ≡ true → onDeadly s ts (slotAt (m .slots) k .character .pos) ≡ leftOnDeadly s ts (leftFrom n s ts t ss k)
     pub untold : (k : ℕ) → i ≤ k → recordAt (m .records) k .present ≡ false
 
 module _ (n : ℕ) (s : Sides) (ts : List ℕ) (t : Tuning) (map : T (isMap s ts)) (off : ne (t .«player_collision») c0 ≡ false) (ss : List Slot) where
@@ -111,6 +114,7 @@ module _ (n : ℕ) (s : Sides) (ts : List ℕ) (t : Tuning) (map : T (isMap s ts
       stands = h .stands;
       size = h .size;
       told = λ k l. ⊎-elim (λ q. (h .untold k (omega (arith, q)) ∙ sym (nobody k q), λ r. absurd (true≢false (sym r ∙ nobody k q)))) (h .told k) (last-or-below k i l);
+      spiked = λ k l. ⊎-elim (λ q. λ r. absurd (true≢false (sym r ∙ nobody k q))) (h .spiked k) (last-or-below k i l);
       untold = λ k l. h .untold k (omega arith);
     }
       where
@@ -141,6 +145,7 @@ module _ (n : ℕ) (s : Sides) (ts : List ℕ) (t : Tuning) (map : T (isMap s ts
         stands = set-every (λ k. Standing s ts) (m .slots) i new nowhere (h .stands) standing;
         size = length-set (m .records) i (record { present = true; core = core }) ∙ h .size;
         told = set-others (λ j x. j < suc i → Told n s ts t ss j x) (m .records) i (record { present = true; core = core }) unpublished records-in (λ j d a. h .told j (omega arith)) (λ a. (sym p ∙ same i, λ e. subst (FaithfulTo core) (sym left-is) (r .faithful)));
+        spiked = set-others (λ k x. k < suc i → slotAt ss k .present ≡ true → onDeadly s ts (x .character .pos) ≡ leftOnDeadly s ts (leftFrom n s ts t ss k)) (m .slots) i new nowhere (present-within (m .slots) i p) (λ k d a. h .spiked k (omega arith)) (λ a e. r .deadly ∙ ap (leftOnDeadly s ts) (sym left-is));
         untold = λ k b. set-others (λ j x. i < j → x .present ≡ false) (m .records) i (record { present = true; core = core }) unpublished records-in (λ j d a. h .untold j (omega arith)) (λ a. absurd (omega arith)) k (omega arith);
       }
 
@@ -182,6 +187,7 @@ module _ (n : ℕ) (s : Sides) (ts : List ℕ) (t : Tuning) (map : T (isMap s ts
     stands = h;
     size = length-replicate n unpublished;
     told = λ k l. absurd (none k l);
+    spiked = λ k l. absurd (none k l);
     untold = λ k l. replicate-every (λ (p : Published). p .present ≡ false) n unpublished unpublished refl refl k;
   }
     where

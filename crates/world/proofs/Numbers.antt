@@ -32,17 +32,12 @@ use Rattle.character.specs.declared.tick.AfterTick.{AfterTick}
 use Rattle.character.specs.declared.tick.TickedAt.{TickedAt}
 use Rattle.character.specs.declared.tick.TickedAt.the-variants as ticked-at
 use Rattle.character.specs.Tick.{slotAt, nowhere, steer, flight, afterPull, hooked, ticked, tickAt}
+use Rattle.character_laws.proofs.Held.{Rests, move-hook}
 use Rattle.character_laws.proofs.Slots.{set-others}
 use Rattle.character_laws.proofs.Others.{Then, pulled-others, pulled-length}
-use Rattle.map_walks.specs.declared.moves.BoxWalk.{BoxWalk}
-use Rattle.map_walks.specs.declared.moves.BoxWalk.the-variants as box
-use Rattle.character_motion.specs.Walking.{rampedMove}
 use Rattle.character.specs.declared.walk.MovedAt.{MovedAt}
 use Rattle.character.specs.declared.walk.MovedAt.the-variants as moved
-use Rattle.character.specs.declared.walk.PlayerWalk.{PlayerWalk}
-use Rattle.character.specs.declared.walk.PlayerWalk.the-variants as among
-use Rattle.character.specs.Walk.{movedTo, playerWalk, rested, afterBox, moveAt}
-use Rattle.world.specs.Step.{Moving, afterTick, tickTurn, tickAll, ofNet, recordOf, publish, moveTurn, movingFrom, moveAll, stepRefused, stepAnswer, stepOn, step}
+use Rattle.world.specs.Step.{Moving, afterTick, tickTurn, tickAll, ofNet, recordOf, publish, moveIn, moveTurn, movingFrom, moveAll, stepRefused, stepAnswer, stepOn, step}
 use Rattle.world.specs.declared.World.{World}
 use Rattle.world.proofs.Seats.{last-or-below, present-within, by-test}
 
@@ -109,23 +104,6 @@ module _ (n : ℕ) (s : Sides) (ts : List ℕ) (t : Tuning) where
       ends = subst (λ (j : ℕ). Ends (Ticks j) (λ r. r ≡ 9) (run (tickTurn n s ts t) n 0 us)) (omega arith)
 
 -- ---- moves
--- a move goes on with the same hook, or is too far
-data Left (c : Character) : MovedAt → Type 0 where
-  far : Left c moved.TooFar
-  to : (d : Character) → d .hook ≡ c .hook → Left c (moved.To d)
-
-box-left : (n : ℕ) (c : Character) (id : ℕ) (ss : List Slot) (t : Tuning) (b : BoxWalk) → Left c (afterBox n c id ss t b)
-box-left n c id ss t box.TooFar = far
-box-left n c id ss t (box.To b) = walked (playerWalk n ss id (c .pos) (b .pos) (t .«player_collision»))
-  where
-    walked : (w : PlayerWalk) → Left c (rested c (b .vel) w)
-    walked among.TooFar = far
-    walked (among.At p) = to (movedTo c p (b .vel)) refl
-
-move-left : (n : ℕ) (c : Character) (id : ℕ) (ss : List Slot) (s : Sides) (ts : List ℕ) (t : Tuning) → Left c (moveAt n c id ss s ts t)
-unfolding moveAt
-move-left n c id ss s ts t = box-left n c id ss t (rampedMove s ts (c .pos) (c .vel) t)
-
 module _ (n : ℕ) (s : Sides) (ts : List ℕ) (t : Tuning) where
   -- after i moves, those that are still to move
   abbrev Waits : ℕ → Moving → Type 0
@@ -133,7 +111,7 @@ module _ (n : ℕ) (s : Sides) (ts : List ℕ) (t : Tuning) where
 
   move-turn : (i : ℕ) (m : Moving) → Waits i m → Ends (Waits (suc i)) (λ r. r ≡ 9) (moveTurn n s ts t i m)
   unfolding recordOf
-  move-turn i m h = by-test (Ends (Waits (suc i)) (λ r. r ≡ 9)) (slotAt (m .slots) i .present) (λ p. moves p (move-left n c i (m .slots) s ts t)) (λ p. λ k l. h k (omega arith))
+  move-turn i m h = by-test (Ends (Waits (suc i)) (λ r. r ≡ 9)) (slotAt (m .slots) i .present) (λ p. moves p (moveIn n s ts t (m .slots) i) (move-hook n c i (m .slots) s ts t)) (λ p. λ k l. h k (omega arith))
     where
       c : Character
       c = slotAt (m .slots) i .character
@@ -144,9 +122,9 @@ module _ (n : ℕ) (s : Sides) (ts : List ℕ) (t : Tuning) where
           let f : tickOf (d .hook) ≤ maxHookGrabTime = subst (λ (x : Hook). tickOf x ≤ maxHookGrabTime) (sym e) (h i (omega arith) p) in
           rw (to-core d (omega arith)) (set-others (λ k x. suc i ≤ k → Short x) (m .slots) i (withCharacter (slotAt (m .slots) i) (fromNet (coreOf d))) nowhere (present-within (m .slots) i p) (λ k q l. h k (omega arith)) (λ l. absurd (omega arith)))
 
-      moves : slotAt (m .slots) i .present ≡ true → {o : MovedAt} → Left c o → Ends (Waits (suc i)) (λ r. r ≡ 9) (publish m i (recordOf o))
-      moves p far = refl
-      moves p (to d e) = records p d e
+      moves : slotAt (m .slots) i .present ≡ true → (o : MovedAt) → Rests (λ d. d .hook ≡ c .hook) o → Ends (Waits (suc i)) (λ r. r ≡ 9) (publish m i (recordOf o))
+      moves p moved.TooFar e = refl
+      moves p (moved.To d) e = records p d e
 
   moves-short : (us : List Slot) → ((k : ℕ) → Short (slotAt us k)) → Ends (Waits (n + 0)) (λ r. r ≡ 9) (moveAll n us s ts t)
   unfolding moveAll
@@ -157,9 +135,9 @@ module _ (n : ℕ) (s : Sides) (ts : List ℕ) (t : Tuning) where
 pub record Numbers (k : ℕ) : Type 0 where
   pub is : (k ≡ 0) ⊎ ((k ≡ 1) ⊎ (k ≡ 9))
 
-answer-number : (n : ℕ) (w : World) (P : Moving → Type 0) (a : Turn Moving ℕ) → Ends P (λ r. r ≡ 9) a → Numbers (stepAnswer n w a .number)
-answer-number n w P (more m) h = record { is = inl refl }
-answer-number n w P (stop k) h = record { is = inr (inr h) }
+answer-number : (n : ℕ) (w : World) (s : Sides) (ts : List ℕ) (P : Moving → Type 0) (a : Turn Moving ℕ) → Ends P (λ r. r ≡ 9) a → Numbers (stepAnswer n w s ts a .number)
+answer-number n w s ts P (more m) h = record { is = inl refl }
+answer-number n w s ts P (stop k) h = record { is = inr (inr h) }
 
 module _ (n : ℕ) (w : World) (s : Sides) (ts : List ℕ) (full : length (w .slots) ≤ n) where
   abbrev t : Tuning
@@ -169,8 +147,8 @@ module _ (n : ℕ) (w : World) (s : Sides) (ts : List ℕ) (full : length (w .sl
   every : (us : List Slot) → Ticks n s ts t n us → (k : ℕ) → Short (slotAt us k)
   every us h k p = h .1 k (let l = present-within us k p in omega (arith, h .0)) p
 
-  ticked-number : (a : Turn (List Slot) ℕ) → Ends (Ticks n s ts t n) (λ r. r ≡ 9) a → Numbers (stepAnswer n w (next (λ us. moveAll n us s ts t) a) .number)
-  ticked-number (more us) h = answer-number n w (Waits n s ts t (n + 0)) (moveAll n us s ts t) (moves-short n s ts t us (every us h))
+  ticked-number : (a : Turn (List Slot) ℕ) → Ends (Ticks n s ts t n) (λ r. r ≡ 9) a → Numbers (stepAnswer n w s ts (next (λ us. moveAll n us s ts t) a) .number)
+  ticked-number (more us) h = answer-number n w s ts (Waits n s ts t (n + 0)) (moveAll n us s ts t) (moves-short n s ts t us (every us h))
   ticked-number (stop k) h = record { is = inr (inr h) }
 
   pub step-number : Numbers (step n w s ts .number)

@@ -1,7 +1,7 @@
 -- What holds of a world between the calls beside that it is settled, and that a step with player collision 0 keeps it. Assumes nothing.
 use Prim.Native.Nat.{ℕ, _<_}
 use native.Mathlib.Omega.{arith}
-use mathlib.Core.Bool.{Bool, true, false, cond, true≢false}
+use mathlib.Core.Bool.{Bool, true, false, cond, _&&_, true≢false}
 use mathlib.Core.List.{List}
 use mathlib.Core.Path.{_≡_, refl, sym, ap, _∙_, subst}
 use lib.Dec.{T}
@@ -26,11 +26,13 @@ use Rattle.character_laws.proofs.Slots.{set-every, replicate-every}
 use Rattle.world.specs.World.{fresh, withSlot}
 use Rattle.game_tuning.specs.Tuning.{freshTunings, playerCollision}
 use Rattle.world.specs.Calls.{vacate}
+use Rattle.world.specs.Removal.{dies, dying, idsIn, isIn}
 use Rattle.world.specs.Step.{Moving, tickAll, moveAll, moveTurn, movingFrom, stepRefused, stepAnswer, stepOn, step}
-use Rattle.world.specs.Demand3.{left, leftIn, leftFrom, recordAt, FaithfulTo}
+use Rattle.world.specs.Demand3.{left, leftIn, leftFrom, recordAt, FaithfulTo, leftOnDeadly}
 use Rattle.world.specs.declared.Stepped.{Stepped}
 use Rattle.world.specs.declared.World.{World}
 use Rattle.world.proofs.Seats.{Same, Settling, ticks-same, moves-settle}
+use Rattle.world.proofs.Removal.{dying-are, listed-ids, removed-kept}
 use Rattle.world.proofs.Vacated.{vacated-every}
 use Rattle.world.proofs.Standing.{Standing, Stands, ticks-stand}
 use Rattle.world.proofs.Moves.{Sofar, moves-sofar}
@@ -71,6 +73,7 @@ module _ (n : ℕ) (s : Sides) (ts : List ℕ) where
     pub reached : Reached z (a .world)
     pub published : a .number ≡ 0 → (j : ℕ) → j < n → recordAt (a .records) j .present ≡ slotAt (w .slots) j .present
     pub faithful : a .number ≡ 0 → (j : ℕ) → j < n → slotAt (w .slots) j .present ≡ true → FaithfulTo (recordAt (a .records) j .core) (left n w s ts j)
+    pub removed : a .number ≡ 0 → (j : ℕ) → j < n → isIn j (idsIn (a .removed)) ≡ (slotAt (w .slots) j .present && leftOnDeadly s ts (left n w s ts j))
 
   -- where the moves begin, `left` is what the move leaves from there
   left-is : (w : World) (us : List Slot) (j : ℕ) → tickAll n (w .slots) s ts (tuningOf (w .tunings)) ≡ more us → leftFrom n s ts (tuningOf (w .tunings)) us j ≡ left n w s ts j
@@ -84,25 +87,31 @@ module _ (n : ℕ) (s : Sides) (ts : List ℕ) where
     off = collision-off (w .tunings) (h .tuned)
 
     -- refused: everything as it was
-    refused : (k : ℕ) → 0 < k → Steps (pos 0) w (stepAnswer n w (stop k))
+    refused : (k : ℕ) → 0 < k → Steps (pos 0) w (stepAnswer n w s ts (stop k))
     refused k l = record {
       reached = h;
       published = λ e. absurd (omega arith);
       faithful = λ e. absurd (omega arith);
+      removed = λ e. absurd (omega arith);
     }
 
-    accepted : (us : List Slot) (m : Moving) → tickAll n (w .slots) s ts t ≡ more us → Same (w .slots) us → Sofar n s ts t us n m → Steps (pos 0) w (stepAnswer n w (more m))
+    accepted : (us : List Slot) (m : Moving) → tickAll n (w .slots) s ts t ≡ more us → Same (w .slots) us → Sofar n s ts t us n m → Steps (pos 0) w (stepAnswer n w s ts (more m))
     accepted us m e d f = record {
-      reached = record { stands = f .stands; tuned = h .tuned };
+      reached = removed-kept (Reached (pos 0)) (vacated-reached (pos 0)) (dying n s ts (m .slots)) (record { slots = m .slots; tunings = w .tunings }) (record { stands = f .stands; tuned = h .tuned });
       published = λ z j l. f .told j l .0 ∙ d .present j;
       faithful = λ z j l p. subst (FaithfulTo (recordAt (m .records) j .core)) (left-is w us j e) (f .told j l .1 (d .present j ∙ p));
+      removed = λ z j l. ap (isIn j) (listed-ids n (dying n s ts (m .slots))) ∙ dying-are n s ts (m .slots) j l ∙ dead j l (slotAt (w .slots) j .present) (f .settling .same .present j ∙ d .present j);
     }
+      where
+        dead : (j : ℕ) → j < n → (b : Bool) → slotAt (m .slots) j .present ≡ b → dies s ts (slotAt (m .slots) j) ≡ (b && leftOnDeadly s ts (left n w s ts j))
+        dead j l true p = rw p (f .spiked j l (sym (f .settling .same .present j) ∙ p) ∙ ap (leftOnDeadly s ts) (left-is w us j e))
+        dead j l false p = rw p
 
-    moved : (us : List Slot) → tickAll n (w .slots) s ts t ≡ more us → Same (w .slots) us → (a : Turn Moving ℕ) → Ends (Settling n s ts t us n) (λ k. 0 < k) a → Ends (Sofar n s ts t us n) (λ k. Unit {0}) a → Steps (pos 0) w (stepAnswer n w a)
+    moved : (us : List Slot) → tickAll n (w .slots) s ts t ≡ more us → Same (w .slots) us → (a : Turn Moving ℕ) → Ends (Settling n s ts t us n) (λ k. 0 < k) a → Ends (Sofar n s ts t us n) (λ k. Unit {0}) a → Steps (pos 0) w (stepAnswer n w s ts a)
     moved us e d (stop k) l u = refused k l
     moved us e d (more m) g f = accepted us m e d f
 
-    ticked : (a : Turn (List Slot) ℕ) → tickAll n (w .slots) s ts t ≡ a → Ends (Same (w .slots)) (λ k. 0 < k) a → Ends (Stands s ts) (λ k. Unit {0}) a → Steps (pos 0) w (stepAnswer n w (next (λ us. moveAll n us s ts t) a))
+    ticked : (a : Turn (List Slot) ℕ) → tickAll n (w .slots) s ts t ≡ a → Ends (Same (w .slots)) (λ k. 0 < k) a → Ends (Stands s ts) (λ k. Unit {0}) a → Steps (pos 0) w (stepAnswer n w s ts (next (λ us. moveAll n us s ts t) a))
     ticked (stop k) e l u = refused k l
     ticked (more us) e d g = moved us e d (moveAll n us s ts t) (moves-settle n s ts t us) (moves-sofar n s ts t map off us g)
 
@@ -117,4 +126,4 @@ module _ (n : ℕ) (s : Sides) (ts : List ℕ) where
     where
       go : (b : Bool) → isMap s ts ≡ b → Steps (pos 0) w (cond b (stepOn n w s ts) (stepRefused n w 1))
       go true e = step-on w (subst T (sym e) tt) h
-      go false e = record { reached = h; published = λ z. absurd (omega arith); faithful = λ z. absurd (omega arith) }
+      go false e = record { reached = h; published = λ z. absurd (omega arith); faithful = λ z. absurd (omega arith); removed = λ z. absurd (omega arith) }

@@ -25,6 +25,7 @@ use Rattle.character_laws.proofs.Slots.{set-every}
 use Rattle.world.specs.World.{fresh, withSlot, withTuning}
 use Rattle.game_tuning.specs.Tuning.{freshTunings, tuningCount}
 use Rattle.world.specs.Calls.{placeOf, pointOf, released, releasedSlot, vacate, tune}
+use Rattle.world.specs.Removal.{dying}
 use Rattle.world.specs.Step.{Moving, tickAll, moveAll, stepAnswer, stepOn, step}
 use Rattle.world.specs.Run.{inputOf, ran, after}
 use Rattle.world.specs.Settled.{Settled, AfterSettled}
@@ -32,6 +33,7 @@ use Rattle.world.specs.declared.Answer.{Answer}
 use Rattle.world.specs.declared.Stepped.{Stepped}
 use Rattle.world.specs.declared.World.{World}
 use Rattle.world.proofs.Outcomes.{outcome-kept, reach-i32, Joins, join-outcome, leave-outcome, input-outcome}
+use Rattle.world.proofs.Removal.{removed-kept}
 use Rattle.world.proofs.Vacated.{released-representable, vacated-length, vacated-every}
 use Rattle.world.proofs.Seats.{by-test, Same, Settling, same-on, ticks-same, moves-settle}
 
@@ -88,18 +90,18 @@ module _ (n : ℕ) where
     abbrev t : Tuning
     t = tuningOf (w .tunings)
 
-    moved-settled : (us : List Slot) → Same (w .slots) us → (a : Turn Moving ℕ) → Ends (Settling n s ts t us n) (λ r. 0 < r) a → Settled n (stepAnswer n w a .world)
+    moved-settled : (us : List Slot) → Same (w .slots) us → (a : Turn Moving ℕ) → Ends (Settling n s ts t us n) (λ r. 0 < r) a → Settled n (stepAnswer n w s ts a .world)
     moved-settled us d (stop k) l = h
     moved-settled us d (more m) f =
         let e = same-on (w .slots) us (m .slots) d (f .same) in
-        record {
+        removed-kept (Settled n) vacated-settled (dying n s ts (m .slots)) (record { slots = m .slots; tunings = w .tunings }) (record {
           seats = e .size ∙ h .seats;
           tunings = h .tunings;
           representable = f .moved;
           empty = λ k l q. let p = sym (e .present k) ∙ q in e .absent k p ∙ h .empty k l p;
-        }
+        })
 
-    ticked-settled : (a : Turn (List Slot) ℕ) → Ends (Same (w .slots)) (λ r. 0 < r) a → Settled n (stepAnswer n w (next (λ us. moveAll n us s ts t) a) .world)
+    ticked-settled : (a : Turn (List Slot) ℕ) → Ends (Same (w .slots)) (λ r. 0 < r) a → Settled n (stepAnswer n w s ts (next (λ us. moveAll n us s ts t) a) .world)
     ticked-settled (stop k) l = h
     ticked-settled (more us) d = moved-settled us d (moveAll n us s ts t) (moves-settle n s ts t us)
 

@@ -11,6 +11,7 @@ use Rattle.base_turns.specs.Turns.{Turn, more, stop, next, run}
 use Rattle.num_vec2.specs.Vec2.{vnew}
 use Rattle.num_vec2.specs.declared.vec2.{vec2}
 use Rattle.map_corners.specs.Tile.{c14}
+use Rattle.map_tiles.specs.Box.{onDeadly}
 use Rattle.map_tiles.specs.Map.{checkPoint, solid}
 use Rattle.map_tiles.specs.declared.tiles.Sides.{Sides}
 use Rattle.game_tuning.specs.Tuning.{tuningOf}
@@ -28,6 +29,7 @@ use Rattle.character.specs.declared.records.Quantized.the-variants as quantized
 use Rattle.world.specs.World.{fresh}
 use Rattle.game_tuning.specs.Tuning.{tuningCount, playerCollision}
 use Rattle.world.specs.Calls as calls
+use Rattle.world.specs.Removal.{idsIn, isIn}
 use Rattle.world.specs.Step.{Moving, unpublished, tickAll, moveIn, moveTurn, movingFrom}
 use Rattle.world.specs.Step as world
 use Rattle.world.specs.Run.{ran, after}
@@ -51,13 +53,13 @@ CollisionOff z (c ∷ cs) = (c ≡ Step → z ≡ pos 0) × CollisionOff (collis
 
 -- ---- each character present
 
--- whether k is joined by an accepted join, with no accepted leave of that id since: b before a call that answered a
+-- whether k is joined by an accepted join, with no accepted leave of that id since, nor removal in an accepted step: b before a call that answered a
 abbrev pub presentAfter : ℕ → ℕ → Bool → Stepped → Call → Bool
 presentAfter n k b a (Join id x y) = cond (eqb (calls.placeOf n id) k && eqb (a .number) 0) true b
 presentAfter n k b a (Leave id) = cond (eqb (calls.placeOf n id) k && eqb (a .number) 0) false b
 presentAfter n k b a (Input id d x y j h) = b
 presentAfter n k b a (Tune index z) = b
-presentAfter n k b a Step = b
+presentAfter n k b a Step = cond (isIn k (idsIn (a .removed))) false b
 
 abbrev pub present : ℕ → Sides → List ℕ → ℕ → Bool → World → List Call → Bool
 present n s ts k b w [] = b
@@ -92,10 +94,16 @@ FaithfulTo core (moved.To c) = Faithful core (c .pos) (c .vel)
 abbrev pub recordAt : List Published → ℕ → Published
 recordAt rs j = getD rs j unpublished
 
--- one record for each id that is there when the step is called
+-- whether what a move left has a corner on a deadly tile
+abbrev pub leftOnDeadly : Sides → List ℕ → MovedAt → Bool
+leftOnDeadly s ts moved.TooFar = false
+leftOnDeadly s ts (moved.To c) = onDeadly s ts (c .pos)
+
+-- one record for each id that is there when the step is called, the removed included; removed is who then has a corner on a deadly tile, which is who had it before quantizing
 pub record StepFaithful (n : ℕ) (w : World) (s : Sides) (ts : List ℕ) (there : ℕ → Bool) : Type 0 where
   pub published : (j : ℕ) → j < n → recordAt (world.step n w s ts .records) j .present ≡ there j
   pub faithful : (j : ℕ) → j < n → there j ≡ true → FaithfulTo (recordAt (world.step n w s ts .records) j .core) (left n w s ts j)
+  pub removed : (j : ℕ) → j < n → isIn j (idsIn (world.step n w s ts .removed)) ≡ (there j && leftOnDeadly s ts (left n w s ts j))
 
 -- every accepted step of a list, where `there` says who is present before it
 abbrev pub StepsFaithful : ℕ → Sides → List ℕ → (ℕ → Bool) → World → List Call → Type 0

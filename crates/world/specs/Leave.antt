@@ -1,6 +1,5 @@
 -- What an accepted leave does, on any world. Definitions only; proofs/Leave.antt proves it.
 use Prim.Native.Nat.{ℕ}
-use mathlib.Core.List.{List}
 use mathlib.Core.Path.{_≡_}
 use lib.IntN.{ℤ}
 use lib.ListN.{length}

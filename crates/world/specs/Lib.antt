@@ -1,5 +1,6 @@
 pub mod World
 pub mod Calls
+pub mod Removal
 pub mod Step
 pub mod Run
 pub mod Demand1
@@ -8,3 +9,4 @@ pub mod Settled
 pub mod Marks
 pub mod Leave
 pub mod Held
+pub mod Deadly

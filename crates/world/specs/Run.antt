@@ -8,6 +8,7 @@ use Rattle.map_tiles.specs.declared.tiles.Sides.{Sides}
 use Rattle.world.specs.declared.call.Call.{Call}
 use Rattle.world.specs.declared.call.Call.the-variants.{Join, Leave, Input, Step, Tune}
 use Rattle.world.specs.Calls.{join, leave, input, tune}
+use Rattle.world.specs.Removal.{listed, idsIn}
 use Rattle.world.specs.Step.{unpublished, step}
 use Rattle.world.specs.declared.Answer.{Answer}
 use Rattle.world.specs.declared.Published.{Published}
@@ -18,11 +19,11 @@ use Rattle.world.specs.declared.World.{World}
 abbrev pub inputOf : ℤ → ℤ → ℤ → ℤ → ℤ → PlayerInput
 inputOf direction x y jump hook = record { direction = direction; «target_x» = x; «target_y» = y; jump = jump; hook = hook }
 
--- the answer of any call but step has no records
+-- the answer of any call but step has no records, and removes nobody
 abbrev pub withoutRecords : ℕ → Answer → Stepped
-withoutRecords n a = record { number = a .number; world = a .world; records = replicate n unpublished }
+withoutRecords n a = record { number = a .number; world = a .world; records = replicate n unpublished; removed = listed n [] }
 
--- what a call does to a world of n slots on one map, whatever its arguments: its number, the next world, and the records of a step
+-- what a call does to a world of n slots on one map, whatever its arguments: its number, the next world, and of a step the records and who is removed
 abbrev pub ran : ℕ → Sides → List ℕ → World → Call → Stepped
 ran n s ts w (Join id x y) = withoutRecords n (join n w s ts id x y)
 ran n s ts w (Leave id) = withoutRecords n (leave n w id)
@@ -35,13 +36,14 @@ abbrev pub after : ℕ → Sides → List ℕ → World → List Call → World
 after n s ts w [] = w
 after n s ts w (c ∷ cs) = after n s ts (ran n s ts w c .world) cs
 
--- what a call tells: its number, and the records of a step
+-- what a call tells: its number, and of a step the records and the ids of who is removed
 pub record Told : Type 0 where
   pub number : ℕ
   pub records : List Published
+  pub removed : List ℕ
 
 abbrev pub toldBy : Stepped → Told
-toldBy a = record { number = a .number; records = a .records }
+toldBy a = record { number = a .number; records = a .records; removed = idsIn (a .removed) }
 
 -- what the calls of a list tell, one after another
 abbrev pub told : ℕ → Sides → List ℕ → World → List Call → List Told

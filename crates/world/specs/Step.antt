@@ -1,7 +1,7 @@
 -- Step on a world of n slots. Definitions only.
 use Prim.Native.Nat.{ℕ}
 use mathlib.Core.Bool.{true, false, cond}
-use mathlib.Core.List.{List}
+use mathlib.Core.List.{List, []}
 use lib.IntN.{pos}
 use lib.ListN.{set, replicate}
 use Rattle.base_turns.specs.Turns.{Turn, more, stop, next, run}
@@ -23,6 +23,7 @@ use Rattle.character.specs.declared.walk.MovedAt.the-variants as moved
 use Rattle.character.specs.Records.{toNet, fromNet}
 use Rattle.character.specs.declared.records.Net.{Net}
 use Rattle.character.specs.declared.records.Net.the-variants as net
+use Rattle.world.specs.Removal.{dying, removeAll, listed}
 use Rattle.world.specs.declared.Published.{Published}
 use Rattle.world.specs.declared.Recorded.{Recorded}
 use Rattle.world.specs.declared.Recorded.the-variants.{Refused, Core}
@@ -88,18 +89,21 @@ movingFrom n ss = record { slots = ss; records = replicate n unpublished }
 unfoldable pub moveAll : ℕ → List Slot → Sides → List ℕ → Tuning → Turn Moving ℕ
 moveAll n ss s ts t = run (moveTurn n s ts t) n 0 (movingFrom n ss)
 
--- ---- both, on a map that is one
+-- ---- both on a map that is one, and who is removed
 
--- a refusal anywhere in a step gives the world as it was, and no record
+-- a refusal anywhere in a step gives the world as it was, no record, and nobody removed
 abbrev pub stepRefused : ℕ → World → ℕ → Stepped
-stepRefused n w k = record { number = k; world = w; records = replicate n unpublished }
+stepRefused n w k = record { number = k; world = w; records = replicate n unpublished; removed = listed n [] }
 
-abbrev pub stepAnswer : ℕ → World → Turn Moving ℕ → Stepped
-stepAnswer n w (stop k) = stepRefused n w k
-stepAnswer n w (more m) = record { number = 0; world = record { slots = m .slots; tunings = w .tunings }; records = m .records }
+-- the records are taken, then whoever has a corner on a deadly tile is removed
+abbrev pub stepAnswer : ℕ → World → Sides → List ℕ → Turn Moving ℕ → Stepped
+stepAnswer n w s ts (stop k) = stepRefused n w k
+stepAnswer n w s ts (more m) =
+    let ids = dying n s ts (m .slots) in
+    record { number = 0; world = removeAll (record { slots = m .slots; tunings = w .tunings }) ids; records = m .records; removed = listed n ids }
 
 unfoldable pub stepOn : ℕ → World → Sides → List ℕ → Stepped
-stepOn n w s ts = let t = tuningOf (w .tunings) in stepAnswer n w (next (λ ss. moveAll n ss s ts t) (tickAll n (w .slots) s ts t))
+stepOn n w s ts = let t = tuningOf (w .tunings) in stepAnswer n w s ts (next (λ ss. moveAll n ss s ts t) (tickAll n (w .slots) s ts t))
 
 -- refused with 1 where the map is none
 unfoldable pub step : ℕ → World → Sides → List ℕ → Stepped

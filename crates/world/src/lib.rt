@@ -36,9 +36,16 @@ pub enum Recorded {
     Core(CharacterCore),
 }
 
-// What step answers: the records too.
+// Who is removed, by rising id: as many ids as counted, and zeros behind them.
+pub struct Removed {
+    pub count: usize,
+    pub ids: [i32; SEATS],
+}
+
+// What step answers: the records too, and who is removed after they are taken.
 pub struct Stepped {
     pub number: u32,
     pub world: World,
     pub records: [Published; SEATS],
+    pub removed: Removed,
 }

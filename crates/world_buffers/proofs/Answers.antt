@@ -14,7 +14,7 @@ use Rattle.world.specs.declared.Stepped.{Stepped}
 use Rattle.world.specs.declared.World.{World}
 use Rattle.world_numbers.specs.Encoding.{worldCount, recordsCount, encoding, recordsEncoding}
 use Rattle.world_numbers.specs.Decoding.{decoding}
-use Rattle.world_buffers.specs.Buffers.{Left, LeftByStep, keep, callIn, keepStep, stepIn}
+use Rattle.world_buffers.specs.Buffers.{Left, StepBuffers, LeftByStep, keep, callIn, toldIn, keepStep, stepIn}
 
 -- ---- a call's answer
 module _ (l : List ℤ) (a : Answer) where
@@ -36,24 +36,31 @@ module _ (call : World → Answer) (l : List ℤ) where
   right-length a e h q k = rw (eq-eqb (length l) worldCount h) (ap (keep l) (sym q) ∙ k)
 
 -- ---- a step's
-module _ (l rs : List ℤ) (a : Stepped) where
-  pub accepted-step-kept : (m ms : List ℤ) → a .number ≡ 0 → m ≡ encoding (a .world) → ms ≡ recordsEncoding (a .records) → keepStep l rs a ≡ record { number = 0; world = m; records = ms }
-  unfolding keepStep
-  accepted-step-kept m ms z e f = rw (z, e, f)
+pub told-is : (a : Stepped) (rs is : List ℤ) → rs ≡ recordsEncoding (a .records) → is ≡ a .removed .ids → record { records = rs; removed = is; count = a .removed .count } ≡ toldIn a
+told-is a rs is e f = rw (e, f)
 
-  pub refused-step-kept : (a .number ≡ 0 → ⊥) → keepStep l rs a ≡ record { number = a .number; world = l; records = rs }
+module _ (l : List ℤ) (b : StepBuffers) (a : Stepped) where
+  pub accepted-step-kept : (m : List ℤ) (d : StepBuffers) → a .number ≡ 0 → m ≡ encoding (a .world) → d ≡ toldIn a → keepStep l b a ≡ record { number = 0; world = m; told = d }
+  unfolding keepStep
+  accepted-step-kept m d z e f = rw (z, e, f)
+
+  pub refused-step-kept : (a .number ≡ 0 → ⊥) → keepStep l b a ≡ record { number = a .number; world = l; told = b }
   unfolding keepStep
   refused-step-kept z = rw (ne-eqb (a .number) 0 z)
 
-module _ (s : Sides) (ts : List ℕ) (l rs : List ℤ) where
-  pub wrong-world : (length l ≡ worldCount → ⊥) → stepIn s ts l rs ≡ record { number = badLength; world = l; records = rs }
+module _ (s : Sides) (ts : List ℕ) (l : List ℤ) (b : StepBuffers) where
+  pub wrong-world : (length l ≡ worldCount → ⊥) → stepIn s ts l b ≡ record { number = badLength; world = l; told = b }
   unfolding stepIn
   wrong-world h = rw (ne-eqb (length l) worldCount h)
 
-  pub wrong-records : length l ≡ worldCount → (length rs ≡ recordsCount → ⊥) → stepIn s ts l rs ≡ record { number = badLength; world = l; records = rs }
+  pub wrong-records : length l ≡ worldCount → (length (b .records) ≡ recordsCount → ⊥) → stepIn s ts l b ≡ record { number = badLength; world = l; told = b }
   unfolding stepIn
-  wrong-records h g = rw (eq-eqb (length l) worldCount h, ne-eqb (length rs) recordsCount g)
+  wrong-records h g = rw (eq-eqb (length l) worldCount h, ne-eqb (length (b .records)) recordsCount g)
 
-  pub right-lengths : (a : Stepped) (e : LeftByStep) → length l ≡ worldCount → length rs ≡ recordsCount → a ≡ step seats (decoding seats l) s ts → keepStep l rs a ≡ e → stepIn s ts l rs ≡ e
+  pub wrong-removed : length l ≡ worldCount → length (b .records) ≡ recordsCount → (length (b .removed) ≡ seats → ⊥) → stepIn s ts l b ≡ record { number = badLength; world = l; told = b }
   unfolding stepIn
-  right-lengths a e h g q k = rw (eq-eqb (length l) worldCount h, eq-eqb (length rs) recordsCount g) (ap (keepStep l rs) (sym q) ∙ k)
+  wrong-removed h g f = rw (eq-eqb (length l) worldCount h, eq-eqb (length (b .records)) recordsCount g, ne-eqb (length (b .removed)) seats f)
+
+  pub right-lengths : (a : Stepped) (e : LeftByStep) → length l ≡ worldCount → length (b .records) ≡ recordsCount → length (b .removed) ≡ seats → a ≡ step seats (decoding seats l) s ts → keepStep l b a ≡ e → stepIn s ts l b ≡ e
+  unfolding stepIn
+  right-lengths a e h g f q k = rw (eq-eqb (length l) worldCount h, eq-eqb (length (b .records)) recordsCount g, eq-eqb (length (b .removed)) seats f) (ap (keepStep l b) (sym q) ∙ k)

@@ -14,9 +14,9 @@ use Rattle.world.specs.Step.{step}
 use Rattle.world.specs.declared.Answer.{Answer}
 use Rattle.world.specs.declared.Stepped.{Stepped}
 use Rattle.world.specs.declared.World.{World}
-use Rattle.world_numbers.specs.Encoding.{worldCount, recordsCount, encoding, recordsEncoding}
+use Rattle.world_numbers.specs.Encoding.{worldCount, recordsCount, encoding}
 use Rattle.world_numbers.specs.Decoding.{decoding}
-use Rattle.world_buffers.specs.Buffers.{has, keep, callIn, keepStep, stepIn}
+use Rattle.world_buffers.specs.Buffers.{StepBuffers, has, keep, callIn, toldIn, keepStep, stepIn}
 
 -- what a test of 0 chooses where it fails
 not-zero : {A : Type 0} (n : ℕ) (x y : A) → (n ≡ 0 → ⊥) → cond (eqb n 0) x y ≡ y
@@ -45,17 +45,17 @@ unfolding callIn keep
 follows call w n d h = rw (eq-eqb (length (encoding w)) worldCount n, d) (ap (λ (m : List ℤ). record { number = call w .number; world = m }) (left (call w .number) (call w .world) w h))
 
 -- ---- the same for step
-pub refused-step-leaves : (s : Sides) (ts : List ℕ) (l rs : List ℤ) → (stepIn s ts l rs .number ≡ 0 → ⊥) → (stepIn s ts l rs .world ≡ l) × (stepIn s ts l rs .records ≡ rs)
+pub refused-step-leaves : (s : Sides) (ts : List ℕ) (l : List ℤ) (b : StepBuffers) → (stepIn s ts l b .number ≡ 0 → ⊥) → (stepIn s ts l b .world ≡ l) × (stepIn s ts l b .told ≡ b)
 unfolding stepIn keepStep
-refused-step-leaves s ts l rs = go (has worldCount l && has recordsCount rs) (step seats (decoding seats l) s ts)
+refused-step-leaves s ts l b = go (has worldCount l && has recordsCount (b .records) && has seats (b .removed)) (step seats (decoding seats l) s ts)
   where
-    go : (b : Bool) (a : Stepped) → (cond b (keepStep l rs a) (record { number = badLength; world = l; records = rs }) .number ≡ 0 → ⊥) → (cond b (keepStep l rs a) (record { number = badLength; world = l; records = rs }) .world ≡ l) × (cond b (keepStep l rs a) (record { number = badLength; world = l; records = rs }) .records ≡ rs)
-    go true a h = (not-zero (a .number) (encoding (a .world)) l h, not-zero (a .number) (recordsEncoding (a .records)) rs h)
+    go : (c : Bool) (a : Stepped) → (cond c (keepStep l b a) (record { number = badLength; world = l; told = b }) .number ≡ 0 → ⊥) → (cond c (keepStep l b a) (record { number = badLength; world = l; told = b }) .world ≡ l) × (cond c (keepStep l b a) (record { number = badLength; world = l; told = b }) .told ≡ b)
+    go true a h = (not-zero (a .number) (encoding (a .world)) l h, not-zero (a .number) (toldIn a) b h)
     go false a h = (refl, refl)
 
-pub step-follows : (s : Sides) (ts : List ℕ) (w : World) (rs : List ℤ) → length (encoding w) ≡ worldCount → length rs ≡ recordsCount → decoding seats (encoding w) ≡ w → ((step seats w s ts .number ≡ 0 → ⊥) → step seats w s ts .world ≡ w) → stepIn s ts (encoding w) rs ≡ record { number = step seats w s ts .number; world = encoding (step seats w s ts .world); records = cond (eqb (step seats w s ts .number) 0) (recordsEncoding (step seats w s ts .records)) rs }
+pub step-follows : (s : Sides) (ts : List ℕ) (w : World) (b : StepBuffers) → length (encoding w) ≡ worldCount → length (b .records) ≡ recordsCount → length (b .removed) ≡ seats → decoding seats (encoding w) ≡ w → ((step seats w s ts .number ≡ 0 → ⊥) → step seats w s ts .world ≡ w) → stepIn s ts (encoding w) b ≡ record { number = step seats w s ts .number; world = encoding (step seats w s ts .world); told = cond (eqb (step seats w s ts .number) 0) (toldIn (step seats w s ts)) b }
 unfolding stepIn keepStep
-step-follows s ts w rs n m d h = rw (eq-eqb (length (encoding w)) worldCount n, eq-eqb (length rs) recordsCount m, d) (go (step seats w s ts) h)
+step-follows s ts w b n m k d h = rw (eq-eqb (length (encoding w)) worldCount n, eq-eqb (length (b .records)) recordsCount m, eq-eqb (length (b .removed)) seats k, d) (go (step seats w s ts) h)
   where
-    go : (a : Stepped) → ((a .number ≡ 0 → ⊥) → a .world ≡ w) → keepStep (encoding w) rs a ≡ record { number = a .number; world = encoding (a .world); records = cond (eqb (a .number) 0) (recordsEncoding (a .records)) rs }
-    go a k = ap (λ (v : List ℤ). record { number = a .number; world = v; records = cond (eqb (a .number) 0) (recordsEncoding (a .records)) rs }) (left (a .number) (a .world) w k)
+    go : (a : Stepped) → ((a .number ≡ 0 → ⊥) → a .world ≡ w) → keepStep (encoding w) b a ≡ record { number = a .number; world = encoding (a .world); told = cond (eqb (a .number) 0) (toldIn a) b }
+    go a q = ap (λ (v : List ℤ). record { number = a .number; world = v; told = cond (eqb (a .number) 0) (toldIn a) b }) (left (a .number) (a .world) w q)

@@ -36,16 +36,26 @@ callIn call l = cond (has worldCount l) (keep l (call (decoding seats l))) (reco
 
 -- ---- step
 
--- its number, and the numbers of the world and of the records that it leaves
+-- what a step is lent to tell: a buffer for the records, one for the ids of who is removed, and a place for their count
+pub record StepBuffers : Type 0 where
+  pub records : List ℤ
+  pub removed : List ℤ
+  pub count : ℕ
+
+-- its number, and what it leaves in the world's buffer and in those
 pub record LeftByStep : Type 0 where
   pub number : ℕ
   pub world : List ℤ
-  pub records : List ℤ
+  pub told : StepBuffers
 
--- an accepted step leaves the next world and the records, a refused one every number as it was
-unfoldable pub keepStep : List ℤ → List ℤ → Stepped → LeftByStep
-keepStep l rs a = record { number = a .number; world = cond (eqb (a .number) 0) (encoding (a .world)) l; records = cond (eqb (a .number) 0) (recordsEncoding (a .records)) rs }
+-- the records, the removed ids with zeros behind them, and how many they are
+abbrev pub toldIn : Stepped → StepBuffers
+toldIn a = record { records = recordsEncoding (a .records); removed = a .removed .ids; count = a .removed .count }
 
--- a step of the world that the numbers l stand for, whose records go to rs
-unfoldable pub stepIn : Sides → List ℕ → List ℤ → List ℤ → LeftByStep
-stepIn s ts l rs = cond (has worldCount l && has recordsCount rs) (keepStep l rs (step seats (decoding seats l) s ts)) (record { number = badLength; world = l; records = rs })
+-- an accepted step leaves the next world and what it tells, a refused one everything as it was
+unfoldable pub keepStep : List ℤ → StepBuffers → Stepped → LeftByStep
+keepStep l b a = record { number = a .number; world = cond (eqb (a .number) 0) (encoding (a .world)) l; told = cond (eqb (a .number) 0) (toldIn a) b }
+
+-- a step of the world that the numbers l stand for, which is told in b
+unfoldable pub stepIn : Sides → List ℕ → List ℤ → StepBuffers → LeftByStep
+stepIn s ts l b = cond (has worldCount l && has recordsCount (b .records) && has seats (b .removed)) (keepStep l b (step seats (decoding seats l) s ts)) (record { number = badLength; world = l; told = b })

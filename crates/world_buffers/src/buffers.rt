@@ -1,4 +1,6 @@
 // The calls on a world that is kept as the numbers of a lent buffer. A refused call leaves every number of every buffer as it was.
+use base_rows::copy;
+use character::SEATS;
 use game_records::PlayerInput;
 use game_refusals::BAD_LENGTH;
 use map_tiles::Sides;
@@ -86,23 +88,40 @@ pub fn tune_in(world: &mut [i32], index: i32, value: i32) -> u32
     keep(answer, world)
 }
 
-// Leaves the next world and the records in the buffers where the step was accepted.
-fn keep_step(stepped: Stepped, world: &mut [i32], records: &mut [i32]) -> u32
-    requires { ⌜ (length (now world) ≡ worldCount) × (length (now records) ≡ recordsCount) ⌝ }
-    ensures { λ r. ⌜ keepStep (now (world .entry)) (now (records .entry)) stepped ≡ record { number = r; world = now (world .exit); records = now (records .exit) } ⌝ }
+// Leaves the next world, the records and who is removed in the buffers where the step was accepted.
+fn keep_step(
+    stepped: Stepped,
+    world: &mut [i32],
+    records: &mut [i32],
+    removed: &mut [i32],
+    count: &mut usize,
+) -> u32
+    requires { ⌜ (length (now world) ≡ worldCount) × (length (now records) ≡ recordsCount) × (length (now removed) ≡ seats) ⌝ }
+    ensures { λ r. ⌜ keepStep (now (world .entry)) (record { records = now (records .entry); removed = now (removed .entry); count = now (count .entry) }) stepped ≡ record { number = r; world = now (world .exit); told = record { records = now (records .exit); removed = now (removed .exit); count = now (count .exit) } } ⌝ }
 {
     if stepped.number == 0 {
         let next = stepped.world;
         let published = stepped.records;
+        let gone = stepped.removed;
+        let ids = gone.ids;
         encode(next, world);
         encode_records(published, records);
+        copy(removed, 0, &ids);
+        *count = gone.count;
         return 0;
     }
     stepped.number
 }
 
-pub fn step_in(world: &mut [i32], sides: Sides, tiles: &[u8], records: &mut [i32]) -> u32
-    ensures { λ r. ⌜ stepIn sides (now (tiles .entry)) (now (world .entry)) (now (records .entry)) ≡ record { number = r; world = now (world .exit); records = now (records .exit) } ⌝ }
+pub fn step_in(
+    world: &mut [i32],
+    sides: Sides,
+    tiles: &[u8],
+    records: &mut [i32],
+    removed: &mut [i32],
+    count: &mut usize,
+) -> u32
+    ensures { λ r. ⌜ stepIn sides (now (tiles .entry)) (now (world .entry)) (record { records = now (records .entry); removed = now (removed .entry); count = now (count .entry) }) ≡ record { number = r; world = now (world .exit); told = record { records = now (records .exit); removed = now (removed .exit); count = now (count .exit) } } ⌝ }
 {
     if world.len() != WORLD {
         return BAD_LENGTH;
@@ -110,6 +129,9 @@ pub fn step_in(world: &mut [i32], sides: Sides, tiles: &[u8], records: &mut [i32
     if records.len() != RECORDS {
         return BAD_LENGTH;
     }
+    if removed.len() != SEATS {
+        return BAD_LENGTH;
+    }
     let stepped = step(decode(world), sides, tiles);
-    keep_step(stepped, world, records)
+    keep_step(stepped, world, records, removed, count)
 }

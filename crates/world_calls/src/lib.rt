@@ -9,6 +9,7 @@ pub use calls::input;
 pub use calls::leave;
 pub use calls::tune;
 pub use joins::join;
+pub use leaving::vacate;
 pub use marks::floor_mark;
 pub use seats::fresh;
 pub use seats::place_of;

@@ -10,24 +10,26 @@ use Rattle.map_tiles.specs.declared.tiles.Sides.{Sides}
 use Rattle.game_tuning.specs.Tuning.{tuningOf}
 use Rattle.world.specs.declared.call.Call.the-variants.{Step}
 use Rattle.character.specs.Tick.{seats}
+use Rattle.world.specs.Removal.{dying}
 use Rattle.world.specs.Step.{Moving, tickAll, moveAll, stepRefused, stepAnswer, stepOn, step}
 use Rattle.world.specs.declared.World.{World}
 use Rattle.world.proofs.Demand1.{demand1}
+use Rattle.world.proofs.Removal.{removed-kept}
 use Rattle.world_lent.specs.Lent.{worldOf, RefusalLeaves, TuningsStay}
 
 pub refusal-leaves : RefusalLeaves
 refusal-leaves ss ts s tiles h = ap (λ (w : World). w .slots) (demand1 seats s tiles (worldOf ss ts) Step h)
 
-answer-tunings : (n : ℕ) (w : World) (a : Turn Moving ℕ) → stepAnswer n w a .world .tunings ≡ w .tunings
-answer-tunings n w (more m) = refl
-answer-tunings n w (stop k) = refl
+answer-tunings : (n : ℕ) (w : World) (s : Sides) (tiles : List ℕ) (a : Turn Moving ℕ) → stepAnswer n w s tiles a .world .tunings ≡ w .tunings
+answer-tunings n w s tiles (more m) = removed-kept (λ v. v .tunings ≡ w .tunings) (λ v k h. h) (dying n s tiles (m .slots)) (record { slots = m .slots; tunings = w .tunings }) refl
+answer-tunings n w s tiles (stop k) = refl
 
 step-tunings : (n : ℕ) (w : World) (s : Sides) (tiles : List ℕ) → step n w s tiles .world .tunings ≡ w .tunings
 unfolding step stepOn
 step-tunings n w s tiles = go (isMap s tiles)
   where
     go : (b : Bool) → cond b (stepOn n w s tiles) (stepRefused n w 1) .world .tunings ≡ w .tunings
-    go true = let t = tuningOf (w .tunings) in answer-tunings n w (next (λ ss. moveAll n ss s tiles t) (tickAll n (w .slots) s tiles t))
+    go true = let t = tuningOf (w .tunings) in answer-tunings n w s tiles (next (λ ss. moveAll n ss s tiles t) (tickAll n (w .slots) s tiles t))
     go false = refl
 
 pub tunings-stay : TuningsStay

@@ -21,7 +21,7 @@ lentStep ss ts s tiles = step seats (worldOf ss ts) s tiles
 
 -- what is told of a step: all but the world
 abbrev pub toldOf : Stepped → Told
-toldOf a = record { number = a .number; records = a .records }
+toldOf a = record { number = a .number; records = a .records; removed = a .removed }
 
 -- the slots that the step leaves
 abbrev pub slotsLeft : List Slot → List ℤ → Sides → List ℕ → List Slot

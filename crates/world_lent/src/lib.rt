@@ -4,6 +4,7 @@ use character::Slot;
 use game_tuning::TUNINGS;
 use map_tiles::Sides;
 use world::Published;
+use world::Removed;
 use world::Stepped;
 use world::World;
 use world_calls::fresh;
@@ -19,6 +20,7 @@ ghost use Rattle.world_lent.specs.Lent.{worldOf, lentStep, toldOf, slots
 pub struct Told {
     pub number: u32,
     pub records: [Published; SEATS],
+    pub removed: Removed,
 }
 
 // A world with all its slots still to be read.
@@ -40,9 +42,11 @@ fn tell(stepped: Stepped) -> Told
     ensures { λ r. ⌜ r ≡ toldOf stepped ⌝ }
 {
     let records = stepped.records;
+    let removed = stepped.removed;
     Told {
         number: stepped.number,
         records,
+        removed,
     }
 }
 

@@ -4,18 +4,16 @@ use mathlib.Core.List.{List}
 use mathlib.Core.Path.{_≡_, refl, sym, _∙_}
 use Prim.Native.Nat.{ℕ, _<_}
 use native.Mathlib.Omega.{arith}
-use lib.Dec.{eqb, ltb}
+use lib.Dec.{ltb}
 use lib.ListN.{length, set}
 use lib.Seq.{set-out, set-getD}
 use borrow.Author.Tests.{ltb-true, ltb-false, eq-eqb, ne-eqb}
-use Rattle.character_hook.specs.declared.hook.CharacterId.{CharacterId}
 use Rattle.character_motion.specs.declared.meeting.HookPull.{HookPull}
 use Rattle.character_motion.specs.declared.meeting.HookPull.the-variants.{Nobody, Of}
 use Rattle.character.specs.Slot.{withCharacter}
 use Rattle.character.specs.Character.{withVel}
 use Rattle.character.specs.Tick.{nowhere, slotAt, afterPull, pulledSeat, pulledSlot}
 use Rattle.character.specs.declared.Slot.{Slot}
-use Rattle.num_vec2.specs.declared.vec2.{vec2}
 
 module _ (n own : ℕ) (h : own < n) where
   -- it is a seat

@@ -1,4 +1,5 @@
 // What a call does to a world.
+use crate::removing::nobody;
 use crate::steps::no_records;
 use crate::steps::step;
 use game_records::PlayerInput;
@@ -51,5 +52,6 @@ fn without_records(answer: Answer) -> Stepped
         number: answer.number,
         world,
         records: no_records(),
+        removed: nobody(),
     }
 }

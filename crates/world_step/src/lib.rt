@@ -1,6 +1,7 @@
-// Step: all tick, then all move and are quantized; and any of the five calls on a world.
+// Step: all tick, then all move and are quantized, then deadly tiles remove; and any of the five calls on a world.
 mod calling;
 mod moving;
+mod removing;
 mod steps;
 mod ticking;
 

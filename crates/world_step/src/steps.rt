@@ -1,6 +1,8 @@
-// Step: every present id by rising id ticks; then by rising id each moves and is quantized.
+// Step: every present id by rising id ticks; then by rising id each moves and is quantized; then who stands on deadly tiles is removed.
 use crate::moving::move_all;
 use crate::moving::unpublished;
+use crate::removing::nobody;
+use crate::removing::remove_dying;
 use crate::ticking::tick_all;
 use character::SEATS;
 use game_refusals::BAD_MAP;
@@ -33,6 +35,7 @@ fn refused(world: World, number: u32) -> Stepped
         number,
         world,
         records: no_records(),
+        removed: nobody(),
     }
 }
 
@@ -57,10 +60,14 @@ fn step_on(world: World, sides: Sides, tiles: &[u8]) -> Stepped
         if moved.done {
             let slots = moved.slots;
             let records = moved.records;
+            let left = remove_dying(World { slots, tunings }, sides, tiles);
+            let next = left.world;
+            let removed = left.removed;
             return Stepped {
                 number: 0,
-                world: World { slots, tunings },
+                world: next,
                 records,
+                removed,
             };
         }
         return refused(world, moved.number);

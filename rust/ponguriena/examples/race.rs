@@ -1,6 +1,6 @@
-//! A small race: three players run to the right, over a step and a wall, and the
-//! positions are printed every few steps. One hooks the ceiling, one jumps, one
-//! only runs, and is stopped.
+//! A small race: three players run to the right, over a step, a wall and spikes, and
+//! the positions are printed every few steps. One hooks the ceiling, one jumps and
+//! dies on the spikes, one only runs, and is stopped.
 //!
 //! ```sh
 //! cargo run --release --example race
@@ -8,7 +8,7 @@
 
 use ponguriena::{CharacterCore, Map, PlayerInput, Records, Refusal, World};
 
-/// Solid at `#`; hooks do not hold at `=`.
+/// Solid at `#`; hooks do not hold at `=`; deadly at `^`.
 const COURSE: [&str; 10] = [
     "################################",
     "#                              #",
@@ -18,7 +18,7 @@ const COURSE: [&str; 10] = [
     "#                              #",
     "#             #                #",
     "#             #                #",
-    "#        #    #                #",
+    "#        #    #   ^^^^         #",
     "################################",
 ];
 
@@ -54,23 +54,29 @@ fn main() -> Result<(), Refusal> {
         if step % PRINTED_EVERY == 0 {
             print_records(step, &records);
         }
+        for &id in records.removed() {
+            let (name, _) = PLAYERS[id as usize];
+            println!("step {step:>3} {name:>7}: dead");
+        }
     }
     Ok(())
 }
 
-/// Everybody wants something else before each step.
+/// Everybody who is alive wants something else before each step.
 fn tell(world: &mut World, step: usize) -> Result<(), Refusal> {
     for (id, (name, _)) in (0..).zip(PLAYERS) {
-        let core = world.record(id)?;
-        world.input(id, input(name, &core, step))?;
+        if let Ok(core) = world.record(id) {
+            world.input(id, input(name, &core, step))?;
+        }
     }
     Ok(())
 }
 
-/// Bytes 1 and 3 are solid.
+/// Bytes 1 and 3 are solid, 2 is deadly.
 fn tiles() -> Vec<u8> {
     let tile = |letter| match letter {
         '#' => 1,
+        '^' => 2,
         '=' => 3,
         _ => 0,
     };

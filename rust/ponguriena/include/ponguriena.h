@@ -1,7 +1,7 @@
 /* The C interface of Ponguriena: the character physics of Teeworlds 0.6.
  *
  * For the world link target/staticlib/libponguriena.a, which `rt staticlib ponguriena`
- * writes; for the walks, the aim and the floats below it libponguriena_parts.a.
+ * writes; for the tiles, the walks, the aim and the floats below it libponguriena_parts.a.
  *
  * A call that may be refused answers 0 where it did its work, and else the number
  * of the refusal; then it has written nothing. No numbers stop a call. A pointer
@@ -60,7 +60,11 @@ uint32_t ponguriena_pack(const int32_t *record, size_t record_length, uint8_t *b
 uint32_t ponguriena_unpack(const uint8_t *bytes, size_t bytes_length, int32_t *record,
                            size_t record_length, size_t *used);
 
-/* The world: PONGURIENA_WORLD numbers that the caller keeps. Any numbers are taken for a world. */
+/* The world: PONGURIENA_WORLD numbers that the caller keeps. Any numbers are taken for a world.
+ *
+ * A map is width times height tiles row by row, each side 1 to 1,024. Tile 1 is solid, 3 is solid
+ * and holds no hook, 2 is deadly, every other is open. A deadly tile is no floor and stops neither
+ * a body nor a hook nor a join. */
 
 /* Nobody is present, and the tunings are those of the game. */
 uint32_t ponguriena_fresh(int32_t *world, size_t world_length);
@@ -80,10 +84,14 @@ uint32_t ponguriena_input(int32_t *world, size_t world_length, int32_t id, int32
 /* Sets a tuning; every number is taken. */
 uint32_t ponguriena_tune(int32_t *world, size_t world_length, int32_t index, int32_t hundredths);
 
-/* Everybody present ticks, then moves; the records are PONGURIENA_RECORDS numbers. */
+/* Everybody present ticks, then moves; the records are PONGURIENA_RECORDS numbers. When they are
+ * taken, whoever has a corner (14 from the middle in each coordinate) on a deadly tile is removed
+ * as by a leave. Removed gets PONGURIENA_SEATS numbers, these ids by rising id and zeros behind
+ * them, and count how many they are. */
 uint32_t ponguriena_step(int32_t *world, size_t world_length, uint32_t width, uint32_t height,
                          const uint8_t *tiles, size_t tiles_length, int32_t *records,
-                         size_t records_length);
+                         size_t records_length, int32_t *removed, size_t removed_length,
+                         size_t *count);
 
 /* The record of an id that is present: PONGURIENA_RECORD numbers. */
 uint32_t ponguriena_record(const int32_t *world, size_t world_length, int32_t id, int32_t *record,
@@ -102,8 +110,12 @@ uint32_t ponguriena_floor_mark(const int32_t *world, size_t world_length, int32_
 uint32_t ponguriena_tuning(const int32_t *world, size_t world_length, int32_t index,
                            int32_t *hundredths);
 
-/* Walks over a map: width times height tiles row by row. Tile 1 is solid, 3 is solid and holds no
- * hook, every other is open. */
+/* Tiles of a map as above, and walks over it. */
+
+/* The tile of a point: 0 open, 1 solid, 2 deadly, 3 solid and holds no hook. A point outside the
+ * map has the nearest tile of its rim. Answers 0 or 1. */
+uint32_t ponguriena_check_point(uint32_t width, uint32_t height, const uint8_t *tiles,
+                                size_t tiles_length, float x, float y, uint32_t *tile);
 
 /* The first solid point of a line and its tile, or tile 0 and no point. Answers 0, 1 or 9. */
 uint32_t ponguriena_check_line(uint32_t width, uint32_t height, const uint8_t *tiles,

@@ -13,10 +13,12 @@
 //! let map = Map { width: 3, height: 3, tiles: &[0; 9] };
 //! let mut world = [0; buffers::WORLD_NUMBERS];
 //! let mut records = [0; buffers::RECORDS_NUMBERS];
+//! let mut removed = [0; buffers::SEATS];
 //! buffers::fresh(&mut world)?;
 //! buffers::join(&mut world, &map, 0, 48, 48)?;
-//! buffers::step(&mut world, &map, &mut records)?;
+//! let count = buffers::step(&mut world, &map, &mut records, &mut removed)?;
 //! assert_eq!(records[..5], [1, 0, 48, 49, 0]);
+//! assert_eq!(count, 0);
 //! # Ok::<(), ponguriena::Refusal>(())
 //! ```
 
@@ -24,7 +26,8 @@ use crate::refusal::Refusal;
 use crate::snap_obj::{CORE_NUMBERS, INPUT_NUMBERS, PlayerInput};
 use crate::walks::Map;
 
-/// The seats of a world. Ids are 0 up to one less.
+/// The seats of a world, and the numbers for whom a step removes. Ids are 0 up to one
+/// less.
 pub const SEATS: usize = 16;
 
 /// The tunings of a world, each in hundredths.
@@ -79,6 +82,9 @@ unsafe extern "C" {
         tiles_length: usize,
         records: *mut i32,
         records_length: usize,
+        removed: *mut i32,
+        removed_length: usize,
+        count: &mut usize,
     ) -> u32;
     fn ponguriena_record(
         world: *const i32,
@@ -159,12 +165,20 @@ pub fn tune(world: &mut [i32], index: i32, hundredths: i32) -> Result<(), Refusa
 }
 
 /// Everybody present ticks, then moves. `records` gets for each seat its presence
-/// and its record.
+/// and its record. Then whoever has a corner on a deadly tile is removed as by
+/// [`leave`]: `removed`, of [`SEATS`] numbers, gets these ids by rising id and zeros
+/// behind them. Answers how many they are.
 #[inline]
-pub fn step(world: &mut [i32], map: &Map<'_>, records: &mut [i32]) -> Result<(), Refusal> {
-    // SAFETY: each pointer and the length after it are those of one slice; the two
-    // that are written are lent for writing, so they do not overlap.
-    Refusal::of_answer(unsafe {
+pub fn step(
+    world: &mut [i32],
+    map: &Map<'_>,
+    records: &mut [i32],
+    removed: &mut [i32],
+) -> Result<usize, Refusal> {
+    let mut count = 0;
+    // SAFETY: each pointer and the length after it are those of one slice; those that
+    // are written are lent for writing, so they do not overlap.
+    let answer = unsafe {
         ponguriena_step(
             world.as_mut_ptr(),
             world.len(),
@@ -174,8 +188,13 @@ pub fn step(world: &mut [i32], map: &Map<'_>, records: &mut [i32]) -> Result<(),
             map.tiles.len(),
             records.as_mut_ptr(),
             records.len(),
+            removed.as_mut_ptr(),
+            removed.len(),
+            &mut count,
         )
-    })
+    };
+    Refusal::of_answer(answer)?;
+    Ok(count)
 }
 
 /// Writes the record of an id that is present: [`CORE_NUMBERS`] numbers.

@@ -1,7 +1,7 @@
 //! Safe Rust functions over the static libraries of two Rattle crates. Of `ponguriena`:
 //! the [`World`] of characters with its calls, the same calls on lent numbers
-//! ([`buffers`]), and records as packed bytes ([`packed`]). Of `ponguriena_parts` what they are made of: walks over a [`Map`], the
-//! aim angle, the velocity ramp, the root and the conversions. `include/ponguriena.h` is for C.
+//! ([`buffers`]), and records as packed bytes ([`packed`]). Of `ponguriena_parts` what they are made of: the tiles of a [`Map`]
+//! and walks over it, the aim angle, the velocity ramp, the root and the conversions. `include/ponguriena.h` is for C.
 
 // Nothing checks the declarations in these modules against the Rattle source: a
 // change of a signature there must be repeated here by hand.
@@ -22,5 +22,5 @@ pub use floats::{
 };
 pub use refusal::Refusal;
 pub use snap_obj::{CORE_NUMBERS, CharacterCore, INPUT_NUMBERS, PlayerInput};
-pub use walks::{Map, check_line, move_box};
+pub use walks::{Map, Tile, check_line, check_point, move_box};
 pub use world::{Records, RecordsIter, World};

@@ -1,10 +1,19 @@
-//! The walks of a line and of a box over a tile map. `world` of libtw2 says in
-//! Rust what each of them means, document 01 when it is refused.
+//! The tile of a point on a map, and the walks of a line and of a box over it. `world` of
+//! libtw2 says in Rust what each walk means, document 01 when it is refused.
 
 use crate::refusal::Refusal;
 
 unsafe extern "C" {
     // `tiles` must point to `tiles_length` bytes.
+    fn ponguriena_check_point(
+        width: u32,
+        height: u32,
+        tiles: *const u8,
+        tiles_length: usize,
+        x: f32,
+        y: f32,
+        tile: &mut u32,
+    ) -> u32;
     fn ponguriena_check_line(
         width: u32,
         height: u32,
@@ -41,8 +50,55 @@ pub struct Map<'a> {
     pub width: u32,
     /// 1 to 1,024.
     pub height: u32,
-    /// 1 is solid, 3 is solid and holds no hook, every other is open.
+    /// 1 is solid, 3 is solid and holds no hook, 2 is deadly, every other is open. A
+    /// deadly one is no floor and stops nobody and no hook, but a step removes whoever
+    /// ends it with a corner there.
     pub tiles: &'a [u8],
+}
+
+/// What a point of a map is.
+#[derive(Clone, Copy, Debug, Eq, Hash, PartialEq)]
+pub enum Tile {
+    Open,
+    /// Solid, and hooks hold there.
+    Normal,
+    /// Open but for who ends a step there.
+    Deadly,
+    /// Solid, and no hook holds there.
+    Unhookable,
+}
+
+/// The tile of a point; one outside the map is that at its rim. Refused: a map at fault.
+///
+/// ```
+/// use ponguriena::{Map, Tile, check_point};
+///
+/// let map = Map { width: 3, height: 1, tiles: &[1, 2, 0] };
+/// assert_eq!(check_point(map, [40.0, 16.0]), Ok(Tile::Deadly));
+/// assert_eq!(check_point(map, [-5000.0, 16.0]), Ok(Tile::Normal));
+/// ```
+#[inline]
+pub fn check_point(map: Map, pos: [f32; 2]) -> Result<Tile, Refusal> {
+    let mut tile = NOTHING;
+    // SAFETY: the pointer and the length are those of one slice.
+    let answer = unsafe {
+        ponguriena_check_point(
+            map.width,
+            map.height,
+            map.tiles.as_ptr(),
+            map.tiles.len(),
+            pos[0],
+            pos[1],
+            &mut tile,
+        )
+    };
+    Refusal::of_answer(answer)?;
+    Ok(match tile {
+        1 => Tile::Normal,
+        2 => Tile::Deadly,
+        3 => Tile::Unhookable,
+        _ => Tile::Open,
+    })
 }
 
 /// The first point of the line that is solid, with its tile: 1 Normal, 3 Unhookable.

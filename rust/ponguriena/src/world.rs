@@ -27,7 +27,8 @@ pub struct World {
     numbers: [i32; WORLD_NUMBERS],
 }
 
-/// What a step publishes: the record of each id that was present, by rising id.
+/// What a step publishes: the record of each id that was present, by rising id, and who
+/// was removed after that.
 ///
 /// ```
 /// # let map = ponguriena::Map { width: 1, height: 1, tiles: &[0] };
@@ -41,6 +42,8 @@ pub struct World {
 #[derive(Clone, Debug, Eq, PartialEq)]
 pub struct Records {
     numbers: [i32; RECORDS_NUMBERS],
+    removed: [i32; SEATS],
+    count: usize,
 }
 
 impl World {
@@ -83,12 +86,18 @@ impl World {
         buffers::tune(&mut self.numbers, index, hundredths)
     }
 
-    /// Everybody present ticks by rising id; then each moves and is quantized. Refused:
-    /// a map at fault, a walk that is too long.
+    /// Everybody present ticks by rising id; then each moves and is quantized. Their
+    /// records are taken, and whoever has a corner on a deadly tile is removed as by
+    /// [`World::leave`]. Refused: a map at fault, a walk that is too long.
     pub fn step(&mut self, map: &Map<'_>) -> Result<Records, Refusal> {
         let mut numbers = [0; RECORDS_NUMBERS];
-        buffers::step(&mut self.numbers, map, &mut numbers)?;
-        Ok(Records { numbers })
+        let mut removed = [0; SEATS];
+        let count = buffers::step(&mut self.numbers, map, &mut numbers, &mut removed)?;
+        Ok(Records {
+            numbers,
+            removed,
+            count,
+        })
     }
 
     /// The record of an id that is present.
@@ -138,6 +147,23 @@ impl Records {
             records: self,
             ids: 0..SEATS,
         }
+    }
+
+    /// Who was removed after the records were taken, by rising id.
+    ///
+    /// ```
+    /// # use ponguriena::{Map, Refusal, World};
+    /// let spikes = Map { width: 1, height: 1, tiles: &[2] };
+    /// let mut world = World::fresh();
+    /// world.join(&spikes, 3, 5, 5)?;
+    /// let records = world.step(&spikes)?;
+    /// assert_eq!(records.iter().count(), 1);
+    /// assert_eq!(records.removed(), [3]);
+    /// assert_eq!(world.record(3), Err(Refusal::Absent));
+    /// # Ok::<(), Refusal>(())
+    /// ```
+    pub fn removed(&self) -> &[i32] {
+        &self.removed[..self.count]
     }
 
     /// Of that id, where it was present.

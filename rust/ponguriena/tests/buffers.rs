@@ -1,7 +1,9 @@
 //! The calls on lent numbers: wrong lengths are refused, any numbers are taken, and
-//! a seat where nobody is has zeros.
+//! a seat where nobody is has zeros, as has what follows the ids of those removed.
 
-use ponguriena::buffers::{self, RECORDS_NUMBERS, SEAT_NUMBERS, SEATS, TUNINGS, WORLD_NUMBERS};
+use ponguriena::buffers::{
+    self, PUBLISHED_NUMBERS, RECORDS_NUMBERS, SEAT_NUMBERS, SEATS, TUNINGS, WORLD_NUMBERS,
+};
 use ponguriena::{CORE_NUMBERS, INPUT_NUMBERS, Map, PlayerInput, Refusal};
 use reference::Xorshift;
 
@@ -9,6 +11,12 @@ const OPEN: Map = Map {
     width: 2,
     height: 2,
     tiles: &[0, 0, 0, 1],
+};
+
+/// Its right column is deadly.
+const SPIKED: Map = Map {
+    tiles: &[0, 2, 0, 2],
+    ..OPEN
 };
 
 const BUFFERS: usize = 500;
@@ -32,6 +40,7 @@ fn worlds_of_a_wrong_length() {
         let mut numbers = vec![UNWRITTEN; length];
         let world = &mut numbers[..];
         let mut records = [UNWRITTEN; RECORDS_NUMBERS];
+        let mut removed = [UNWRITTEN; SEATS];
         let mut hundredths = UNWRITTEN;
         assert_eq!(buffers::fresh(world), BAD_LENGTH);
         assert_eq!(buffers::join(world, &no_map, -1, 1 << 30, 0), BAD_LENGTH);
@@ -39,7 +48,8 @@ fn worlds_of_a_wrong_length() {
         let input = PlayerInput::default();
         assert_eq!(buffers::input(world, -1, input), BAD_LENGTH);
         assert_eq!(buffers::tune(world, -1, 0), BAD_LENGTH);
-        assert_eq!(buffers::step(world, &no_map, &mut records), BAD_LENGTH);
+        let stepped = buffers::step(world, &no_map, &mut records, &mut removed);
+        assert_eq!(stepped, Err(Refusal::BadLength));
         assert_eq!(
             buffers::record(world, -1, &mut records[..CORE_NUMBERS]),
             BAD_LENGTH
@@ -51,7 +61,7 @@ fn worlds_of_a_wrong_length() {
         let mut mark = UNWRITTEN;
         assert_eq!(buffers::floor_mark(world, -1, &mut mark), BAD_LENGTH);
         assert_eq!(mark, UNWRITTEN);
-        let all = numbers.iter().chain(&records);
+        let all = numbers.iter().chain(&records).chain(&removed);
         assert!(all.into_iter().all(|&number| number == UNWRITTEN));
     }
 }
@@ -62,10 +72,14 @@ type Reader<'a> = &'a mut dyn FnMut(&mut [i32]) -> Result<(), Refusal>;
 fn answers_of_a_wrong_length() {
     let mut fresh = [0; WORLD_NUMBERS];
     assert_eq!(buffers::fresh(&mut fresh), Ok(()));
-    let mut world = fresh;
-    let readers: [(usize, Reader); 3] = [
+    let (mut world, mut other_world) = (fresh, fresh);
+    let (mut records, mut removed) = ([UNWRITTEN; RECORDS_NUMBERS], [UNWRITTEN; SEATS]);
+    let readers: [(usize, Reader); 4] = [
         (RECORDS_NUMBERS, &mut |out| {
-            buffers::step(&mut world, &OPEN, out)
+            buffers::step(&mut world, &OPEN, out, &mut removed).map(|_| ())
+        }),
+        (SEATS, &mut |out| {
+            buffers::step(&mut other_world, &OPEN, &mut records, out).map(|_| ())
         }),
         (CORE_NUMBERS, &mut |out| buffers::record(&fresh, -1, out)),
         (INPUT_NUMBERS, &mut |out| {
@@ -79,7 +93,27 @@ fn answers_of_a_wrong_length() {
             assert!(numbers.iter().all(|&number| number == UNWRITTEN));
         }
     }
-    assert_eq!(world, fresh);
+    assert_eq!([world, other_world], [fresh; 2]);
+    let mut written = records.iter().chain(&removed);
+    assert!(written.all(|&number| number == UNWRITTEN));
+}
+
+/// Those of who was removed come first; where nobody was there are zeros alone.
+#[test]
+fn zeros_follow_the_removed() {
+    let mut world = [0; WORLD_NUMBERS];
+    let mut records = [UNWRITTEN; RECORDS_NUMBERS];
+    let mut removed = [UNWRITTEN; SEATS];
+    assert_eq!(buffers::fresh(&mut world), Ok(()));
+    for (id, x) in [(12, 50), (5, 90), (8, -90)] {
+        assert_eq!(buffers::join(&mut world, &SPIKED, id, x, 16), Ok(()));
+    }
+    for ids in [&[5, 12][..], &[]] {
+        let count = buffers::step(&mut world, &SPIKED, &mut records, &mut removed);
+        assert_eq!(count, Ok(ids.len()));
+        assert_eq!(removed[..ids.len()], *ids);
+        assert!(removed[ids.len()..].iter().all(|&number| number == 0));
+    }
 }
 
 /// In a fresh world, and after somebody has left.
@@ -101,19 +135,26 @@ fn any_number(random: &mut Xorshift) -> i32 {
     random.pattern() as i32 >> shift
 }
 
-/// A call ends on any numbers, and changes nothing where it refuses.
+/// A call ends on any numbers, and changes nothing where it refuses. Who was removed has a
+/// record and no seat.
 #[test]
 fn any_numbers_are_taken() {
     let mut random = Xorshift::default();
     for _ in 0..BUFFERS {
         let mut world = [0; WORLD_NUMBERS].map(|_| any_number(&mut random));
         let mut records = [0; RECORDS_NUMBERS];
+        let mut removed = [0; SEATS];
         for _ in 0..STEPS {
-            let before = (world, records);
-            let answer = buffers::step(&mut world, &OPEN, &mut records);
+            let before = (world, records, removed);
+            let answer = buffers::step(&mut world, &SPIKED, &mut records, &mut removed);
             if answer.is_err() {
                 assert_eq!(answer, Err(Refusal::TooFar));
-                assert_eq!((world, records), before);
+                assert_eq!((world, records, removed), before);
+            }
+            for &id in &removed[..answer.unwrap_or(0)] {
+                let seat = &world[TUNINGS + id as usize * SEAT_NUMBERS..][..SEAT_NUMBERS];
+                assert_eq!(records[id as usize * PUBLISHED_NUMBERS], 1);
+                assert_eq!(seat, [0; SEAT_NUMBERS]);
             }
             let id = (random.pattern() % SEATS as u32) as i32;
             let input = [0; INPUT_NUMBERS].map(|_| any_number(&mut random));

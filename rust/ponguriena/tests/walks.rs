@@ -1,6 +1,6 @@
-//! That each value of a walk gets through the C interface to its place.
+//! That each value of a point or a walk gets through the C interface to its place.
 
-use ponguriena::{Map, Refusal, check_line, move_box};
+use ponguriena::{Map, Refusal, Tile, check_line, check_point, move_box};
 
 /// Open above, solid below.
 const TILES: [u8; 6] = [0, 0, 0, 3, 3, 1];
@@ -9,7 +9,41 @@ const MAP: Map = Map {
     height: 2,
     tiles: &TILES,
 };
+/// The same with deadly tiles in place of the open ones but one.
+const SPIKED: Map = Map {
+    tiles: &[2, 4, 2, 3, 3, 1],
+    ..MAP
+};
 const CHARACTER: [f32; 2] = [28.0, 28.0];
+
+#[test]
+fn points() {
+    let tiles = [
+        ([70.0, 20.0], Tile::Deadly),
+        ([40.0, 20.0], Tile::Open),
+        ([70.0, 40.0], Tile::Normal),
+        ([40.0, 40.0], Tile::Unhookable),
+        ([63.4, 20.0], Tile::Open),
+        ([63.5, 20.0], Tile::Deadly),
+        ([-5000.0, -5000.0], Tile::Deadly),
+        ([5000.0, 5000.0], Tile::Normal),
+        ([f32::NAN, f32::NEG_INFINITY], Tile::Deadly),
+    ];
+    for (pos, tile) in tiles {
+        assert_eq!(check_point(SPIKED, pos), Ok(tile), "{pos:?}");
+    }
+}
+
+/// The same on both maps.
+#[test]
+fn spikes_stop_nothing() {
+    for (from, to) in [([5.0, 6.0], [90.0, 6.0]), ([16.0, 16.0], [16.0, 48.0])] {
+        assert_eq!(check_line(SPIKED, from, to), check_line(MAP, from, to));
+        let [vel_x, vel_y] = [to[0] - from[0], to[1] - from[1]];
+        let moved = |map| move_box(map, from, [vel_x, vel_y], CHARACTER);
+        assert_eq!(moved(SPIKED), moved(MAP));
+    }
+}
 
 #[test]
 fn lines() {
@@ -31,6 +65,7 @@ fn boxes() {
 #[test]
 fn refusals() {
     let narrow = Map { width: 2, ..MAP };
+    assert_eq!(check_point(narrow, [0.0; 2]), Err(Refusal::BadMap));
     assert_eq!(check_line(narrow, [0.0; 2], [9.0; 2]), Err(Refusal::BadMap));
     assert_eq!(
         move_box(narrow, [0.0; 2], [9.0; 2], CHARACTER),

@@ -1,6 +1,6 @@
 //! The calls of a world: what each does, and the lowest refusal first.
 
-use ponguriena::{Map, PlayerInput, Refusal, SEATS, World};
+use ponguriena::{CharacterCore, Map, PlayerInput, Refusal, SEATS, World};
 
 const OPEN: Map = Map {
     width: 3,
@@ -19,6 +19,13 @@ const FLOOR: Map = Map {
     width: 3,
     height: 3,
     tiles: &[0, 0, 0, 0, 0, 0, 1, 1, 1],
+};
+
+/// Its right column is deadly.
+const SPIKED: Map = Map {
+    width: 3,
+    height: 3,
+    tiles: &[0, 0, 2, 0, 0, 2, 0, 0, 2],
 };
 
 const NO_MAP: Map = Map { width: 2, ..OPEN };
@@ -99,8 +106,7 @@ fn who_left_is_as_if_never_there() -> Result<(), Refusal> {
 }
 
 /// The first holds the second, the third the first.
-#[test]
-fn who_left_is_held_by_nobody() -> Result<(), Refusal> {
+fn holding() -> Result<World, Refusal> {
     let mut world = World::fresh();
     for (id, x) in [(1, 0), (2, 120), (3, -120)] {
         world.join(&OPEN, id, x, 0)?;
@@ -110,13 +116,71 @@ fn who_left_is_held_by_nobody() -> Result<(), Refusal> {
     for _ in 0..3 {
         world.step(&OPEN)?;
     }
-    let hook = |world: &World, id| {
-        let core = world.record(id).expect("present");
-        (core.hook_state, core.hooked_player)
-    };
-    assert_eq!([hook(&world, 1), hook(&world, 3)], [(5, 2), (5, 1)]);
+    Ok(world)
+}
+
+/// Its state, and whom it holds.
+fn hook(core: CharacterCore) -> (i32, i32) {
+    (core.hook_state, core.hooked_player)
+}
+
+#[test]
+fn who_left_is_held_by_nobody() -> Result<(), Refusal> {
+    let mut world = holding()?;
+    assert_eq!(hook(world.record(1)?), (5, 2));
+    assert_eq!(hook(world.record(3)?), (5, 1));
     world.leave(2)?;
-    assert_eq!([hook(&world, 1), hook(&world, 3)], [(-1, -1), (5, 1)]);
+    assert_eq!(hook(world.record(1)?), (-1, -1));
+    assert_eq!(hook(world.record(3)?), (5, 1));
+    Ok(())
+}
+
+/// The record is taken before the removal, so it still tells the grab.
+#[test]
+fn who_died_is_held_by_nobody() -> Result<(), Refusal> {
+    let mut world = holding()?;
+    let records = world.step(&SPIKED)?;
+    assert_eq!(records.removed(), [2]);
+    let cores: Vec<_> = records.iter().map(|(id, core)| (id, hook(core))).collect();
+    assert_eq!(cores, [(1, (5, 2)), (2, (0, -1)), (3, (5, 1))]);
+    assert_eq!(world.record(2), Err(Refusal::Absent));
+    assert_eq!(hook(world.record(1)?), (-1, -1));
+    assert_eq!(hook(world.record(3)?), (5, 1));
+    Ok(())
+}
+
+/// By rising id, and not before the step that is accepted.
+#[test]
+fn who_ends_a_step_on_spikes_is_removed() -> Result<(), Refusal> {
+    let mut world = World::fresh();
+    for (id, x, y) in [(9, 90, 20), (3, 50, 20), (4, 49, 70)] {
+        world.join(&SPIKED, id, x, y)?;
+    }
+    assert_eq!(world.step(&NO_MAP), Err(Refusal::BadMap));
+    world.input(9, HOOK)?;
+    let records = world.step(&SPIKED)?;
+    let ids: Vec<i32> = records.iter().map(|(id, _)| id).collect();
+    assert_eq!((&ids[..], records.removed()), (&[3, 4, 9][..], &[3, 9][..]));
+    assert_eq!(world.step(&SPIKED)?.removed(), []);
+    world.leave(4)?;
+    assert_eq!(world, World::fresh());
+    Ok(())
+}
+
+#[test]
+fn everybody_dies_wherever_they_are() -> Result<(), Refusal> {
+    let spikes = Map {
+        width: 1,
+        height: 1,
+        tiles: &[2],
+    };
+    let ids: Vec<i32> = (0..SEATS as i32).collect();
+    let mut world = World::fresh();
+    for &id in &ids {
+        world.join(&spikes, id, 5000 * id, -5000)?;
+    }
+    assert_eq!(world.step(&spikes)?.removed(), ids);
+    assert_eq!(world, World::fresh());
     Ok(())
 }
 

@@ -16,13 +16,17 @@ typedef struct {
 
 static const uint8_t OPEN_TILES[9] = {0};
 static const uint8_t FLOOR_TILES[9] = {0, 0, 0, 0, 0, 0, 1, 1, 3};
+static const uint8_t SPIKED_TILES[9] = {0, 0, 2, 0, 0, 2, 0, 0, 2};
 
 static const Map OPEN = {3, 3, OPEN_TILES, 9};
 static const Map FLOOR = {3, 3, FLOOR_TILES, 9};
+static const Map SPIKED = {3, 3, SPIKED_TILES, 9};
 static const Map NO_MAP = {4, 3, OPEN_TILES, 9};
 
 static int32_t world[PONGURIENA_WORLD];
 static int32_t records[PONGURIENA_RECORDS];
+static int32_t removed[PONGURIENA_SEATS];
+static size_t removed_count = 77;
 static int differences = 0;
 
 static void same(const char *what, int64_t is, int64_t expected) {
@@ -58,7 +62,7 @@ static uint32_t join(Map map, int32_t id, int32_t x, int32_t y) {
 
 static uint32_t step(Map map) {
     return ponguriena_step(world, LENGTH(world), map.width, map.height, map.tiles, map.length,
-                           records, LENGTH(records));
+                           records, LENGTH(records), removed, LENGTH(removed), &removed_count);
 }
 
 static uint32_t input(int32_t id, const int32_t *n) {
@@ -76,8 +80,10 @@ static void a_fall(void) {
     same("fresh", fresh(), PONGURIENA_ACCEPTED);
     same("join", join(OPEN, 3, 48, 48), PONGURIENA_ACCEPTED);
     same("step", step(OPEN), PONGURIENA_ACCEPTED);
+    same("how many are removed", (int64_t)removed_count, 0);
     for (int32_t id = 0; id < PONGURIENA_SEATS; id++) {
         same("presence", records[id * PONGURIENA_PUBLISHED], id == 3);
+        same("removed", removed[id], 0);
     }
     same_numbers("published", records + 3 * PONGURIENA_PUBLISHED + 1, fallen, LENGTH(fallen));
     same_numbers("in the world", world + PONGURIENA_TUNINGS + 3 * PONGURIENA_SEAT + 1, fallen,
@@ -140,7 +146,12 @@ static void lengths(void) {
     same("input", ponguriena_input(world, less, 16, 0, 0, 0, 0, 0), PONGURIENA_BAD_LENGTH);
     same("tune", ponguriena_tune(world, less, 18, 0), PONGURIENA_BAD_LENGTH);
     same("step",
-         ponguriena_step(world, LENGTH(world), 0, 0, OPEN_TILES, 9, records, LENGTH(records) - 1),
+         ponguriena_step(world, LENGTH(world), 0, 0, OPEN_TILES, 9, records, LENGTH(records) - 1,
+                         removed, LENGTH(removed), &removed_count),
+         PONGURIENA_BAD_LENGTH);
+    same("step with few to remove",
+         ponguriena_step(world, LENGTH(world), 0, 0, OPEN_TILES, 9, records, LENGTH(records),
+                         removed, LENGTH(removed) - 1, &removed_count),
          PONGURIENA_BAD_LENGTH);
     same("record", ponguriena_record(world, LENGTH(world), 16, &number, 1), PONGURIENA_BAD_LENGTH);
     same("player_input", ponguriena_player_input(world, LENGTH(world), 16, &number, 1),
@@ -185,6 +196,41 @@ static void a_floor(void) {
     same("mark", ponguriena_floor_mark(world, LENGTH(world), 3, &mark), PONGURIENA_ACCEPTED);
     same("mark on the floor", mark, 1);
     same("in the world", world[PONGURIENA_TUNINGS + 4 * PONGURIENA_SEAT - 1], 1);
+}
+
+/* The records are those of all; of the buffers a refused step writes none. */
+static void spikes(void) {
+    static const int32_t dead[PONGURIENA_SEATS] = {2, 7};
+    same("fresh", fresh(), PONGURIENA_ACCEPTED);
+    same("join of 7", join(SPIKED, 7, 80, 20), PONGURIENA_ACCEPTED);
+    same("join of 2", join(SPIKED, 2, 50, 80), PONGURIENA_ACCEPTED);
+    same("join of 4", join(SPIKED, 4, 10, 20), PONGURIENA_ACCEPTED);
+    removed_count = 77;
+    same("step without a map", step(NO_MAP), PONGURIENA_BAD_MAP);
+    same("count after a refusal", (int64_t)removed_count, 77);
+    same("step", step(SPIKED), PONGURIENA_ACCEPTED);
+    same("how many are removed", (int64_t)removed_count, 2);
+    same_numbers("removed", removed, dead, LENGTH(dead));
+    for (int32_t id = 0; id < PONGURIENA_SEATS; id++) {
+        same("record", records[id * PONGURIENA_PUBLISHED], id == 2 || id == 4 || id == 7);
+        same("seat", world[PONGURIENA_TUNINGS + id * PONGURIENA_SEAT], id == 4);
+    }
+    same("leave of 7", ponguriena_leave(world, LENGTH(world), 7), PONGURIENA_ABSENT);
+}
+
+static void points(void) {
+    uint32_t tile = 9;
+    same("no map", ponguriena_check_point(4, 3, SPIKED_TILES, 9, 70.0f, 40.0f, &tile),
+         PONGURIENA_BAD_MAP);
+    same("tile after a refusal", tile, 9);
+    same("check_point", ponguriena_check_point(3, 3, SPIKED_TILES, 9, 70.0f, 40.0f, &tile), 0);
+    same("deadly", tile, 2);
+    same("check_point", ponguriena_check_point(3, 3, FLOOR_TILES, 9, 70.0f, 900.0f, &tile), 0);
+    same("unhookable", tile, 3);
+    same("check_point", ponguriena_check_point(3, 3, FLOOR_TILES, 9, -70.0f, 70.0f, &tile), 0);
+    same("solid", tile, 1);
+    same("check_point", ponguriena_check_point(3, 3, FLOOR_TILES, 9, 70.0f, 40.0f, &tile), 0);
+    same("open", tile, 0);
 }
 
 static void walks(void) {
@@ -249,6 +295,8 @@ int main(void) {
     a_step_too_far();
     a_leave();
     a_floor();
+    spikes();
+    points();
     walks();
     numbers();
     packing();

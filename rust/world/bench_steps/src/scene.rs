@@ -113,7 +113,7 @@ fn accept(world: &mut World, map: &Map, calls: &[Call]) {
 
 impl Speeds {
     fn add(&mut self, published: &Published) {
-        for core in published.iter().flatten() {
+        for core in published.records.iter().flatten() {
             let speed = f64::hypot(f64::from(core.vel_x), f64::from(core.vel_y)) / 256.0;
             self.sum += speed;
             self.fast += usize::from(speed > RAMP_START);

@@ -29,7 +29,7 @@ const ACCEL: i32 = 1000;
 
 /// Those that a league would play.
 pub fn games(random: &mut Xorshift) -> Vec<Scene> {
-    let map = &walled(WIDTH, HEIGHT, random);
+    let map = &course(random);
     let fast = Plan {
         map,
         players: SEATS,
@@ -46,7 +46,7 @@ pub fn games(random: &mut Xorshift) -> Vec<Scene> {
 
 /// Growth with the number of players.
 pub fn by_players(random: &mut Xorshift) -> Vec<Scene> {
-    let map = &walled(WIDTH, HEIGHT, random);
+    let map = &course(random);
     let scene = |&players: &usize| {
         let name = format!("players: {players}");
         Scene::drawn(&name, &ordinary(map, players), random)
@@ -56,7 +56,7 @@ pub fn by_players(random: &mut Xorshift) -> Vec<Scene> {
 
 /// For the calls that are not steps.
 pub fn crowds(random: &mut Xorshift) -> [Scene; 2] {
-    let map = &walled(WIDTH, HEIGHT, random);
+    let map = &course(random);
     [("sixteen", SEATS), ("one", 1)]
         .map(|(name, players)| Scene::drawn(name, &ordinary(map, players), random))
 }
@@ -74,6 +74,11 @@ pub fn by_speed(random: &mut Xorshift) -> Vec<Scene> {
         Scene::drawn(&format!("running at {speed}"), &plan, random)
     };
     SPEEDS.iter().map(scene).collect()
+}
+
+/// Without spikes, so that everybody plays to the end.
+fn course(random: &mut Xorshift) -> Map {
+    walled(WIDTH, HEIGHT, random).without_spikes()
 }
 
 /// Under the game's own tunings.

@@ -1,10 +1,19 @@
 //! The port and libtw2, each with a world of its own on the map of a scene.
 
 use crate::scene::Scene;
-use harness::Call;
-use harness::encoding::{RECORDS_NUMBERS, WORLD_NUMBERS, encoded, encoded_records};
+use harness::encoding::{
+    RECORDS_NUMBERS, WORLD_NUMBERS, encoded, encoded_records, encoded_removed,
+};
+use harness::{Call, SEATS};
 use ponguriena::buffers;
 use port_calls::{call_on, lent};
+
+/// The whole world, and what the last step published.
+pub type Numbers = (
+    [i32; WORLD_NUMBERS],
+    [i32; RECORDS_NUMBERS],
+    ([i32; SEATS], usize),
+);
 
 pub trait Side<'a>: Sized {
     fn on(scene: &'a Scene) -> Self;
@@ -17,14 +26,15 @@ pub trait Side<'a>: Sized {
     }
 
     fn call(&mut self, call: Call);
-    /// The whole world, and what the last step published.
-    fn numbers(&self) -> ([i32; WORLD_NUMBERS], [i32; RECORDS_NUMBERS]);
+    fn numbers(&self) -> Numbers;
 }
 
 pub struct Port<'a> {
     map: ponguriena::Map<'a>,
     world: [i32; WORLD_NUMBERS],
     records: [i32; RECORDS_NUMBERS],
+    removed: [i32; SEATS],
+    count: usize,
 }
 
 pub struct Original<'a> {
@@ -41,16 +51,19 @@ impl<'a> Side<'a> for Port<'a> {
             map: lent(&scene.map),
             world,
             records: [0; RECORDS_NUMBERS],
+            removed: [0; SEATS],
+            count: 0,
         }
     }
 
     fn call(&mut self, call: Call) {
-        let answer = call_on(&mut self.world, &self.map, call, &mut self.records);
-        answer.expect("the scene was accepted when it was drawn");
+        let (records, removed) = (&mut self.records, &mut self.removed);
+        let answer = call_on(&mut self.world, &self.map, call, records, removed);
+        self.count = answer.expect("the scene was accepted when it was drawn");
     }
 
-    fn numbers(&self) -> ([i32; WORLD_NUMBERS], [i32; RECORDS_NUMBERS]) {
-        (self.world, self.records)
+    fn numbers(&self) -> Numbers {
+        (self.world, self.records, (self.removed, self.count))
     }
 }
 
@@ -75,7 +88,9 @@ impl<'a> Side<'a> for Original<'a> {
         answer.expect("the scene was accepted when it was drawn");
     }
 
-    fn numbers(&self) -> ([i32; WORLD_NUMBERS], [i32; RECORDS_NUMBERS]) {
-        (encoded(&self.world), encoded_records(&self.published))
+    fn numbers(&self) -> Numbers {
+        let published = &self.published;
+        let removed = encoded_removed(published);
+        (encoded(&self.world), encoded_records(published), removed)
     }
 }

@@ -1,7 +1,7 @@
 //! Compares the port's world with document 01's world over libtw2: every answer,
-//! all records and the whole world after each call. Sequences of calls go through
-//! the safe `World`; single calls on any numbers go through the buffers. Arguments:
-//! how many sequences, how many buffers, and a seed.
+//! all records, who is removed and the whole world after each call. Sequences of
+//! calls go through the safe `World`; single calls on any numbers go through the
+//! buffers. Arguments: how many sequences, how many buffers, and a seed.
 
 mod any_numbers;
 mod differs;

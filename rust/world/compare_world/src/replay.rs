@@ -31,6 +31,8 @@ fn compare_line(world: &mut World, line: &Line) -> Result<(), Differs> {
     same("answer", number(&answer), line.number())?;
     if let (Ok(Some(records)), Ok(published)) = (answer, &line.answer) {
         same("records", listed(&records), expected(published))?;
+        let removed: Vec<i32> = published.removed_ids().collect();
+        same("removed", records.removed(), &removed)?;
     }
     same_numbers("world", world.numbers(), &encoded(&line.after))
 }
@@ -42,7 +44,8 @@ fn listed(records: &Records) -> Vec<(i32, [i32; CORE_NUMBERS])> {
 
 fn expected(published: &Published) -> Vec<(i32, [i32; CORE_NUMBERS])> {
     let numbers = |(id, core): (i32, &Option<_>)| Some((id, core_numbers((*core)?)));
-    (0..).zip(published).filter_map(numbers).collect()
+    let records = (0..).zip(&published.records);
+    records.filter_map(numbers).collect()
 }
 
 /// What is read of each seat and of each tuning.

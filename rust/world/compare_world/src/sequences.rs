@@ -8,7 +8,7 @@ use tile_map::draw::{below, pick, random_map};
 
 type Draw = fn(&mut Xorshift) -> Sequence;
 
-const KINDS: [Draw; 7] = [
+const KINDS: [Draw; 8] = [
     play::ordinary,
     play::full,
     play::apart,
@@ -16,6 +16,7 @@ const KINDS: [Draw; 7] = [
     play::limits,
     play::at_map_ends,
     wrong_sides,
+    play::spiked,
 ];
 
 const CALLS: usize = 70;

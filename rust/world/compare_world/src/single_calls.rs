@@ -4,8 +4,8 @@ use crate::any_numbers::{self, Numbers};
 use crate::differs::{Differs, same, same_numbers};
 use crate::sequences;
 use harness::draw::any_call;
-use harness::encoding::{RECORDS_NUMBERS, decoded, encoded, encoded_records};
-use harness::{Call, Refusal};
+use harness::encoding::{RECORDS_NUMBERS, decoded, encoded, encoded_records, encoded_removed};
+use harness::{Call, Refusal, SEATS};
 use port_calls::{call_on, lent, number};
 use reference::Xorshift;
 use std::fmt::{Display, Formatter, Result as Written};
@@ -16,7 +16,7 @@ use tile_map::draw::below;
 /// So many calls are made on each buffer, one after another.
 const CALLS: usize = 6;
 
-/// What the records' buffer holds before.
+/// What the buffers that a step writes hold before.
 const UNWRITTEN: i32 = 77;
 
 #[derive(Default)]
@@ -24,6 +24,7 @@ pub struct Tally {
     accepted: usize,
     refused: usize,
     stopped: usize,
+    removed: usize,
 }
 
 /// The numbers that a call leaves.
@@ -31,6 +32,9 @@ struct Left {
     answer: u32,
     world: Numbers,
     records: [i32; RECORDS_NUMBERS],
+    removed: [i32; SEATS],
+    /// How many of them count.
+    count: usize,
 }
 
 pub fn compare(seed: u64, number: u64, tally: &mut Tally) -> Result<(), Differs> {
@@ -64,6 +68,9 @@ fn compare_call(
     same("answer", port.answer, expected.answer)?;
     same_numbers("world", &port.world, &expected.world)?;
     same_numbers("records", &port.records, &expected.records)?;
+    same_numbers("removed", &port.removed, &expected.removed)?;
+    same("count of the removed", port.count, expected.count)?;
+    tally.removed += port.count;
     match port.answer {
         0 => tally.accepted += 1,
         _ => tally.refused += 1,
@@ -73,11 +80,14 @@ fn compare_call(
 
 fn left_by_port(mut world: Numbers, map: &Map, call: Call) -> Left {
     let mut records = [UNWRITTEN; RECORDS_NUMBERS];
-    let answer = number(&call_on(&mut world, &lent(map), call, &mut records));
+    let mut removed = [UNWRITTEN; SEATS];
+    let answer = call_on(&mut world, &lent(map), call, &mut records, &mut removed);
     Left {
-        answer,
+        answer: number(&answer),
         world,
         records,
+        removed,
+        count: answer.unwrap_or(0),
     }
 }
 
@@ -85,24 +95,27 @@ fn left_by_port(mut world: Numbers, map: &Map, call: Call) -> Left {
 fn left_by_original(before: Numbers, map: &Map, call: Call) -> Left {
     let mut world = decoded(&before);
     let answer = world.call(map, call);
-    let records = match (call, &answer) {
-        (Call::Step, Ok(published)) => encoded_records(published),
-        _ => [UNWRITTEN; RECORDS_NUMBERS],
+    let (records, (removed, count)) = match (call, &answer) {
+        (Call::Step, Ok(published)) => (encoded_records(published), encoded_removed(published)),
+        _ => ([UNWRITTEN; RECORDS_NUMBERS], ([UNWRITTEN; SEATS], 0)),
     };
     Left {
         answer: answer.map_or_else(Refusal::number, |_| 0),
         world: answer.map_or(before, |_| encoded(&world)),
         records,
+        removed,
+        count,
     }
 }
 
 impl Display for Tally {
     fn fmt(&self, formatter: &mut Formatter<'_>) -> Written {
         let (accepted, refused) = (self.accepted, self.refused);
-        let stopped = self.stopped;
+        let (stopped, removed) = (self.stopped, self.removed);
         write!(
             formatter,
-            "{accepted} accepted, {refused} refused, {stopped} on which libtw2 stops"
+            "{accepted} accepted, {refused} refused, {stopped} on which libtw2 stops, \
+             {removed} characters removed"
         )
     }
 }

@@ -1,7 +1,7 @@
 //! That the sequences are worth comparing.
 
 use crate::sequences::drawn;
-use harness::Call;
+use harness::{Call, Published};
 use std::collections::BTreeSet;
 
 const SEQUENCES: u64 = 200;
@@ -19,6 +19,29 @@ fn steps_are_most_often_accepted() {
     let steps = lines.filter(|line| matches!(line.call, Call::Step));
     let (accepted, refused): (Vec<_>, Vec<_>) = steps.partition(|line| line.number() == 0);
     assert!(accepted.len() > 3 * refused.len());
+}
+
+/// One, several and everybody, and some who are held.
+#[test]
+fn some_are_removed() {
+    let lines = (0..SEQUENCES).flat_map(|number| drawn(3, number).lines);
+    let steps = lines.filter_map(|line| line.answer.ok());
+    let removed: Vec<_> = steps.filter(|told| told.removed.contains(&true)).collect();
+    let several = removed.iter().filter(|told| told.removed_ids().count() > 1);
+    let everybody = |told: &&Published| told.records.map(|core| core.is_some()) == told.removed;
+    let counts = [
+        removed.len(),
+        several.count(),
+        removed.iter().filter(everybody).count(),
+        removed.iter().filter(|told| held(told)).count(),
+    ];
+    assert!(counts.iter().all(|&count| count >= 5), "{counts:?}");
+}
+
+/// Whether somebody who is removed was held.
+fn held(told: &Published) -> bool {
+    let mut records = told.records.iter().flatten();
+    records.any(|core| usize::try_from(core.hooked_player).is_ok_and(|id| told.removed[id]))
 }
 
 #[test]

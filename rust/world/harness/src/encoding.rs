@@ -2,9 +2,10 @@
 //! seat its presence, its record, its input and its floor mark, or zeros where
 //! nobody is.
 
+use crate::published::Published;
 use crate::slot::{SEATS, Slot};
 use crate::tunings::TUNINGS;
-use crate::world::{Published, World};
+use crate::world::World;
 use libtw2_gamenet::snap_obj::Tick;
 use original::{
     CORE_NUMBERS, Character, INPUT_NUMBERS, core_numbers, core_of, input_numbers, input_of,
@@ -63,11 +64,19 @@ fn decoded_slot(seat: &[i32]) -> Slot {
 /// For each seat its presence and its record.
 pub fn encoded_records(published: &Published) -> [i32; RECORDS_NUMBERS] {
     let mut numbers = [0; RECORDS_NUMBERS];
-    for (seat, core) in numbers.chunks_mut(PUBLISHED_NUMBERS).zip(published) {
+    for (seat, core) in numbers.chunks_mut(PUBLISHED_NUMBERS).zip(published.records) {
         if let Some(core) = core {
             seat[0] = 1;
-            seat[1..].copy_from_slice(&core_numbers(*core));
+            seat[1..].copy_from_slice(&core_numbers(core));
         }
     }
     numbers
+}
+
+/// Who was removed, by rising id and with zeros behind, and how many count.
+pub fn encoded_removed(published: &Published) -> ([i32; SEATS], usize) {
+    let ids: Vec<i32> = published.removed_ids().collect();
+    let mut numbers = [0; SEATS];
+    numbers[..ids.len()].copy_from_slice(&ids);
+    (numbers, ids.len())
 }

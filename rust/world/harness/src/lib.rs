@@ -5,6 +5,7 @@ pub mod draw;
 pub mod encoding;
 mod others;
 mod physics;
+mod published;
 mod refusal;
 mod slot;
 #[cfg(test)]
@@ -15,6 +16,7 @@ mod world;
 
 pub use call::{CALL_NUMBERS, Call};
 pub use physics::Rules;
+pub use published::{NOTHING, Published};
 pub use refusal::Refusal;
 pub use slot::{SEATS, Slot, Slots};
-pub use world::{LONGEST_SIDE, NOTHING, Published, World};
+pub use world::{LONGEST_SIDE, World};

@@ -26,6 +26,16 @@ impl Rules<'_> {
             .any(|x| map.check_point(below(x)).is_some())
     }
 
+    /// Whether a corner of its box is on a deadly tile.
+    pub fn on_spikes(self, character: Character) -> bool {
+        let pos = State::from(character).pos;
+        let half = CHARACTER_SIZE / 2.0;
+        let corners = [(-half, -half), (half, -half), (-half, half), (half, half)];
+        corners
+            .into_iter()
+            .any(|(x, y)| self.map.is_deadly(pos + vec2::new(x, y)))
+    }
+
     /// Changes the velocities of others that are dragged; after a refusal they are void.
     pub fn ticked(self, slots: &mut Slots, id: usize) -> Result<Character, Refusal> {
         let me = without_overflow(slots[id].character);

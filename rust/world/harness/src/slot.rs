@@ -45,3 +45,11 @@ impl Slot {
         }
     }
 }
+
+/// As if that one had never been there. Whoever held it holds nobody from now on.
+pub fn vacate(slots: &mut Slots, id: usize) {
+    for slot in slots.iter_mut() {
+        slot.release(id as u32);
+    }
+    slots[id] = Slot::absent();
+}

@@ -1,7 +1,8 @@
 //! The example of document 01, the order among refusals, and that a refused call changes nothing.
 
-use crate::tunings::{HOOK_FIRE_SPEED, HOOK_LENGTH, ORDINARY};
-use crate::{Call, Refusal, SEATS, World};
+use crate::encoding::encoded_removed;
+use crate::tunings::{GRAVITY, HOOK_FIRE_SPEED, HOOK_LENGTH, ORDINARY};
+use crate::{Call, Published, Refusal, SEATS, World};
 use libtw2_gamenet::snap_obj::PlayerInput;
 use original::{State, core_numbers, input_numbers};
 use tile_map::Map;
@@ -23,6 +24,11 @@ fn walled() -> Map {
     Map::from_rows(&["001", "001", "001"])
 }
 
+/// Its right column is deadly.
+fn spiked() -> Map {
+    Map::from_rows(&["002", "002", "002"])
+}
+
 fn no_map() -> Map {
     Map { width: 2, ..open() }
 }
@@ -37,14 +43,42 @@ fn numbers(world: &World) -> Vec<(bool, [u32; 12], [i32; 5], bool)> {
     (0..SEATS).map(slot).collect()
 }
 
+/// The case of the hook, and whom it holds.
+fn hook(world: &World, id: usize) -> [u32; 2] {
+    let words = State::from(world.slots[id].character).words();
+    [words[4], words[5]]
+}
+
+/// Whose record a step took, and whom it removed.
+fn told(published: Published) -> (Vec<i32>, Vec<i32>) {
+    let ids = (0..)
+        .zip(published.records)
+        .filter_map(|(id, record)| record.map(|_| id));
+    (ids.collect(), published.removed_ids().collect())
+}
+
+/// The first holds the second, the third the first.
+fn holding() -> World {
+    let mut world = World::fresh();
+    for (id, x) in [(1, 0), (2, 120), (3, -120)] {
+        world.join(&open(), id, x, 0).expect("clear");
+        world.input(id, HOOK).expect("present");
+    }
+    world.input(2, PlayerInput::default()).expect("present");
+    for _ in 0..3 {
+        world.step(&open()).expect("short walks");
+    }
+    world
+}
+
 #[test]
 fn the_example_falls_half_a_unit() {
     let mut world = World::fresh();
     assert_eq!(world.join(&open(), 0, 48, 48), Ok(()));
     let published = world.step(&open()).expect("a short walk");
-    let record = core_numbers(published[0].expect("present"));
+    let record = core_numbers(published.records[0].expect("present"));
     assert_eq!(record, [0, 48, 49, 0, 128, 0, 0, 0, -1, 0, 0, 0, 0, 0, 0]);
-    assert!(published[1..].iter().all(Option::is_none));
+    assert!(published.records[1..].iter().all(Option::is_none));
 }
 
 #[test]
@@ -117,20 +151,9 @@ fn who_left_is_as_if_never_there() {
     assert_eq!(numbers(&world), numbers(&World::fresh()));
 }
 
-/// The first holds the second, the third the first.
 #[test]
 fn who_left_is_held_by_nobody() {
-    let mut world = World::fresh();
-    for (id, x) in [(1, 0), (2, 120), (3, -120)] {
-        world.join(&open(), id, x, 0).expect("clear");
-        world.input(id, HOOK).expect("present");
-    }
-    world.input(2, PlayerInput::default()).expect("present");
-    for _ in 0..3 {
-        world.step(&open()).expect("short walks");
-    }
-    let hook =
-        |world: &World, id: usize| State::from(world.slots[id].character).words()[4..6].to_vec();
+    let mut world = holding();
     assert_eq!([hook(&world, 1), hook(&world, 3)], [[3, 2], [3, 1]]);
     assert_eq!(world.leave(2), Ok(()));
     assert_eq!([hook(&world, 1), hook(&world, 3)], [[0, 0], [3, 1]]);
@@ -207,4 +230,97 @@ fn a_mark_is_of_where_the_last_step_began() {
     assert_eq!(world.floor_mark(2), Ok(false));
     assert_eq!(world.floor_mark(3), Err(Refusal::Absent));
     assert_eq!(world.floor_mark(16), Err(Refusal::Id));
+}
+
+#[test]
+fn who_ends_a_step_on_spikes_is_removed() {
+    let mut world = World::fresh();
+    for (id, x, y) in [(9, 90, 20), (3, 50, 20), (4, 49, 70)] {
+        world.join(&spiked(), id, x, y).expect("clear");
+        world.input(id, HOOK).expect("present");
+    }
+    let published = world.step(&spiked()).expect("short walks");
+    assert_eq!(told(published), (vec![3, 4, 9], vec![3, 9]));
+    let (ids, count) = encoded_removed(&published);
+    assert_eq!((&ids[..3], count), (&[3, 9, 0][..], 2));
+    assert!(world.slots[4].present);
+    let (left, fresh) = (numbers(&world), numbers(&World::fresh()));
+    assert!((0..SEATS).all(|id| id == 4 || left[id] == fresh[id]));
+}
+
+/// The record is taken before the removal, so it still tells the grab.
+#[test]
+fn who_died_is_held_by_nobody() {
+    let mut world = holding();
+    let published = world.step(&spiked()).expect("short walks");
+    assert_eq!(told(published), (vec![1, 2, 3], vec![2]));
+    let record = published.records[1].expect("present");
+    assert_eq!((record.hook_state, record.hooked_player), (5, 2));
+    assert_eq!([hook(&world, 1), hook(&world, 3)], [[0, 0], [3, 1]]);
+}
+
+#[test]
+fn who_joins_on_spikes_stays_until_the_step() {
+    let mut world = World::fresh();
+    assert_eq!(world.join(&spiked(), 6, 80, 48), Ok(()));
+    assert_eq!(world.join(&spiked(), 6, 80, 48), Err(Refusal::Present));
+    assert_eq!(world.input(6, HOOK), Ok(()));
+    let published = world.step(&spiked()).expect("short walks");
+    assert_eq!(told(published), (vec![6], vec![6]));
+    assert_eq!(world.input(6, HOOK), Err(Refusal::Absent));
+    assert_eq!(world.join(&spiked(), 6, 80, 48), Ok(()));
+}
+
+#[test]
+fn a_refused_step_removes_nobody() {
+    let mut world = World::fresh();
+    for (id, y) in [(0, 20), (1, 70)] {
+        world.join(&spiked(), id, 80, y).expect("clear");
+    }
+    world.input(1, HOOK).expect("present");
+    for index in [HOOK_FIRE_SPEED, HOOK_LENGTH] {
+        world.tune(index as i32, i32::MAX).expect("a tuning");
+    }
+    let before = numbers(&world);
+    assert_eq!(world.step(&spiked()).err(), Some(Refusal::TooFar));
+    assert_eq!(world.step(&no_map()).err(), Some(Refusal::Map));
+    assert_eq!(numbers(&world), before);
+    world.input(1, PlayerInput::default()).expect("present");
+    let published = world.step(&spiked()).expect("short walks");
+    assert_eq!(told(published), (vec![0, 1], vec![0, 1]));
+}
+
+/// Every point is on the one tile of this map.
+#[test]
+fn everybody_dies_at_once() {
+    let spikes = Map::from_rows(&["2"]);
+    let mut world = World::fresh();
+    world.join(&spikes, 0, 5000, 5000).expect("clear");
+    for id in 1..SEATS as i32 {
+        world.join(&spikes, id, -50 * id, 50).expect("clear");
+    }
+    let all: Vec<i32> = (0..SEATS as i32).collect();
+    let published = world.step(&spikes).expect("short walks");
+    assert_eq!(told(published), (all.clone(), all));
+    assert_eq!(numbers(&world), numbers(&World::fresh()));
+    let published = world.step(&spikes).expect("nobody walks");
+    assert_eq!(told(published), (vec![], vec![]));
+}
+
+/// At the last unit at which just that corner is on the middle tile.
+#[test]
+fn every_corner_kills_alone() {
+    let map = Map::from_rows(&["000", "020", "000"]);
+    let dies = |x, y| {
+        let mut world = World::fresh();
+        world.tune(GRAVITY as i32, 0).expect("a tuning");
+        world.join(&map, 8, x, y).expect("clear");
+        world.step(&map).expect("short walks").removed[8]
+    };
+    for (x, away_x) in [(18, -1), (77, 1)] {
+        for (y, away_y) in [(18, -1), (77, 1)] {
+            assert!(dies(x, y));
+            assert!(!dies(x + away_x, y) && !dies(x, y + away_y));
+        }
+    }
 }

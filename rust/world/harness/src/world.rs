@@ -2,21 +2,16 @@
 
 use crate::call::Call;
 use crate::physics::Rules;
+use crate::published::{NOTHING, Published};
 use crate::refusal::Refusal;
-use crate::slot::{SEATS, Slot, Slots};
+use crate::slot::{SEATS, Slot, Slots, vacate};
 use crate::tunings::{ORDINARY, TUNINGS, tune_params};
-use libtw2_gamenet::snap_obj::{CharacterCore, PlayerInput};
+use libtw2_gamenet::snap_obj::PlayerInput;
 use original::{CHARACTER_SIZE, Character, Collision, vec2};
 use tile_map::Map;
 
 pub const LONGEST_SIDE: usize = 1024;
 const FARTHEST: i32 = 100_000;
-
-/// The record of each id that was present.
-pub type Published = [Option<CharacterCore>; SEATS];
-
-/// What every call but a step publishes, and a step with nobody.
-pub const NOTHING: Published = [None; SEATS];
 
 #[derive(Clone)]
 pub struct World {
@@ -54,12 +49,9 @@ impl World {
         Ok(())
     }
 
-    /// Whoever held it holds nobody from now on.
     pub fn leave(&mut self, id: i32) -> Result<(), Refusal> {
-        *self.present(id)? = Slot::absent();
-        for slot in &mut self.slots {
-            slot.release(id as u32);
-        }
+        self.present(id)?;
+        vacate(&mut self.slots, id as usize);
         Ok(())
     }
 
@@ -81,7 +73,8 @@ impl World {
         let rules = Rules { map, tuning };
         let mut slots = self.slots;
         tick_all(rules, &mut slots)?;
-        let published = move_all(rules, &mut slots)?;
+        let mut published = move_all(rules, &mut slots)?;
+        published.removed = remove_dying(rules, &mut slots);
         self.slots = slots;
         Ok(published)
     }
@@ -116,10 +109,19 @@ fn move_all(rules: Rules, slots: &mut Slots) -> Result<Published, Refusal> {
         if slots[id].present {
             let record = rules.moved(slots, id)?.to_net();
             slots[id].character = Character::from_net(&record);
-            published[id] = Some(record);
+            published.records[id] = Some(record);
         }
     }
     Ok(published)
+}
+
+/// As by a leave, where the step ended on spikes.
+fn remove_dying(rules: Rules, slots: &mut Slots) -> [bool; SEATS] {
+    let dying = slots.map(|slot| slot.present && rules.on_spikes(slot.character));
+    for id in (0..SEATS).filter(|&id| dying[id]) {
+        vacate(slots, id);
+    }
+    dying
 }
 
 /// Whether a character's box is clear there.

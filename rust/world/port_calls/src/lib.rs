@@ -25,20 +25,22 @@ pub fn call(world: &mut World, map: &Map, call: Call) -> Result<Option<Records>,
     Ok(None)
 }
 
-/// An accepted step writes the records.
+/// An accepted step writes the records and who is removed. Answers how many they are.
 pub fn call_on(
     world: &mut [i32],
     map: &Map,
     call: Call,
     records: &mut [i32],
-) -> Result<(), Refusal> {
+    removed: &mut [i32],
+) -> Result<usize, Refusal> {
     match call {
-        Call::Join { id, x, y } => buffers::join(world, map, id, x, y),
-        Call::Leave { id } => buffers::leave(world, id),
-        Call::Input { id, input } => buffers::input(world, id, input_of(input)),
-        Call::Step => buffers::step(world, map, records),
-        Call::Tune { index, hundredths } => buffers::tune(world, index, hundredths),
+        Call::Join { id, x, y } => buffers::join(world, map, id, x, y)?,
+        Call::Leave { id } => buffers::leave(world, id)?,
+        Call::Input { id, input } => buffers::input(world, id, input_of(input))?,
+        Call::Step => return buffers::step(world, map, records, removed),
+        Call::Tune { index, hundredths } => buffers::tune(world, index, hundredths)?,
     }
+    Ok(0)
 }
 
 /// 0 where it was accepted.

@@ -4,17 +4,21 @@ use harness::encoding::{encoded, encoded_records};
 use harness::{Published, World};
 use reference::Bits;
 
-const FACTOR: u64 = 16_777_619;
+pub const FACTOR: u64 = 16_777_619;
 
 /// The largest prime below 2^32.
-const MODULUS: u64 = 4_294_967_291;
+pub const MODULUS: u64 = 4_294_967_291;
 
 pub fn world_digest(world: &World) -> u32 {
     digest(&encoded(world))
 }
 
-pub fn records_digest(published: &Published) -> u32 {
-    digest(&encoded_records(published))
+/// The ids of those who were removed follow the records. Where nobody was it is the
+/// digest of the records alone.
+pub fn published_digest(published: &Published) -> u32 {
+    let mut numbers = encoded_records(published).to_vec();
+    numbers.extend(published.removed_ids());
+    digest(&numbers)
 }
 
 fn digest(numbers: &[i32]) -> u32 {

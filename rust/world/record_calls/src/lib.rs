@@ -10,12 +10,14 @@ mod marks;
 mod play;
 mod refusals;
 mod sequence;
+mod spikes;
 mod steering;
 #[cfg(test)]
 mod tests;
 mod too_far;
 
 pub use sequence::{Line, Sequence};
+pub use spikes::spike_sequences;
 pub use too_far::too_far_sequences;
 
 use reference::Xorshift;
@@ -24,6 +26,7 @@ pub fn all_sequences() -> Vec<Sequence> {
     let mut sequences = session_sequences();
     sequences.extend(marks::mark_sequences());
     sequences.push(leavers::held_by_several());
+    sequences.extend(spike_sequences());
     sequences
 }
 

@@ -18,7 +18,7 @@ pub fn tower() -> Map {
     ])
 }
 
-/// Of one row, so its walls go up and down without end.
+/// Of one row, so its walls and its spikes go up and down without end.
 pub fn corridor() -> Map {
     let open = "000000000000";
     Map::from_rows(&[&format!("1000{open}{open}2000{open}0001{open}9003")])

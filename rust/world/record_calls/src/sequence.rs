@@ -1,6 +1,6 @@
 //! Calls one after another on a world that was fresh, and each as a line of text.
 
-use crate::digest::{records_digest, world_digest};
+use crate::digest::{published_digest, world_digest};
 use harness::{Call, Published, Refusal, World};
 use libtw2_gamenet::snap_obj::PlayerInput;
 use reference::Bits;
@@ -37,14 +37,14 @@ impl Line {
         format!("{fresh} {} {}", self.map.text(), words.join(" "))
     }
 
-    /// Sides, code and arguments, answer, digest of the world, digest of the records.
+    /// Sides, code and arguments, answer, digest of the world, digest of what is published.
     fn words(&self) -> Vec<u32> {
         let mut words = vec![self.sides.0, self.sides.1];
         words.extend(self.call.numbers().map(i32::to_pattern));
         words.push(self.number());
         words.push(world_digest(&self.after));
         words.push(match (self.call, &self.answer) {
-            (Call::Step, Ok(published)) => records_digest(published),
+            (Call::Step, Ok(published)) => published_digest(published),
             _ => 0,
         });
         words

@@ -1,7 +1,9 @@
 //! That the sequences are what the vectors are meant to hold.
 
+mod spikes;
+
 use crate::all_sequences;
-use crate::sequence::Line;
+use crate::sequence::{Line, Sequence};
 use harness::draw::is_clear;
 use harness::tunings::{PLAYER_COLLISION, tune_params};
 use harness::{Call, NOTHING, Refusal, Rules, SEATS, Slots, World};
@@ -14,10 +16,14 @@ const LINE_LENGTH: usize = 180;
 /// With the byte that ends each line.
 const MOST_BYTES: usize = 1_300_000;
 
-/// Each line with the world before it.
 fn all_lines() -> Vec<(World, Line)> {
+    lines_of(all_sequences())
+}
+
+/// Each line with the world before it.
+fn lines_of(sequences: Vec<Sequence>) -> Vec<(World, Line)> {
     let mut lines = Vec::new();
-    for sequence in all_sequences() {
+    for sequence in sequences {
         let mut world = World::fresh();
         for line in sequence.lines {
             let after = line.after.clone();
@@ -264,7 +270,7 @@ fn steps_have_nobody_and_everybody() {
 fn the_largest_velocity_is_published() {
     let largest = |line: &Line| {
         let published = line.answer.unwrap_or(NOTHING);
-        let mut records = published.into_iter().flatten();
+        let mut records = published.records.into_iter().flatten();
         records.any(|record| record.vel_x == i32::MAX)
     };
     assert!(all_lines().iter().any(|(_, line)| largest(line)));

@@ -14,20 +14,20 @@ pub fn print_heading(out: &mut impl Write) -> Result<()> {
     writeln!(out, "{HEADING}")
 }
 
-/// A line for each record, or one where there is none.
+/// A line for each record, or one where there is none. Nothing tells of a removal.
 pub fn print_answer(
     out: &mut impl Write,
     number: u32,
     answer: std::result::Result<Published, Refusal>,
 ) -> Result<()> {
-    let published = match answer {
-        Ok(published) => published,
+    let records = match answer {
+        Ok(published) => published.records,
         Err(refusal) => return print_nobody(out, number, refusal.number()),
     };
-    if published.iter().all(Option::is_none) {
+    if records.iter().all(Option::is_none) {
         return print_nobody(out, number, ACCEPTED);
     }
-    for (id, record) in (0..).zip(published) {
+    for (id, record) in (0..).zip(records) {
         if let Some(record) = record {
             print_line(out, number, ACCEPTED, id, core_numbers(record))?;
         }

@@ -74,6 +74,14 @@ fn a_step_with_nobody() {
     assert_prints(text, &[&nobody(1, 0)]);
 }
 
+/// The record of who is removed is printed, and nothing else for it.
+#[test]
+fn spikes_are_clear_and_deadly() {
+    let text = changed("tiles\n0 0 0\n0 0 0\n", "tiles\n0 0 0\n0 2 0\n");
+    let text = text + "4 0 0 0 0 0 0\n2 0 0 0 0 0 0\n";
+    assert_prints(text, &[JOINED, STEPPED, &nobody(3, 0), &nobody(4, 8)]);
+}
+
 #[test]
 fn a_wall_is_not_clear() {
     let text = changed("tiles\n0 0 0\n0 0 0\n", "tiles\n0 0 0\n0 3 0\n");

@@ -19,7 +19,7 @@ pub use programs::output_of;
 pub use timed::timed;
 
 use Draw::{Bytes, Game};
-use record_calls::Sequence;
+use record_calls::{Sequence, spike_sequences};
 use reference::Xorshift;
 use written::sequence_text;
 
@@ -36,7 +36,7 @@ pub struct Text {
 }
 
 /// Texts of games, and how many of each are recorded.
-const GAMES: [(&str, Draw, usize); 13] = [
+const GAMES: [(&str, Draw, usize); 14] = [
     ("ordinary play", Game(play::ordinary), 24),
     ("every seat", Game(play::full), 8),
     ("no player collision", Game(play::apart), 12),
@@ -50,7 +50,11 @@ const GAMES: [(&str, Draw, usize); 13] = [
     ("a text too long", Bytes(lengths::too_long), 3),
     ("long play", Game(play::long), 0),
     ("many calls", Bytes(lengths::many_calls), 0),
+    (SPIKES, Game(play::spiked), 0),
 ];
+
+/// Drawn as games, and recorded as sequences.
+const SPIKES: &str = "spikes";
 
 /// Each fault is recorded so often.
 const FAULTS_RECORDED: usize = 3;
@@ -107,5 +111,9 @@ pub fn recorded() -> Vec<Text> {
     let bytes = sequence_text(&play::crowded(&mut random));
     let kind = LONG_OUTPUT;
     texts.push(Text { kind, bytes });
+    texts.extend(spike_sequences().iter().map(|sequence| Text {
+        kind: SPIKES,
+        bytes: sequence_text(sequence),
+    }));
     texts
 }

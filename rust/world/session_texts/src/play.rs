@@ -1,6 +1,6 @@
 //! Games.
 
-use crate::maps::{end_map, walled_map};
+use crate::maps::{end_map, spiked_map, walled_map};
 use harness::draw::{any_call, extreme_tuning, input_at_somebody, place, present_id};
 use harness::tunings::{PLAYER_COLLISION, TUNINGS};
 use harness::{Call, SEATS};
@@ -38,6 +38,13 @@ pub fn small(random: &mut Xorshift) -> Sequence {
 pub fn apart(random: &mut Xorshift) -> Sequence {
     let sequence = Sequence::on(&walled_map(random)).tuned(PLAYER_COLLISION, 0);
     played(sequence, SHORT, random)
+}
+
+/// Among spikes; player collision is on or off.
+pub fn spiked(random: &mut Xorshift) -> Sequence {
+    let sequence = Sequence::on(&spiked_map(random));
+    let collision = pick(random, &[0, 100]);
+    played(sequence.tuned(PLAYER_COLLISION, collision), SHORT, random)
 }
 
 /// On maps of one row, of one column, and the like.

@@ -1,6 +1,8 @@
 //! That the texts are what they are meant to be.
 
-use crate::{GAMES, LONG_OUTPUT, Text, drawn, faults, recorded, timed};
+use crate::{GAMES, LONG_OUTPUT, Text, drawn, faults, play, recorded, timed};
+use record_calls::{Line, Sequence};
+use reference::Xorshift;
 use session::{MOST_BYTES, run};
 use std::collections::BTreeSet;
 
@@ -108,7 +110,19 @@ fn a_seed_gives_the_same_texts_again() {
         assert_eq!(drawn(9, number).bytes, drawn(9, number).bytes);
     }
     assert_ne!(drawn(1, 0).bytes, drawn(2, 0).bytes);
-    assert_ne!(drawn(1, 0).bytes, drawn(1, 26).bytes);
+    assert_ne!(drawn(1, 0).bytes, drawn(1, 2 * GAMES.len() as u64).bytes);
+}
+
+/// In most games somebody dies, and in most somebody is left.
+#[test]
+fn spikes_kill_some() {
+    let mut random = Xorshift::default();
+    let games = [(); 100].map(|()| play::spiked(&mut random));
+    let kills = |line: &Line| line.answer.is_ok_and(|told| told.removed.contains(&true));
+    let killed = games.iter().filter(|game| game.lines.iter().any(kills));
+    let is_left = |game: &&Sequence| game.world.slots.iter().any(|slot| slot.present);
+    let counts = [killed.count(), games.iter().filter(is_left).count()];
+    assert!(counts.iter().all(|&count| count > 50), "{counts:?}");
 }
 
 #[test]

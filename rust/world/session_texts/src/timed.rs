@@ -30,9 +30,10 @@ pub fn timed() -> [Text; 2] {
 
 type More = fn(Sequence, &mut Xorshift) -> Sequence;
 
-/// Calls are added until the text is long enough.
+/// Calls are added until the text is long enough. Without spikes, so that everybody stays.
 fn lengthened(more: More, random: &mut Xorshift) -> Vec<u8> {
-    let mut sequence = joined(Sequence::on(&walled_map(random)), SEATS, random);
+    let map = walled_map(random).without_spikes();
+    let mut sequence = joined(Sequence::on(&map), SEATS, random);
     loop {
         sequence = more(sequence, random);
         let mut text = sequence_text(&sequence);

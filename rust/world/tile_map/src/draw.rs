@@ -7,7 +7,7 @@ use reference::Xorshift;
 /// Points are drawn up to this far outside the map.
 const MARGIN: f32 = 40.0;
 
-/// Byte 0 most often, and every byte of one digit that is open too.
+/// Byte 0 most often, and every byte of one digit that is not solid: 2 is deadly.
 const OPEN_TILES: [u8; 20] = [
     0, 0, 0, 0, 0, 2, 2, 4, 4, 5, 6, 7, 8, 9, 10, 11, 12, 13, 14, 15,
 ];

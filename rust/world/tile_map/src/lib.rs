@@ -16,6 +16,9 @@ const MOST_TILES: usize = 64;
 const NORMAL: u8 = 1;
 const UNHOOKABLE: u8 = 3;
 
+/// Stops nobody and nothing, but kills.
+pub const DEADLY: u8 = 2;
+
 #[derive(Clone)]
 pub struct Map {
     pub width: usize,
@@ -49,9 +52,29 @@ impl Map {
             .collect()
     }
 
+    /// Whether the tile of a point is deadly.
+    #[inline]
+    pub fn is_deadly(&self, pos: vec2) -> bool {
+        self.tile(pos) == DEADLY
+    }
+
+    /// The same map with byte 0 in place of every deadly tile.
+    pub fn without_spikes(mut self) -> Map {
+        let deadly = self.tiles.iter_mut().filter(|tile| **tile == DEADLY);
+        deadly.for_each(|tile| *tile = 0);
+        self
+    }
+
     fn middle(&self, index: usize) -> vec2 {
         let along = |number: usize| number as f32 * TILE as f32 + TILE as f32 / 2.0;
         vec2::new(along(index % self.width), along(index / self.width))
+    }
+
+    #[inline]
+    fn tile(&self, pos: vec2) -> u8 {
+        let column = tile_number(pos.x, self.width);
+        let row = tile_number(pos.y, self.height);
+        self.tiles[row * self.width + column]
     }
 
     /// Width, height and tiles in the digits of a line of vectors.
@@ -71,9 +94,7 @@ impl Map {
 impl Collision for &Map {
     #[inline]
     fn check_point(&mut self, pos: vec2) -> Option<CollisionType> {
-        let column = tile_number(pos.x, self.width);
-        let row = tile_number(pos.y, self.height);
-        collision_type(self.tiles[row * self.width + column])
+        collision_type(self.tile(pos))
     }
 }
 

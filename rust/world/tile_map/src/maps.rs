@@ -13,7 +13,8 @@ pub fn floor() -> Map {
     Map::from_rows(&[air, air, air, "1111111133333333"])
 }
 
-/// Walls all around, those at the right and below unhookable, and some tiles inside.
+/// Walls all around, those at the right and below unhookable, and some tiles inside,
+/// one of them deadly.
 pub fn room() -> Map {
     Map::from_rows(&[
         "11111111", "10000003", "10000003", "10030003", "10020043", "11000003", "11000003",

@@ -7,9 +7,10 @@ use reference::Xorshift;
 /// Most tiles are hookable.
 pub const SOLID: [u8; 4] = [1, 1, 1, 3];
 
+/// The first is deadly.
 const OPEN: [u8; 7] = [2, 4, 5, 10, 64, 128, 255];
 
-/// A tile in so many is a platform's, a pillar's, or open but not 0.
+/// A tile in so many is a platform's, a pillar's, or neither solid nor 0.
 const PLATFORM_EVERY: usize = 45;
 const PILLAR_EVERY: usize = 130;
 const OPEN_EVERY: usize = 30;

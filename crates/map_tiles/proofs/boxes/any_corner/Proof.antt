@@ -1,9 +1,9 @@
--- `map_tiles::boxes::check_box` meets its contract. Assumes nothing.
+-- `map_tiles::boxes::any_corner` meets its contract. Assumes nothing.
 use borrow.Author.Needs.{needs}
 use Rattle.map_tiles.proofs.Corners.{box-tiles}
 use Rattle.map_tiles.proofs.Maps.{is-map}
-use Rattle.map_tiles.proofs.boxes.check_box.Statement.{statement}
-use Rattle.map_tiles.proofs.boxes.check_box.Tie as tie
+use Rattle.map_tiles.proofs.boxes.any_corner.Statement.{statement}
+use Rattle.map_tiles.proofs.boxes.any_corner.Tie as tie
 
 mul-requires : tie.Need-mul-requires
 mul-requires c κs = search needs
@@ -20,14 +20,14 @@ tile-at-requires-3 c κs = is-map _ _ (c .before .before .before .before .before
 tile-at-requires-4 : tie.Need-tile-at-requires-4
 tile-at-requires-4 c κs = search needs
 
-solid-corners-requires : tie.Need-solid-corners-requires
-solid-corners-requires c κs = search needs
+corner-tiles-requires : tie.Need-corner-tiles-requires
+corner-tiles-requires c κs = search needs
 
 returns : tie.Need-returns
-returns c = simp (box-tiles, ← c .before .before .before .before .before .before .before .before .before .before .before .before .before .mul .ensures, ← c .before .before .before .before .before .before .before .before .before .before .tile-at .ensures .0, ← c .before .before .before .before .before .before .before .tile-at2 .ensures .0, ← c .before .before .before .before .tile-at3 .ensures .0, ← c .before .tile-at4 .ensures .0, ← c .solid-corners .ensures)
+returns c = simp (box-tiles, ← c .before .before .before .before .before .before .before .before .before .before .before .before .before .mul .ensures, ← c .before .before .before .before .before .before .before .before .before .before .tile-at .ensures .0, ← c .before .before .before .before .before .before .before .tile-at2 .ensures .0, ← c .before .before .before .before .tile-at3 .ensures .0, ← c .before .tile-at4 .ensures .0, ← c .corner-tiles .ensures)
 
-pub check-box-spec : {M : Type 1} → statement M
-check-box-spec =
+pub any-corner-spec : {M : Type 1} → statement M
+any-corner-spec =
     tie.close
     (tie.spec
     mul-requires
@@ -35,5 +35,5 @@ check-box-spec =
     tile-at-requires-2
     tile-at-requires-3
     tile-at-requires-4
-    solid-corners-requires
+    corner-tiles-requires
     returns)

@@ -48,8 +48,12 @@ returns-2 c = simp (c .match .keys2)
 
 returns-3 : tie.Need-returns-3
 unfolding tileIn
-returns-3 c = simp (ne-eqb _ _ (c .match .rest .0 .1), ne-eqb _ _ (c .match .rest .1))
+returns-3 c = simp (c .match .keys3)
+
+returns-4 : tie.Need-returns-4
+unfolding tileIn
+returns-4 c = simp (ne-eqb _ _ (c .match .rest .0 .0 .1), ne-eqb _ _ (c .match .rest .0 .1), ne-eqb _ _ (c .match .rest .1))
 
 pub tile-in-spec : {M : Type 1} → statement M
 tile-in-spec =
-    tie.close (tie.spec mul-at add-at cast-at shared-slice-read-byte returns returns-2 returns-3)
+    tie.close (tie.spec mul-at add-at cast-at shared-slice-read-byte returns returns-2 returns-3 returns-4)

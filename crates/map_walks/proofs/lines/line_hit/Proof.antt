@@ -1,4 +1,5 @@
 -- `map_walks::lines::line_hit` meets its contract. Assumes nothing.
+use mathlib.Core.Logic.{⊎-elim}
 use mathlib.Core.Path.{sym, ap}
 use Prim.Native.Nat.{_-_, _^_}
 use native.Mathlib.Omega.{arith}
@@ -40,6 +41,9 @@ enum-told-2 c = search needs
 enum-told-3 : tie.Need-enum-told-3 Inv-loop μ-loop
 enum-told-3 c = search needs
 
+enum-told-4 : tie.Need-enum-told-4 Inv-loop μ-loop
+enum-told-4 c = search needs
+
 add-i : tie.Need-add-i Inv-loop μ-loop
 add-i c = omega arith
 
@@ -48,7 +52,9 @@ loop-less c = omega arith
 
 loop-again : tie.Need-loop-again Inv-loop μ-loop
 unfolding lineTurn i32ToF32
-loop-again c = turn-on (c .before .before .before .before .before .before .loop .inv) (c .before .before .before .before .before .if1 .left) (simp (← c .before .before .before .mix .ensures, ← c .before .before .check-point .ensures, c .enum-told .given .1))
+loop-again c =
+    turn-on (c .before .before .before .before .before .loop .inv) (c .before .before .before .before .if1 .left)
+    (⊎-elim (λ w. simp (← c .before .before .mix .ensures, ← c .before .check-point .ensures, w .1 .given .1)) (λ w. simp (← c .before .before .mix .ensures, ← c .before .check-point .ensures, w .1 .given .1)) (c .match .came))
 
 returns : tie.Need-returns Inv-loop μ-loop
 unfolding lineHit
@@ -60,7 +66,7 @@ returns-2 c = sym (ap orNothing (turn-off (c .before .before .before .before .be
 
 returns-3 : tie.Need-returns-3 Inv-loop μ-loop
 unfolding lineHit lineTurn i32ToF32
-returns-3 c = sym (ap orNothing (turn-off (c .before .before .before .before .before .before .loop .inv) (c .before .before .before .before .before .if1 .left) (simp (← c .before .before .before .mix .ensures, ← c .before .before .check-point .ensures, c .enum-told3 .given .1))))
+returns-3 c = sym (ap orNothing (turn-off (c .before .before .before .before .before .before .loop .inv) (c .before .before .before .before .before .if1 .left) (simp (← c .before .before .before .mix .ensures, ← c .before .before .check-point .ensures, c .enum-told4 .given .1))))
 
 pub line-hit-spec : {M : Type 1} → statement M
 line-hit-spec =
@@ -75,6 +81,7 @@ line-hit-spec =
     enum-told
     enum-told-2
     enum-told-3
+    enum-told-4
     add-i
     loop-less
     loop-again

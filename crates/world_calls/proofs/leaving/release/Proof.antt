@@ -1,12 +1,12 @@
 -- `world_calls::leaving::release` meets its contract. Assumes nothing.
 use mathlib.Core.List.{List}
-use mathlib.Core.Path.{_≡_, refl, sym, ap, _∙_}
-use Prim.Native.Nat.{ℕ, suc, _+_, _-_, _≤_, _<_}
+use mathlib.Core.Path.{_≡_, refl, ap, _∙_}
+use Prim.Native.Nat.{ℕ, _+_, _-_, _≤_, _<_}
 use native.Mathlib.Numerals.{add-one}
 use native.Mathlib.Omega.{arith}
 use lib.ListN.{length, length-map}
 use borrow.Author.Needs.{needs}
-use Rattle.base_turns.proofs.Mapped.{replaced, replaced-length, replaced-on, replaced-end}
+use Rattle.base_turns.proofs.Mapped.{replaced, replaced-on, replaced-end}
 use Rattle.character.specs.Tick.{seats, slotAt, nowhere}
 use Rattle.character.specs.declared.Slot.{Slot}
 use Rattle.world.specs.Calls.{releasedSlot, release}

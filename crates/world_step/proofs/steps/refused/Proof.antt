@@ -6,8 +6,11 @@ use Rattle.world_step.proofs.steps.refused.Tie as tie
 no-records-requires : tie.Need-no-records-requires
 no-records-requires c κs = search needs
 
+nobody-requires : tie.Need-nobody-requires
+nobody-requires c κs = search needs
+
 returns : tie.Need-returns
-returns c = simp (c .no-records .ensures)
+returns c = simp (c .nobody .ensures, c .before .no-records .ensures)
 
 pub refused-spec : {M : Type 1} → statement M
-refused-spec = tie.close (tie.spec no-records-requires returns)
+refused-spec = tie.close (tie.spec no-records-requires nobody-requires returns)

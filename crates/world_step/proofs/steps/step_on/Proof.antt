@@ -15,14 +15,19 @@ tick-all-requires c κs = search needs
 move-all-requires : tie.Need-move-all-requires
 move-all-requires c κs = search needs
 
+remove-dying-requires : tie.Need-remove-dying-requires
+remove-dying-requires c κs = search needs
+
 returns : tie.Need-returns
 unfolding stepOn
 returns c =
-    let a = c .before .before .before .before .before .before .before .before .before .before .before .args in
-    let t = c .before .before .before .before .before .before .before .tuning-of .result in
-    let k = c .before .before .before .before .before .before .tick-all in
-    let m = c .before .before .before .move-all in
-    simp (← c .before .before .before .before .before .before .before .tuning-of .ensures, ticks-done (a .world .slots) (tickAll seats (a .world .slots) (a .sides) (a .tiles .now) t) (k .result) (k .ensures) (c .before .before .before .before .before .if1 .taken), moves-done (movingFrom seats (k .result .slots)) (moveAll seats (k .result .slots) (a .sides) (a .tiles .now) t) (m .result) (m .ensures) (c .before .before .if2 .taken))
+    let b = c .before .before .before .before .before .before in
+    let a = b .before .before .before .before .before .before .before .before .args in
+    let t = b .before .before .before .before .tuning-of .result in
+    let k = b .before .before .before .tick-all in
+    let m = b .move-all in
+    let d = c .before .before .remove-dying .ensures in
+    simp (← b .before .before .before .before .tuning-of .ensures, ticks-done (a .world .slots) (tickAll seats (a .world .slots) (a .sides) (a .tiles .now) t) (k .result) (k .ensures) (b .before .before .if1 .taken), moves-done (movingFrom seats (k .result .slots)) (moveAll seats (k .result .slots) (a .sides) (a .tiles .now) t) (m .result) (m .ensures) (c .before .before .before .before .before .if2 .taken), d .0, d .1)
 
 refused-requires : tie.Need-refused-requires
 refused-requires c κs = search needs
@@ -54,6 +59,7 @@ step-on-spec =
     tuning-of-requires
     tick-all-requires
     move-all-requires
+    remove-dying-requires
     returns
     refused-requires
     returns-2

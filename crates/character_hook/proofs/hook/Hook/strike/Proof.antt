@@ -19,6 +19,9 @@ enum-told-3 c = search needs
 enum-told-4 : tie.Need-enum-told-4
 enum-told-4 c = search needs
 
+enum-told-5 : tie.Need-enum-told-5
+enum-told-5 c = search needs
+
 returns : tie.Need-returns
 unfolding strike
 returns c = simp (c .enum-told .given .1)
@@ -35,6 +38,10 @@ returns-4 : tie.Need-returns-4
 unfolding strike
 returns-4 c = simp (c .before .before .before .hit .given .1, c .enum-told4 .given .1)
 
+returns-5 : tie.Need-returns-5
+unfolding strike
+returns-5 c = simp (c .before .before .before .hit .given .1, c .enum-told5 .given .1)
+
 pub strike-spec : {M : Type 1} → statement M
 strike-spec =
     tie.close
@@ -45,6 +52,8 @@ strike-spec =
     enum-told-2
     enum-told-3
     enum-told-4
+    enum-told-5
     returns-2
     returns-3
-    returns-4)
+    returns-4
+    returns-5)

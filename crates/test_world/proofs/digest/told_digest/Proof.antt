@@ -1,0 +1,36 @@
+-- `test_world::digest::told_digest` meets its contract. Assumes nothing.
+use Prim.Native.Nat.{ℕ}
+use mathlib.Core.Path.{ap, _∙_}
+use Rattle.test_world.specs.Digest.{digestOf, withIds}
+use borrow.Author.Needs.{needs}
+use Rattle.test_world.proofs.digest.told_digest.Statement.{statement}
+use Rattle.test_world.proofs.digest.told_digest.Tie as tie
+
+slice-aggregate-encode-records : tie.Need-slice-aggregate-encode-records
+slice-aggregate-encode-records c = search needs
+
+encode-records-requires : tie.Need-encode-records-requires
+encode-records-requires c κs = search needs
+
+slice-aggregate-digest : tie.Need-slice-aggregate-digest
+slice-aggregate-digest c = search needs
+
+digest-requires : tie.Need-digest-requires
+digest-requires c κs = search needs
+
+with-ids-requires : tie.Need-with-ids-requires
+with-ids-requires c κs = search needs
+
+returns : tie.Need-returns
+returns c = c .with-ids .ensures ∙ ap (λ (h : ℕ). withIds h (c .before .before .before .before .before .before .args .removed)) (c .before .digest .ensures ∙ ap digestOf (c .before .before .before .before .encode-records .ensures))
+
+pub told-digest-spec : {M : Type 1} → statement M
+told-digest-spec =
+    tie.close
+    (tie.spec
+    slice-aggregate-encode-records
+    encode-records-requires
+    slice-aggregate-digest
+    digest-requires
+    with-ids-requires
+    returns)
