@@ -49,3 +49,7 @@ module _ (f : Tile → Bool) (s : Sides) (ts : List ℕ) where
   pub character-corners : (p : vec2) → anyCorner f s ts p characterBox ≡ corners f s ts (p .x) (p .y) c14 c14
   unfolding vmul mul ofBits
   character-corners p = box-corners p characterBox
+
+  pub character-tiles : (p : vec2) → anyCorner f s ts p characterBox ≡ cornerTiles f s ts (tileAt (s .width) (sub binary32 (p .x) c14)) (tileAt (s .width) (add binary32 (p .x) c14)) (tileAt (s .height) (sub binary32 (p .y) c14)) (tileAt (s .height) (add binary32 (p .y) c14))
+  unfolding checkPoint cornerTiles
+  character-tiles p = character-corners p

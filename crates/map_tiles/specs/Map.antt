@@ -10,8 +10,6 @@ use Rattle.map_corners.specs.Tile.{tileAt}
 use Rattle.map_tiles.specs.declared.tiles.Sides.{Sides}
 use Rattle.map_tiles.specs.declared.point.Tile.{Tile}
 use Rattle.map_tiles.specs.declared.point.Tile.the-variants.{Open, Normal, Deadly, Unhookable}
-use Rattle.map_tiles.specs.declared.point.Quality.{Quality}
-use Rattle.map_tiles.specs.declared.point.Quality.the-variants as quality
 
 -- width and height by two numbers
 abbrev pub sidesOf : ℕ → ℕ → Sides
@@ -50,11 +48,6 @@ deadly Open = false
 deadly Normal = false
 deadly Deadly = true
 deadly Unhookable = false
-
--- one of the two, as it is asked for
-abbrev pub has : Quality → Tile → Bool
-has quality.Solid t = solid t
-has quality.Deadly t = deadly t
 
 -- how often `for _ in 0..z` turns
 abbrev pub count : ℤ → ℕ

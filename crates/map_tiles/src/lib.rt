@@ -5,7 +5,6 @@ mod tiles;
 
 pub use boxes::check_box;
 pub use boxes::on_deadly;
-pub use point::Quality;
 pub use point::Tile;
 pub use point::check_point;
 pub use tiles::Sides;

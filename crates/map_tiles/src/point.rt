@@ -6,19 +6,13 @@ ghost use mathlib.Core.Path.{_≡_};
 ghost use Prim.Native.Nat.{_<_};
 ghost use lib.Dec.{T};
 ghost use Rattle.map_corners.specs.Tile.{tileAt};
-ghost use Rattle.map_tiles.specs.Map.{isMap, tileIn, checkPoint, solid, deadly, has};
+ghost use Rattle.map_tiles.specs.Map.{isMap, tileIn, checkPoint, solid, deadly};
 
 pub enum Tile {
     Open,
     Normal,
     Deadly,
     Unhookable,
-}
-
-// What a tile may be asked for: it stops a body, or it kills one.
-pub enum Quality {
-    Solid,
-    Deadly,
 }
 
 impl Tile {
@@ -33,16 +27,7 @@ impl Tile {
         }
     }
 
-    pub fn has(self, quality: Quality) -> bool
-        ensures { λ r. ⌜ r ≡ has quality self ⌝ }
-    {
-        match quality {
-            Quality::Solid => self.is_solid(),
-            Quality::Deadly => self.is_deadly(),
-        }
-    }
-
-    fn is_deadly(self) -> bool
+    pub fn is_deadly(self) -> bool
         ensures { λ r. ⌜ r ≡ deadly self ⌝ }
     {
         match self {
