@@ -1,0 +1,12 @@
+pub mod Tests
+pub mod Cores
+pub mod Places
+pub mod Steps
+pub mod Messages
+pub mod Linked
+pub mod Shown
+pub mod Along
+pub mod Copies
+pub mod Sparing
+pub mod Unmarked
+pub mod Foreseen
