@@ -19,6 +19,7 @@ pub use tick::Ticked;
 pub use tick::TickedAt;
 pub use walk::Moved;
 pub use walk::MovedAt;
+pub use walk::PlayerWalk;
 ghost use mathlib.Core.Path.{_≡_};
 ghost use Rattle.character.specs.Character.{spawn, withHook};
 

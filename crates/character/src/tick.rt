@@ -142,7 +142,7 @@ impl Character {
     }
 
     // Direction and angle, gravity and jump, the hook's button, walking and friction.
-    fn steer(self, grounded: bool, input: PlayerInput, tuning: Tuning) -> Character
+    pub fn steer(self, grounded: bool, input: PlayerInput, tuning: Tuning) -> Character
         ensures { λ r. ⌜ r ≡ steer self grounded input tuning ⌝ }
     {
         let pos = self.pos;

@@ -1,10 +1,10 @@
 -- Send only surprises: what the sender passes along for each call on a world of n slots, and what a screen does with it. Definitions only.
-use Prim.Native.Nat.{ℕ, _+_}
+use Prim.Native.Nat.{ℕ, _+_, _-_, _*_}
 use mathlib.Core.Bool.{Bool, true, false, cond, not, _&&_, _||_}
 use mathlib.Core.List.{List, [], _∷_, _++_, map}
 use lib.Dec.{eqb, ltb}
 use lib.IntN.{ℤ, pos, negsuc}
-use lib.ListN.{getD, set, replicate}
+use lib.ListN.{length, getD, set, replicate}
 use Rattle.base_turns.specs.Turns.{fold}
 use Rattle.game_refusals.specs.Refusals.{tooFar}
 use Rattle.game_records.specs.Numbers.{coreNumbers}
@@ -29,6 +29,8 @@ use Rattle.send_rule.specs.declared.Copy.{Copy}
 use Rattle.send_rule.specs.declared.Passed.{Passed}
 use Rattle.send_rule.specs.declared.Passed.the-variants as passed
 use Rattle.send_rule.specs.declared.Screen.{Screen}
+use Rattle.send_rule.specs.declared.Item.{Item}
+use Rattle.send_rule.specs.declared.Sending.{Sending}
 
 -- ---- copies
 
@@ -66,16 +68,20 @@ smallWorld n tunings k c = record { slots = set (replicate n emptySlot) k (copyS
 unfoldable pub alone : ℕ → Sides → List ℕ → List ℤ → ℕ → Copy → Stepped
 alone n s ts tunings k c = step n (smallWorld n tunings k c) s ts
 
+-- the copy c with one accepted step more
+abbrev pub withStep : Copy → CharacterCore → Bool → Bool → Copy
+withStep c core removed refused = record { kept = true; core = core; input = c .input; removed = removed; refused = refused; steps = counted (c .steps) }
+
 -- what that step leaves of the copy: the record that it took, or where it was refused the one before
 abbrev pub steppedTo : ℕ → Copy → Stepped → Copy
 steppedTo k c a =
     cond (eqb (a .number) 0)
-    (record { kept = true; core = recordAt (a .records) k .core; input = c .input; removed = isIn k (idsIn (a .removed)); refused = false; steps = counted (c .steps) })
-    (record { kept = true; core = c .core; input = c .input; removed = false; refused = eqb (a .number) tooFar; steps = counted (c .steps) })
+    (withStep c (recordAt (a .records) k .core) (isIn k (idsIn (a .removed))) false)
+    (withStep c (c .core) false (eqb (a .number) tooFar))
 
 -- a copy that its own small world has removed stays with its last record
 abbrev pub staying : Copy → Copy
-staying c = record { kept = true; core = c .core; input = c .input; removed = true; refused = false; steps = counted (c .steps) }
+staying c = withStep c (c .core) true false
 
 -- a copy after an accepted step; where there is none, none
 unfoldable pub stepCopy : ℕ → Sides → List ℕ → List ℤ → ℕ → Copy → Copy
@@ -163,6 +169,22 @@ sendAccepted n s ts w cs Step = let a = step n w s ts in sendRemovals (idsIn (a 
 -- what a call on w passes along; a refused one nothing
 abbrev pub send : ℕ → Sides → List ℕ → World → List Copy → Call → Sent
 send n s ts w cs c = cond (eqb (ran n s ts w c .number) 0) (sendAccepted n s ts w cs c) (sendNothing cs)
+
+-- the most that one call passes along: a mark, and a message and a removal of each seat
+abbrev pub mostPassed : ℕ → ℕ
+mostPassed n = 1 + 2 * n
+
+-- one thing passed along, in an array
+abbrev pub item : Passed → Item
+item p = record { passed = p }
+
+-- things passed along in an array of n, with marks behind them
+unfoldable pub filled : ℕ → List Passed → List Item
+filled n ps = map item ps ++ replicate (n - length ps) (item passed.Mark)
+
+-- what is sent, with room for the most
+abbrev pub sendingOf : ℕ → Sent → Sending
+sendingOf n m = record { copies = m .copies; count = length (m .passed); items = filled (mostPassed n) (m .passed) }
 
 -- ---- the screen
 

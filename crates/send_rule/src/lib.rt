@@ -40,3 +40,18 @@ pub struct Screen {
     pub copies: [Copy; SEATS],
     pub tunings: [i32; TUNINGS],
 }
+
+// The most that one call passes along: a mark, and a message and a removal of each seat.
+pub const MOST_PASSED: usize = 1 + 2 * SEATS;
+
+// One thing passed along, in an array.
+pub struct Item {
+    pub passed: Passed,
+}
+
+// What a sender does for a call: its copies after it, and what it passes along; as many items as counted, and marks behind them.
+pub struct Sending {
+    pub copies: [Copy; SEATS],
+    pub count: usize,
+    pub items: [Item; MOST_PASSED],
+}

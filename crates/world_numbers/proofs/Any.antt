@@ -1,8 +1,8 @@
 -- Whatever numbers a buffer holds, they stand for a world as calls reach one, which so comes back from its own. Assumes nothing.
-use Prim.Native.Nat.{ℕ, zero, suc, _+_, _*_, _<_}
+use Prim.Native.Nat.{ℕ, _+_, _*_, _<_}
 use mathlib.Core.Bool.{Bool, true, false, cond, true≢false}
 use mathlib.Core.List.{List}
-use mathlib.Core.Path.{_≡_, refl, sym, ap, _∙_, subst}
+use mathlib.Core.Path.{_≡_, refl, sym, _∙_, subst}
 use native.Mathlib.Omega.{arith}
 use lib.Dec.{lit<}
 use lib.IntN.{ℤ, pos, negsuc}
@@ -18,14 +18,15 @@ use Rattle.game_records.specs.Numbers.{numberAt, coreIn, inputIn}
 use Rattle.game_tuning.specs.Tuning.{tuningCount}
 use Rattle.world.specs.Settled.{Settled}
 use Rattle.world_numbers.specs.Encoding.{recordCount, markPlace, seatCount}
-use Rattle.world_numbers.specs.Decoding.{isSet, fromZero, readable, seatOf, seatsOf, decoding, AnyComesBack}
+use Rattle.world_numbers.specs.Decoding.{isSet, fromZero, readable, seatOf, decoding, AnyComesBack}
 use Rattle.world_numbers.proofs.Encoded.{Kept, decoding-encoding}
+use Rattle.world_numbers.proofs.RowsIn.{rows-long}
 use Rattle.world_numbers.proofs.Seats.{seat-is}
 
-abbrev AllI32 : List ℤ → Type 0
+abbrev pub AllI32 : List ℤ → Type 0
 AllI32 l = (k : ℕ) → IsI32 (numberAt l k)
 
-drop-i32 : (j : ℕ) (l : List ℤ) → AllI32 l → AllI32 (drop j l)
+pub drop-i32 : (j : ℕ) (l : List ℤ) → AllI32 l → AllI32 (drop j l)
 drop-i32 j l h = λ k. subst IsI32 (sym (getD-drop j l k (pos 0))) (h (j + k))
 
 from-zero-in : (z : ℤ) → IsI32 z → IsI32 (fromZero z)
@@ -54,17 +55,12 @@ seat-kept l h = go (isSet (numberAt l 0))
     go true = record { somebody = λ e. seat-representable (drop 1 l) (drop-i32 1 l h); nobody = λ e. absurd (true≢false e) }
     go false = record { somebody = λ e. absurd (true≢false (sym e)); nobody = λ e. refl }
 
-seats-long : (n : ℕ) (l : List ℤ) → length (seatsOf n l) ≡ n
-unfolding seatsOf
-seats-long zero l = refl
-seats-long (suc n) l = ap suc (seats-long n (drop seatCount l))
-
 pub decoding-settled : (n : ℕ) (l : List ℤ) → length l ≡ tuningCount + seatCount * n → AllI32 l → Settled n (decoding n l)
 unfolding decoding
 decoding-settled n l e h =
     let kept : (k : ℕ) → k < n → Kept (slotAt (decoding n l .slots) k) = λ k q. subst Kept (sym (seat-is n k l q)) (seat-kept (drop (tuningCount + seatCount * k) l) (drop-i32 (tuningCount + seatCount * k) l h)) in
     record {
-      seats = seats-long n (drop tuningCount l);
+      seats = rows-long seatOf seatCount n (drop tuningCount l);
       tunings = length-take tuningCount l ∙ omega arith;
       representable = λ k q. kept k q .somebody;
       empty = λ k q. kept k q .nobody;

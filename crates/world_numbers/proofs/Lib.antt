@@ -1,4 +1,5 @@
 pub mod Rows
+pub mod RowsIn
 pub mod Seats
 pub mod Encoded
 pub mod Any

@@ -16,7 +16,7 @@ use Rattle.world.specs.declared.Published.{Published}
 use Rattle.world.specs.declared.World.{World}
 use Rattle.world_numbers.specs.Encoding.{recordCount, seatCount, each, recordNumbers, presentNumbers, seatNumbers, encoding}
 
-each-last : {A : Type 0} (f : A → List ℤ) (xs : List A) (y : A) → each f (xs ++ (y ∷ [])) ≡ each f xs ++ f y
+pub each-last : {A : Type 0} (f : A → List ℤ) (xs : List A) (y : A) → each f (xs ++ (y ∷ [])) ≡ each f xs ++ f y
 unfolding each
 each-last f [] y = append-nil (f y)
 each-last f (x ∷ xs) y = ap (λ (r : List ℤ). f x ++ r) (each-last f xs y) ∙ sym (append-assoc (f x) (each f xs) (f y))
@@ -49,7 +49,7 @@ seat-long s = go (s .present)
     go false = refl
 
 -- ---- how long the numbers of a world are
-each-long : {A : Type 0} (f : A → List ℤ) (k : ℕ) → ((x : A) → length (f x) ≡ k) → (xs : List A) → length (each f xs) ≡ k * length xs
+pub each-long : {A : Type 0} (f : A → List ℤ) (k : ℕ) → ((x : A) → length (f x) ≡ k) → (xs : List A) → length (each f xs) ≡ k * length xs
 unfolding each
 each-long f k h [] = sym (mul-zero k)
 each-long f k h (x ∷ xs) = length-append (f x) (each f xs) ∙ ap₂ _+_ (h x) (each-long f k h xs) ∙ add-comm k (k * length xs) ∙ sym (mul-suc k (length xs))

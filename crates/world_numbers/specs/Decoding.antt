@@ -42,10 +42,14 @@ readable n = withTicks n (fromZero (n .«hook_tick» .0))
 unfoldable pub seatOf : List ℤ → Slot
 seatOf l = let c = fromNet (readable (coreIn (drop 1 l))) in cond (isSet (numberAt l 0)) (withGrounded (withInput (withCharacter (joinedSlot (c .pos)) c) (inputIn (drop recordCount l))) (isSet (numberAt l markPlace))) emptySlot
 
--- n seats, one after the other
-unfoldable pub seatsOf : ℕ → List ℤ → List Slot
-seatsOf zero l = []
-seatsOf (suc n) l = seatOf l ∷ seatsOf n (drop seatCount l)
+-- n rows of k numbers, one after the other, each read by f
+unfoldable pub eachIn : {A : Type 0} → (List ℤ → A) → ℕ → ℕ → List ℤ → List A
+eachIn f k zero l = []
+eachIn f k (suc n) l = f l ∷ eachIn f k n (drop k l)
+
+-- n seats
+abbrev pub seatsOf : ℕ → List ℤ → List Slot
+seatsOf n l = eachIn seatOf seatCount n l
 
 -- the tunings, then n seats
 unfoldable pub decoding : ℕ → List ℤ → World

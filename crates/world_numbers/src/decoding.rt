@@ -20,7 +20,7 @@ ghost use Rattle.game_tuning.specs.Tuning.{tuningCount};
 ghost use Rattle.world_numbers.specs.Encoding.{seatCount, worldCount};
 ghost use Rattle.world_numbers.specs.Decoding.{fromZero, isSet, readable, seatOf, seatsOf, decoding};
 
-fn is_set(z: i32) -> bool
+pub fn is_set(z: i32) -> bool
     ensures { λ r. ⌜ r ≡ isSet z ⌝ }
 {
     z != 0
@@ -78,8 +78,9 @@ fn seats_of(numbers: &[i32]) -> [Slot; SEATS]
     slots
 }
 
-fn tunings_of(numbers: &[i32]) -> [i32; TUNINGS]
-    requires { ⌜ length (now numbers) ≡ worldCount ⌝ }
+// The tunings that a slice starts with.
+pub fn tunings_of(numbers: &[i32]) -> [i32; TUNINGS]
+    requires { ⌜ tuningCount ≤ length (now numbers) ⌝ }
     ensures { λ r. ⌜ r ≡ take tuningCount (now (numbers .entry)) ⌝ }
 {
     let mut tunings = [0i32; TUNINGS];

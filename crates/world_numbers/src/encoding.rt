@@ -47,7 +47,7 @@ fn net_core(net: Net) -> CharacterCore
     }
 }
 
-fn record_numbers(published: Published) -> [i32; RECORD]
+pub fn record_numbers(published: Published) -> [i32; RECORD]
     ensures { λ r. ⌜ r ≡ recordNumbers published ⌝ }
 {
     let core = core_numbers(published.core);

@@ -3,7 +3,9 @@ mod decoding;
 mod encoding;
 
 pub use decoding::decode;
+pub use decoding::is_set;
 pub use decoding::seat_at;
+pub use decoding::tunings_of;
 pub use encoding::MARK;
 pub use encoding::RECORD;
 pub use encoding::RECORDS;
@@ -13,3 +15,4 @@ pub use encoding::encode;
 pub use encoding::encode_records;
 pub use encoding::flag;
 pub use encoding::present_numbers;
+pub use encoding::record_numbers;

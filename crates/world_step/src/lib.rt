@@ -6,5 +6,6 @@ mod steps;
 mod ticking;
 
 pub use calling::run_call;
+pub use moving::record_of;
 pub use moving::unpublished;
 pub use steps::step;

@@ -93,7 +93,7 @@ pub fn move_all(slots: [Slot; SEATS], sides: Sides, tiles: &[u8], tuning: Tuning
 }
 
 // The record of what a move left, or the number that refuses it.
-fn record_of(moved: MovedAt) -> Recorded
+pub fn record_of(moved: MovedAt) -> Recorded
     ensures { λ r. ⌜ r ≡ recordOf moved ⌝ }
 {
     match moved {

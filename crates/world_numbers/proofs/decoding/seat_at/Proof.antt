@@ -1,12 +1,11 @@
 -- `world_numbers::decoding::seat_at` meets its contract. Assumes nothing.
-use Prim.Native.Nat.{_+_, _*_, _-_}
+use Prim.Native.Nat.{_+_, _*_}
 use mathlib.Core.Path.{ap, _∙_}
 use native.Mathlib.Omega.{arith}
-use lib.ListN.{length, drop, length-drop}
-use lib.Seq.{take-all}
 use Rattle.game_tuning.specs.Tuning.{tuningCount}
 use Rattle.world_numbers.specs.Encoding.{seatCount}
 use Rattle.world_numbers.specs.Decoding.{seatOf}
+use Rattle.world_numbers.proofs.RowsIn.{to-end}
 use borrow.Author.Needs.{needs}
 use Rattle.world_numbers.proofs.decoding.seat_at.Statement.{statement}
 use Rattle.world_numbers.proofs.decoding.seat_at.Tie as tie
@@ -35,9 +34,7 @@ seat-of-requires c κs = search needs
 returns : tie.Need-returns
 returns c =
     let a = c .before .before .args in
-    let k = tuningCount + seatCount * a .id in
-    let ns = a .numbers .now in
-    c .seat-of .ensures ∙ ap seatOf (take-all (length ns - k) (drop k ns) (omega (arith, length-drop k ns)))
+    c .seat-of .ensures ∙ ap seatOf (to-end (tuningCount + seatCount * a .id) (a .numbers .now) (omega arith))
 
 pub seat-at-spec : {M : Type 1} → statement M
 seat-at-spec =

@@ -1,23 +1,15 @@
 -- `world_numbers::decoding::seat_of` meets its contract. Assumes nothing.
-use Prim.Native.Nat.{ℕ, _-_, _≤_}
 use mathlib.Core.Bool.{true, false}
-use mathlib.Core.List.{List}
 use mathlib.Core.Path.{_≡_, sym, ap, _∙_}
 use native.Mathlib.Omega.{arith}
-use lib.IntN.{ℤ}
-use lib.ListN.{length, take, drop, length-drop}
-use lib.Seq.{take-all}
 use Rattle.game_records.specs.Numbers.{numberAt, coreIn, inputIn}
 use Rattle.game_records.proofs.Bits.{again}
 use Rattle.world_numbers.specs.Encoding.{recordCount, markPlace}
 use Rattle.world_numbers.specs.Decoding.{isSet, seatOf}
+use Rattle.world_numbers.proofs.RowsIn.{to-end}
 use borrow.Author.Needs.{needs}
 use Rattle.world_numbers.proofs.decoding.seat_of.Statement.{statement}
 use Rattle.world_numbers.proofs.decoding.seat_of.Tie as tie
-
--- a part up to the end
-from : (k : ℕ) (s : List ℤ) → k ≤ length s → take (length s - k) (drop k s) ≡ drop k s
-from k s h = take-all (length s - k) (drop k s) (omega (arith, length-drop k s))
 
 shared-slice-copy-out-is-set : tie.Need-shared-slice-copy-out-is-set
 shared-slice-copy-out-is-set c = search needs
@@ -83,8 +75,8 @@ returns c =
     let room = c .before .before .before .before .before .before .before .before .before .before .before .before .before .before .before .pre in
     let z = c .before .before .before .before .before .before .before .before .before .before .before .before .before .is-set in
     let e : isSet (numberAt s 0) ≡ true = sym (z .ensures ∙ ap isSet (again (c .before .before .before .before .before .before .before .before .before .before .before .before .before .before .is-set-arg .given))) ∙ c .before .before .before .before .before .before .before .before .before .before .before .before .if1 .taken in
-    let n = c .before .before .before .before .before .before .before .before .before .before .core-of .ensures ∙ ap coreIn (from 1 s (omega arith)) in
-    let i = c .before .before .before .before .input-of .ensures ∙ ap inputIn (from recordCount s (omega arith)) in
+    let n = c .before .before .before .before .before .before .before .before .before .before .core-of .ensures ∙ ap coreIn (to-end 1 s (omega arith)) in
+    let i = c .before .before .before .before .input-of .ensures ∙ ap inputIn (to-end recordCount s (omega arith)) in
     let g : c .before .is-set2 .result ≡ isSet (numberAt s markPlace) = c .before .is-set2 .ensures ∙ ap isSet (again (c .before .before .is-set-arg2 .given)) in
     simp (e, ← n, ← c .before .before .before .before .before .before .before .before .before .readable .ensures, ← c .before .before .before .before .before .before .before .before .from-net .ensures, ← i, ← g, c .with-grounded .ensures, c .before .before .before .with-input .ensures, c .before .before .before .before .before .before .with-character .ensures, c .before .before .before .before .before .before .before .joined .ensures)
 

@@ -7,7 +7,7 @@ use lib.Seq.{take-all}
 use borrow.Author.Needs.{needs}
 use Rattle.character.specs.Tick.{seats}
 use Rattle.game_tuning.specs.Tuning.{tuningCount}
-use Rattle.world_numbers.specs.Decoding.{seatsOf}
+use Rattle.world_numbers.specs.Decoding.{eachIn, seatsOf}
 use Rattle.world_numbers.proofs.Seats.{next-seat}
 use Rattle.world_numbers.proofs.decoding.seats_of.Statement.{statement}
 use Rattle.world_numbers.proofs.decoding.seats_of.Tie as tie
@@ -22,7 +22,7 @@ empty-requires : tie.Need-empty-requires Inv-loop μ-loop
 empty-requires c κs = search needs
 
 loop-holds : tie.Need-loop-holds Inv-loop μ-loop
-unfolding seatsOf
+unfolding eachIn
 loop-holds c = (omega arith, refl, refl)
 
 seat-at-requires : tie.Need-seat-at-requires Inv-loop μ-loop

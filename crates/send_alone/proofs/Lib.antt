@@ -1,0 +1,4 @@
+pub mod Only
+pub mod Lonely
+pub mod Alone
+pub mod Copies

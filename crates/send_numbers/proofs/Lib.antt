@@ -1,0 +1,5 @@
+pub mod Rows
+pub mod CopiesBack
+pub mod ScreensBack
+pub mod PassedBack
+pub mod Readings
