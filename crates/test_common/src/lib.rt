@@ -1,5 +1,6 @@
-// What the test programs share: reading recorded vectors, and a character and numbers as words.
+// What the test programs share: reading recorded vectors, a character and numbers as words, and numbers as one word.
 mod counts;
+mod digests;
 mod lines;
 mod map;
 mod numbers;
@@ -8,6 +9,8 @@ mod vectors;
 
 pub use counts::Counts;
 pub use counts::Outcome;
+pub use digests::digest;
+pub use digests::mix;
 pub use lines::MOST_LINES;
 pub use lines::byte_at;
 pub use lines::first;

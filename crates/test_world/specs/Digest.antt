@@ -1,27 +1,17 @@
 -- A world and what a step publishes, each as one word: the digest of its numbers. Definitions only.
-use Prim.Native.Nat.{ℕ, _+_, _*_, _%_}
+use Prim.Native.Nat.{ℕ}
 use mathlib.Core.Bool.{cond}
 use mathlib.Core.List.{List}
 use lib.Dec.{ltb}
-use lib.IntN.{ℤ, pos}
-use lib.ListN.{length, getD}
+use lib.IntN.{pos}
+use lib.ListN.{getD}
 use Rattle.base_turns.specs.Turns.{fold}
-use Rattle.num_convert.specs.Casts.{castUnsigned}
 use Rattle.character.specs.Tick.{seats}
 use Rattle.world.specs.declared.Published.{Published}
 use Rattle.world.specs.declared.Removed.{Removed}
 use Rattle.world.specs.declared.World.{World}
+use Rattle.test_common.specs.Digest.{mixed, digestOf}
 use Rattle.world_numbers.specs.Encoding.{encoding, recordsEncoding}
-
--- the digest of one number more, which goes in as its bits
-abbrev pub mixed : ℕ → ℤ → ℕ
-mixed h z = (h * 16777619 + castUnsigned z) % 4294967291
-
-abbrev pub numberTurn : List ℤ → ℕ → ℕ → ℕ
-numberTurn zs i h = mixed h (getD zs i (pos 0))
-
-unfoldable pub digestOf : List ℤ → ℕ
-digestOf zs = fold (numberTurn zs) (length zs) 0 0
 
 abbrev pub worldDigest : World → ℕ
 worldDigest w = digestOf (encoding w)

@@ -1,6 +1,7 @@
 // A world and what a step publishes, each as one word: the digest of its numbers.
 use character::SEATS;
-use num_convert::cast_unsigned;
+use test_common::digest;
+use test_common::mix;
 use world::Published;
 use world::Removed;
 use world::World;
@@ -9,30 +10,7 @@ use world_numbers::WORLD;
 use world_numbers::encode;
 use world_numbers::encode_records;
 ghost use mathlib.Core.Path.{_≡_};
-ghost use Rattle.test_world.specs.Digest.{mixed, digestOf, worldDigest, withIds, toldDigest};
-
-const FACTOR: u64 = 16777619;
-
-// The largest prime below 2^32.
-const MODULUS: u64 = 4294967291;
-
-fn with(digest: u32, number: i32) -> u32
-    ensures { λ r. ⌜ r ≡ mixed digest number ⌝ }
-{
-    let word = cast_unsigned(number);
-    ((digest as u64 * FACTOR + word as u64) % MODULUS) as u32
-}
-
-fn digest(numbers: &[i32]) -> u32
-    ensures { λ r. ⌜ r ≡ digestOf (now (numbers .entry)) ⌝ }
-{
-    let mut sum = 0;
-    for i in 0..numbers.len() {
-        let number = numbers[i];
-        sum = with(sum, number);
-    }
-    sum
-}
+ghost use Rattle.test_world.specs.Digest.{worldDigest, withIds, toldDigest};
 
 pub fn world_digest(world: World) -> u32
     ensures { λ r. ⌜ r ≡ worldDigest world ⌝ }
@@ -60,7 +38,7 @@ fn with_ids(digest: u32, removed: Removed) -> u32
     for i in 0..SEATS {
         let id = ids[i];
         if i < count {
-            sum = with(sum, id);
+            sum = mix(sum, id);
         }
     }
     sum

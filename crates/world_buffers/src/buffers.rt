@@ -26,7 +26,7 @@ ghost use Rattle.world_numbers.specs.Encoding.{worldCount, recordsCount};
 ghost use Rattle.world_buffers.specs.Buffers.{keep, callIn, keepStep, stepIn};
 
 // Leaves the next world in the buffer where the call was accepted.
-fn keep(answer: Answer, world: &mut [i32]) -> u32
+pub fn keep(answer: Answer, world: &mut [i32]) -> u32
     requires { ⌜ length (now world) ≡ worldCount ⌝ }
     ensures { λ r. ⌜ keep (now (world .entry)) answer ≡ record { number = r; world = now (world .exit) } ⌝ }
 {
@@ -89,7 +89,7 @@ pub fn tune_in(world: &mut [i32], index: i32, value: i32) -> u32
 }
 
 // Leaves the next world, the records and who is removed in the buffers where the step was accepted.
-fn keep_step(
+pub fn keep_step(
     stepped: Stepped,
     world: &mut [i32],
     records: &mut [i32],

@@ -5,6 +5,8 @@ mod readers;
 pub use buffers::fresh_in;
 pub use buffers::input_in;
 pub use buffers::join_in;
+pub use buffers::keep;
+pub use buffers::keep_step;
 pub use buffers::leave_in;
 pub use buffers::step_in;
 pub use buffers::tune_in;

@@ -8,7 +8,7 @@ use Rattle.base_turns.specs.Turns.{fold}
 use native.Mathlib.Omega.{arith}
 use borrow.Author.Needs.{needs}
 use Rattle.character.specs.Tick.{seats}
-use Rattle.send_rule.specs.Send.{filled, sendingOf, sendMessages}
+use Rattle.send_rule.specs.Send.{mostPassed, filled, sendingOf, sendMessages}
 use Rattle.send_rule.specs.declared.Copy.{Copy}
 use Rattle.send_rule.specs.declared.Passed.the-variants.{Mark}
 use Rattle.send_calls.proofs.Messages.{turn, Sends, sends-first, room, sends, not-due, nobody, sends-last}
@@ -67,7 +67,7 @@ array-set-from-all c = omega arith
 item-requires-2 : tie.Need-item-requires-2 Inv-loop μ-loop
 item-requires-2 c κs = search needs
 
-below : (c : tie.After-item2 Inv-loop μ-loop) → c .before .before .before .before .before .before .before .before .before .before .before .loop .count < 33
+below : (c : tie.After-item2 Inv-loop μ-loop) → c .before .before .before .before .before .before .before .before .before .before .before .loop .count < mostPassed seats
 below c = let l = c .before .before .before .before .before .before .before .before .before .before .before .loop in room _ _ _ (l .k) (l .all) (l .items) (l .count) (l .inv) (c .before .before .before .before .before .before .before .before .before .before .loop-test .taken)
 
 mul-items : tie.Need-mul-items Inv-loop μ-loop

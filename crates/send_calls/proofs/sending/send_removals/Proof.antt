@@ -10,6 +10,7 @@ use borrow.Author.Needs.{needs}
 use Rattle.world.specs.Calls.{placeOf}
 use Rattle.world.specs.declared.Removed.{Removed}
 use Rattle.character.specs.Tick.{seats}
+use Rattle.send_rule.specs.Send.{mostPassed}
 use Rattle.send_calls.proofs.Removals.{Drops, drops-first, has-seat, room, drops, drops-last}
 use Rattle.send_calls.proofs.sending.send_removals.Statement.{statement}
 use Rattle.send_calls.proofs.sending.send_removals.Tie as tie
@@ -50,7 +51,7 @@ array-set-from-copies c = omega arith
 item-requires : tie.Need-item-requires Inv-loop μ-loop
 item-requires c κs = search needs
 
-below : (c : tie.After-item Inv-loop μ-loop) → c .before .before .before .before .before .before .loop .count < 33
+below : (c : tie.After-item Inv-loop μ-loop) → c .before .before .before .before .before .before .loop .count < mostPassed seats
 below c = let l = c .before .before .before .before .before .before .loop in let a = c .before .before .before .before .before .before .before .before .before .before .args in room (a .removed) (a .sending) (c .before .before .before .before .before .before .before .before .before .before .pre .2) (l .i) (c .before .before .before .before .before .loop-test .taken) (l .copies) (l .items) (l .count) (l .inv)
 
 mul-items : tie.Need-mul-items Inv-loop μ-loop

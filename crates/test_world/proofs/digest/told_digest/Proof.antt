@@ -1,7 +1,8 @@
 -- `test_world::digest::told_digest` meets its contract. Assumes nothing.
 use Prim.Native.Nat.{ℕ}
 use mathlib.Core.Path.{ap, _∙_}
-use Rattle.test_world.specs.Digest.{digestOf, withIds}
+use Rattle.test_common.specs.Digest.{digestOf}
+use Rattle.test_world.specs.Digest.{withIds}
 use borrow.Author.Needs.{needs}
 use Rattle.test_world.proofs.digest.told_digest.Statement.{statement}
 use Rattle.test_world.proofs.digest.told_digest.Tie as tie

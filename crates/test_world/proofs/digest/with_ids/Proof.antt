@@ -13,7 +13,8 @@ use Rattle.base_turns.specs.Turns.{fold, more}
 use Rattle.base_turns.proofs.Loop.{Left, always, fold-first, turn-on, fold-end}
 use Rattle.character.specs.Tick.{seats}
 use Rattle.world.specs.declared.Removed.{Removed}
-use Rattle.test_world.specs.Digest.{mixed, idTurn, withIds}
+use Rattle.test_common.specs.Digest.{mixed}
+use Rattle.test_world.specs.Digest.{idTurn, withIds}
 use Rattle.test_world.proofs.digest.with_ids.Statement.{statement}
 use Rattle.test_world.proofs.digest.with_ids.Tie as tie
 
@@ -40,8 +41,8 @@ mul-id c = search needs
 array-copy-out-id : tie.Need-array-copy-out-id Inv-loop μ-loop
 array-copy-out-id c = omega arith
 
-with-requires : tie.Need-with-requires Inv-loop μ-loop
-with-requires c κs = search needs
+mix-requires : tie.Need-mix-requires Inv-loop μ-loop
+mix-requires c κs = search needs
 
 add-i : tie.Need-add-i Inv-loop μ-loop
 add-i c = omega arith
@@ -69,7 +70,7 @@ with-ids-spec =
     loop-holds
     mul-id
     array-copy-out-id
-    with-requires
+    mix-requires
     add-i
     loop-less
     loop-again

@@ -1,6 +1,6 @@
 -- `test_world::digest::world_digest` meets its contract. Assumes nothing.
 use mathlib.Core.Path.{ap, _∙_}
-use Rattle.test_world.specs.Digest.{digestOf}
+use Rattle.test_common.specs.Digest.{digestOf}
 use borrow.Author.Needs.{needs}
 use Rattle.test_world.proofs.digest.world_digest.Statement.{statement}
 use Rattle.test_world.proofs.digest.world_digest.Tie as tie

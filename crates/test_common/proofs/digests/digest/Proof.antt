@@ -1,4 +1,4 @@
--- `test_world::digest::digest` meets its contract. Assumes nothing.
+-- `test_common::digests::digest` meets its contract. Assumes nothing.
 use Prim.Native.Nat.{_-_}
 use mathlib.Core.Path.{sym, ap, _∙_}
 use native.Mathlib.Omega.{arith}
@@ -7,9 +7,9 @@ use mir.Facts.{toZ-ofZ}
 use mir.Syntax.{w32}
 use Rattle.base_turns.specs.Turns.{fold, more}
 use Rattle.base_turns.proofs.Loop.{Left, always, fold-first, turn-on, fold-end}
-use Rattle.test_world.specs.Digest.{mixed, numberTurn, digestOf}
-use Rattle.test_world.proofs.digest.digest.Statement.{statement}
-use Rattle.test_world.proofs.digest.digest.Tie as tie
+use Rattle.test_common.specs.Digest.{mixed, numberTurn, digestOf}
+use Rattle.test_common.proofs.digests.digest.Statement.{statement}
+use Rattle.test_common.proofs.digests.digest.Tie as tie
 
 abbrev Inv-loop : tie.InvT-loop
 Inv-loop numbers sum₀ i₀ i-end sum i = Left (always (numberTurn numbers)) i-end i sum (more (fold (numberTurn numbers) i-end 0 sum₀))
@@ -26,8 +26,8 @@ mul-number c = search needs
 shared-slice-copy-out-number : tie.Need-shared-slice-copy-out-number Inv-loop μ-loop
 shared-slice-copy-out-number c = search needs
 
-with-requires : tie.Need-with-requires Inv-loop μ-loop
-with-requires c κs = tt
+mix-requires : tie.Need-mix-requires Inv-loop μ-loop
+mix-requires c κs = tt
 
 add-i : tie.Need-add-i Inv-loop μ-loop
 add-i c = omega arith
@@ -38,7 +38,7 @@ loop-less c = omega arith
 loop-again : tie.Need-loop-again Inv-loop μ-loop
 loop-again c =
     let l = c .before .before .before .loop in
-    turn-on (l .inv) (c .before .before .loop-test .taken) (ap more (sym (c .with .ensures ∙ ap (mixed (l .sum)) (toZ-ofZ {w = w32} (record { sfits = c .before .number .given })))))
+    turn-on (l .inv) (c .before .before .loop-test .taken) (ap more (sym (c .mix .ensures ∙ ap (mixed (l .sum)) (toZ-ofZ {w = w32} (record { sfits = c .before .number .given })))))
 
 returns : tie.Need-returns Inv-loop μ-loop
 unfolding digestOf
@@ -53,7 +53,7 @@ digest-spec =
     loop-holds
     mul-number
     shared-slice-copy-out-number
-    with-requires
+    mix-requires
     add-i
     loop-less
     loop-again

@@ -1,11 +1,11 @@
--- `test_world::digest::with` meets its contract. Assumes nothing.
+-- `test_common::digests::mix` meets its contract. Assumes nothing.
 use Prim.Native.Nat.{ℕ, _+_, _*_, _%_}
 use mathlib.Core.Path.{ap, _∙_}
 use mir.Facts.{toZ-ofZ}
 use Rattle.num_convert.specs.Casts.{castUnsigned}
 use borrow.Author.Needs.{needs}
-use Rattle.test_world.proofs.digest.with.Statement.{statement}
-use Rattle.test_world.proofs.digest.with.Tie as tie
+use Rattle.test_common.proofs.digests.mix.Statement.{statement}
+use Rattle.test_common.proofs.digests.mix.Tie as tie
 
 cast-unsigned-requires : tie.Need-cast-unsigned-requires
 cast-unsigned-requires c κs = search needs
@@ -27,7 +27,7 @@ returns c =
     let e = c .cast-unsigned .ensures ∙ ap castUnsigned (toZ-ofZ (c .before .fits .number)) in
     ap (λ (w : ℕ). (c .before .args .digest * 16777619 + w) % 4294967291) e
 
-pub with-spec : {M : Type 1} → statement M
-with-spec =
+pub mix-spec : {M : Type 1} → statement M
+mix-spec =
     tie.close
     (tie.spec cast-unsigned-requires mul-result cast-result add-result cast-result-2 returns)
