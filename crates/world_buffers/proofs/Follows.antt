@@ -23,7 +23,7 @@ not-zero : {A : Type 0} (n : ℕ) (x y : A) → (n ≡ 0 → ⊥) → cond (eqb 
 not-zero n x y h = ap (λ (b : Bool). cond b x y) (ne-eqb n 0 h)
 
 -- the numbers of the next world, where a refusal leaves the world
-left : (n : ℕ) (v w : World) → ((n ≡ 0 → ⊥) → v ≡ w) → cond (eqb n 0) (encoding v) (encoding w) ≡ encoding v
+pub left : (n : ℕ) (v w : World) → ((n ≡ 0 → ⊥) → v ≡ w) → cond (eqb n 0) (encoding v) (encoding w) ≡ encoding v
 left n v w h = go (eqb n 0) refl
   where
     go : (b : Bool) → eqb n 0 ≡ b → cond (eqb n 0) (encoding v) (encoding w) ≡ encoding v

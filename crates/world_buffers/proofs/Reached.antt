@@ -23,10 +23,11 @@ use Rattle.world_buffers.specs.Following.{leftBy, leftByAll, BufferFollo
 use Rattle.world_buffers.proofs.Follows.{follows, step-follows}
 
 module _ (s : Sides) (ts : List ℕ) (b : StepBuffers) (k : length (b .records) ≡ recordsCount) (m : length (b .removed) ≡ seats) where
-  long : (w : World) → Settled seats w → length (encoding w) ≡ worldCount
+  pub long : (w : World) → Settled seats w → length (encoding w) ≡ worldCount
   long w h = encoding-long w ∙ ap₂ (λ (m n : ℕ). m + seatCount * n) (h .tunings) (h .seats)
 
-  one : (w : World) (c : Call) → Settled seats w → leftBy s ts b (encoding w) c ≡ encoding (ran seats s ts w c .world)
+  -- one call
+  pub one : (w : World) (c : Call) → Settled seats w → leftBy s ts b (encoding w) c ≡ encoding (ran seats s ts w c .world)
   one w (Join id x y) h = ap (λ (l : Left). l .world) (follows (λ v. join seats v s ts id x y) w (long w h) (decoding-encoding seats w h) (demand1 seats s ts w (Join id x y)))
   one w (Leave id) h = ap (λ (l : Left). l .world) (follows (λ v. leave seats v id) w (long w h) (decoding-encoding seats w h) (demand1 seats s ts w (Leave id)))
   one w (Input id d x y j u) h = ap (λ (l : Left). l .world) (follows (λ v. input seats v id (inputOf d x y j u)) w (long w h) (decoding-encoding seats w h) (demand1 seats s ts w (Input id d x y j u)))
