@@ -1,12 +1,11 @@
 -- An array that fills from the front. Assumes nothing.
-use Prim.Native.Nat.{ℕ, suc, _-_, _≤_, _<_}
-use native.Mathlib.Numerals.{add-one}
+use Prim.Native.Nat.{ℕ, suc, _-_, _<_}
 use native.Mathlib.Omega.{arith}
 use mathlib.Core.List.{List, [], _∷_, _++_, map}
 use mathlib.Core.Path.{_≡_, refl, sym, ap, _∙_}
-use lib.ListN.{length, take, set, replicate, length-append, length-map, length-replicate}
+use lib.ListN.{length, set, replicate, length-append, length-map}
 use lib.Seq.{set-at, append-snoc, take-at}
-use Rattle.send_rule.specs.Send.{Sent, item, filled}
+use Rattle.send_rule.specs.Send.{item, filled, firstOf}
 use Rattle.send_rule.specs.declared.Item.{Item}
 use Rattle.send_rule.specs.declared.Passed.{Passed}
 use Rattle.send_rule.specs.declared.Passed.the-variants as passed
@@ -35,6 +34,6 @@ items-read : (ps : List Passed) → map (λ (i : Item). i .passed) (map item ps)
 items-read [] = refl
 items-read (p ∷ ps) = ap (λ (qs : List Passed). p ∷ qs) (items-read ps)
 
-pub filled-read : (n : ℕ) (ps : List Passed) → map (λ (i : Item). i .passed) (take (length ps) (filled n ps)) ≡ ps
+pub filled-read : (n : ℕ) (ps : List Passed) → firstOf (length ps) (filled n ps) ≡ ps
 unfolding filled
 filled-read n ps = ap (map (λ (i : Item). i .passed)) (take-at (map item ps) (replicate (n - length ps) (item passed.Mark)) (length ps) (length-map ps item)) ∙ items-read ps

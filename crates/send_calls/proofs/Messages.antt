@@ -16,7 +16,6 @@ use Rattle.send_rule.specs.declared.Copy.{Copy}
 use Rattle.send_rule.specs.declared.Item.{Item}
 use Rattle.send_rule.specs.declared.Passed.{Passed}
 use Rattle.send_rule.specs.declared.Passed.the-variants as passed
-use Rattle.send_rule.specs.declared.Sending.{Sending}
 use Rattle.send_calls.proofs.Filled.{longer, filled-set}
 
 module _ (slots : List Slot) (records : List Published) (all₀ : List Copy) where

@@ -6,15 +6,15 @@ use mathlib.Core.Bool.{Bool, true, false, _||_}
 use mathlib.Core.List.{List, [], _∷_, _++_, map, append-nil}
 use mathlib.Core.Path.{_≡_, refl, sym, ap, _∙_}
 use lib.Dec.{eqb}
-use lib.IntN.{ℤ, pos, natAbs}
-use lib.ListN.{length, take, drop, getD, set, replicate, length-map, drop-of-length-le, List·getD-map, List·getD-append}
+use lib.IntN.{pos}
+use lib.ListN.{length, drop, getD, set, length-map, drop-of-length-le, List·getD-map, List·getD-append}
 use lib.Seq.{drop-cons, append-snoc}
 use borrow.Author.Tests.{eq-eqb, lt-ltb}
 use Rattle.character.specs.Tick.{seats}
 use Rattle.world.specs.Calls.{placeOf}
-use Rattle.world.specs.Removal.{listed, idsIn, isIn}
+use Rattle.world.specs.Removal.{idsIn, isIn}
 use Rattle.world.specs.declared.Removed.{Removed}
-use Rattle.send_rule.specs.Send.{Sent, noCopy, dropped, item, filled, mostPassed, sendingOf, sendRemovals}
+use Rattle.send_rule.specs.Send.{noCopy, dropped, item, filled, mostPassed, sendingOf, sendRemovals}
 use Rattle.send_rule.specs.declared.Copy.{Copy}
 use Rattle.send_rule.specs.declared.Item.{Item}
 use Rattle.send_rule.specs.declared.Passed.{Passed}

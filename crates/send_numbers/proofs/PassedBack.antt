@@ -20,7 +20,8 @@ use Rattle.send_rule.specs.declared.Passed.{Passed}
 use Rattle.send_rule.specs.declared.Passed.the-variants as passed
 use Rattle.world_numbers.specs.Encoding.{each}
 use Rattle.world_numbers.proofs.Rows.{each-last}
-use Rattle.send_numbers.specs.Passing.{messageCount, messageNumbers, passedNumbers, allNumbers, firstOf}
+use Rattle.send_numbers.specs.Passing.{messageCount, messageNumbers, passedNumbers, allNumbers}
+use Rattle.send_rule.specs.Send.{firstOf}
 use Rattle.send_numbers.specs.Reading.{messageIn, readMessage, readRemoval, readLeave, tuneIn, readTune, readKind, readPassed, PassedComesBack, PassedFits}
 use Rattle.send_numbers.proofs.Readings.{place-read}
 

@@ -1,15 +1,13 @@
 -- What is passed along as a list of numbers: each thing begins with its kind. Definitions only; the way back is `readPassed` (send_numbers/specs/Reading.antt).
 use Prim.Native.Nat.{ℕ, _+_, _*_}
-use mathlib.Core.List.{List, [], _∷_, _++_, map}
+use mathlib.Core.List.{List, [], _∷_, _++_}
 use lib.IntN.{ℤ, pos}
-use lib.ListN.{take}
 use Rattle.num_convert.specs.Casts.{castSigned}
 use Rattle.game_records.specs.Numbers.{coreCount, inputCount, coreNumbers, inputNumbers}
 use Rattle.game_records.specs.declared.CharacterCore.{CharacterCore}
 use Rattle.game_records.specs.declared.PlayerInput.{PlayerInput}
 use Rattle.character.specs.Tick.{seats}
 use Rattle.send_rule.specs.Send.{mostPassed}
-use Rattle.send_rule.specs.declared.Item.{Item}
 use Rattle.send_rule.specs.declared.Passed.{Passed}
 use Rattle.send_rule.specs.declared.Passed.the-variants as passed
 use Rattle.world_numbers.specs.Encoding.{each}
@@ -37,7 +35,3 @@ passedNumbers (passed.Tune k v) = pos 4 ∷ castSigned k ∷ v ∷ []
 -- one thing after the other
 abbrev pub allNumbers : List Passed → List ℤ
 allNumbers ps = each passedNumbers ps
-
--- the first k things of an array
-abbrev pub firstOf : ℕ → List Item → List Passed
-firstOf k is = map (λ i. i .passed) (take k is)

@@ -14,8 +14,8 @@ ghost use Prim.Native.Nat.{_+_, _≤_};
 ghost use lib.ListN.{length};
 ghost use Rattle.base_rows.specs.Put.{put};
 ghost use Rattle.character.specs.Tick.{seats};
-ghost use Rattle.send_rule.specs.Send.{mostPassed};
-ghost use Rattle.send_numbers.specs.Passing.{messageCount, passedCount, messageNumbers, passedNumbers, allNumbers, firstOf};
+ghost use Rattle.send_rule.specs.Send.{mostPassed, firstOf};
+ghost use Rattle.send_numbers.specs.Passing.{messageCount, passedCount, messageNumbers, passedNumbers, allNumbers};
 
 // The kinds.
 pub const KIND_MARK: i32 = 0;

@@ -4,7 +4,7 @@ use mathlib.Core.Bool.{Bool, true, false, cond, not, _&&_, _||_}
 use mathlib.Core.List.{List, [], _∷_, _++_, map}
 use lib.Dec.{eqb, ltb}
 use lib.IntN.{ℤ, pos, negsuc}
-use lib.ListN.{length, getD, set, replicate}
+use lib.ListN.{length, getD, take, set, replicate}
 use Rattle.base_turns.specs.Turns.{fold}
 use Rattle.game_refusals.specs.Refusals.{tooFar}
 use Rattle.game_records.specs.Numbers.{coreNumbers}
@@ -181,6 +181,10 @@ item p = record { passed = p }
 -- things passed along in an array of n, with marks behind them
 unfoldable pub filled : ℕ → List Passed → List Item
 filled n ps = map item ps ++ replicate (n - length ps) (item passed.Mark)
+
+-- the first k things of an array
+abbrev pub firstOf : ℕ → List Item → List Passed
+firstOf k is = map (λ i. i .passed) (take k is)
 
 -- what is sent, with room for the most
 abbrev pub sendingOf : ℕ → Sent → Sending

@@ -110,6 +110,77 @@ uint32_t ponguriena_floor_mark(const int32_t *world, size_t world_length, int32_
 uint32_t ponguriena_tuning(const int32_t *world, size_t world_length, int32_t index,
                            int32_t *hundredths);
 
+/* What goes to the screens: only what surprises them.
+ *
+ * A sender keeps a copy of each seat as last sent, with the input of that time, and steps it as if
+ * nobody else were there; a screen does the same with its own. A message has the record that a
+ * step took and the input that it used. It is passed along where the copy's record differs, where
+ * the copy was refused with 9, in the first accepted step after a join, and in the 150th after the
+ * last message. Where all that is passed along arrives in order, the screen has after each accepted
+ * step the record that it took of everybody who is still present.
+ *
+ * The caller keeps both as numbers, and any numbers are taken for one. A sender goes with its world
+ * from the start: to leave, to tune and to step are the calls below. To join and to give an input
+ * passes nothing along: ponguriena_join and ponguriena_input are for worlds with a sender too. */
+
+/* Lengths, in numbers. */
+enum {
+    PONGURIENA_COPY = 1 + PONGURIENA_RECORD + PONGURIENA_INPUT + 3, /* 1, record, input, whether
+                                             removed, whether refused with 9, accepted steps since
+                                             its last message; or zeros for no copy */
+    PONGURIENA_SENDER = PONGURIENA_SEATS * PONGURIENA_COPY,
+    PONGURIENA_SCREEN = PONGURIENA_TUNINGS + PONGURIENA_SENDER, /* tunings, copies */
+    PONGURIENA_MESSAGE = 2 + PONGURIENA_RECORD + PONGURIENA_INPUT, /* the longest passed along */
+    PONGURIENA_PASSED = (1 + 2 * PONGURIENA_SEATS) * PONGURIENA_MESSAGE /* room for what any call
+                                             passes along */
+};
+
+/* The kinds of what is passed along, each the first of its numbers. */
+enum {
+    PONGURIENA_PASSED_MARK = 0,    /* alone: a step was accepted */
+    PONGURIENA_PASSED_MESSAGE = 1, /* id, record, input */
+    PONGURIENA_PASSED_REMOVAL = 2, /* id: by a deadly tile */
+    PONGURIENA_PASSED_LEAVE = 3,   /* id */
+    PONGURIENA_PASSED_TUNE = 4     /* index, hundredths */
+};
+
+/* Nothing was sent yet: for a fresh world. The sender is PONGURIENA_SENDER numbers. */
+uint32_t ponguriena_sender_fresh(int32_t *sender, size_t sender_length);
+
+/* No copies, and the tunings of the game. The screen is PONGURIENA_SCREEN numbers. */
+uint32_t ponguriena_screen_fresh(int32_t *screen, size_t screen_length);
+
+/* As ponguriena_leave. Passed has PONGURIENA_PASSED numbers, and count gets how many of them are
+ * written; those behind stay as they were. */
+uint32_t ponguriena_send_leave(int32_t *world, size_t world_length, int32_t *sender,
+                               size_t sender_length, int32_t id, int32_t *passed,
+                               size_t passed_length, size_t *count);
+
+/* As ponguriena_tune; passed along also where it changes nothing. */
+uint32_t ponguriena_send_tune(int32_t *world, size_t world_length, int32_t *sender,
+                              size_t sender_length, int32_t index, int32_t hundredths,
+                              int32_t *passed, size_t passed_length, size_t *count);
+
+/* As ponguriena_step. A mark is passed along, then the messages by rising id, then the removals. */
+uint32_t ponguriena_send_step(int32_t *world, size_t world_length, int32_t *sender,
+                              size_t sender_length, uint32_t width, uint32_t height,
+                              const uint8_t *tiles, size_t tiles_length, int32_t *records,
+                              size_t records_length, int32_t *removed, size_t removed_length,
+                              size_t *removed_count, int32_t *passed, size_t passed_length,
+                              size_t *count);
+
+/* The screen takes the first thing that is passed along; used gets how many numbers it has, and the
+ * next begins behind them. Answers 0, 2, 3, or 17 also where the numbers begin with no whole
+ * thing. Where the map is none a mark moves nobody. */
+uint32_t ponguriena_receive(int32_t *screen, size_t screen_length, uint32_t width, uint32_t height,
+                            const uint8_t *tiles, size_t tiles_length, const int32_t *passed,
+                            size_t passed_length, size_t *used);
+
+/* The record that the screen has of an id: PONGURIENA_RECORD numbers. Answers 8 where it has no
+ * copy. */
+uint32_t ponguriena_shown(const int32_t *screen, size_t screen_length, int32_t id, int32_t *record,
+                          size_t record_length);
+
 /* Tiles of a map as above, and walks over it. */
 
 /* The tile of a point: 0 open, 1 solid, 2 deadly, 3 solid and holds no hook. A point outside the

@@ -1,7 +1,9 @@
 //! Safe Rust functions over the static libraries of two Rattle crates. Of `ponguriena`:
-//! the [`World`] of characters with its calls, the same calls on lent numbers
-//! ([`buffers`]), and records as packed bytes ([`packed`]). Of `ponguriena_parts` what they are made of: the tiles of a [`Map`]
-//! and walks over it, the aim angle, the velocity ramp, the root and the conversions. `include/ponguriena.h` is for C.
+//! the [`World`] of characters with its calls, what goes from there to the screens
+//! ([`Sender`] and [`Screen`]), the same calls on lent numbers ([`buffers`] and
+//! [`send_buffers`]), and records as packed bytes ([`packed`]). Of `ponguriena_parts` what
+//! they are made of: the tiles of a [`Map`] and walks over it, the aim angle, the velocity
+//! ramp, the root and the conversions. `include/ponguriena.h` is for C.
 
 // Nothing checks the declarations in these modules against the Rattle source: a
 // change of a signature there must be repeated here by hand.
@@ -9,7 +11,11 @@ mod aim;
 pub mod buffers;
 mod floats;
 pub mod packed;
+mod passed;
 mod refusal;
+mod screen;
+pub mod send_buffers;
+mod sender;
 mod snap_obj;
 mod walks;
 mod world;
@@ -20,7 +26,10 @@ pub use floats::{
     from_256ths, hundredths_to_f32, i32_to_f32, quantize, quantize_256ths, root, round_to_i32,
     to_256ths, trunc_to_i32,
 };
+pub use passed::{Passed, PassedAlong, PassedIter};
 pub use refusal::Refusal;
+pub use screen::Screen;
+pub use sender::Sender;
 pub use snap_obj::{CORE_NUMBERS, CharacterCore, INPUT_NUMBERS, PlayerInput};
 pub use walks::{Map, Tile, check_line, check_point, move_box};
 pub use world::{Records, RecordsIter, World};

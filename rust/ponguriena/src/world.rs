@@ -65,6 +65,11 @@ impl World {
         &self.numbers
     }
 
+    /// For the calls that pass along what they do to it.
+    pub(crate) fn numbers_mut(&mut self) -> &mut [i32; WORLD_NUMBERS] {
+        &mut self.numbers
+    }
+
     /// The id joins at a place. Refused: a map at fault, an id without a seat, a place
     /// out of reach or not clear, an id that is present.
     pub fn join(&mut self, map: &Map<'_>, id: i32, x: i32, y: i32) -> Result<(), Refusal> {
@@ -93,11 +98,7 @@ impl World {
         let mut numbers = [0; RECORDS_NUMBERS];
         let mut removed = [0; SEATS];
         let count = buffers::step(&mut self.numbers, map, &mut numbers, &mut removed)?;
-        Ok(Records {
-            numbers,
-            removed,
-            count,
-        })
+        Ok(Records::new(numbers, removed, count))
     }
 
     /// The record of an id that is present.
@@ -141,6 +142,19 @@ impl World {
 }
 
 impl Records {
+    /// As a step has written them.
+    pub(crate) fn new(
+        numbers: [i32; RECORDS_NUMBERS],
+        removed: [i32; SEATS],
+        count: usize,
+    ) -> Records {
+        Records {
+            numbers,
+            removed,
+            count,
+        }
+    }
+
     /// Of those who were present, by rising id.
     pub fn iter(&self) -> RecordsIter<'_> {
         RecordsIter {

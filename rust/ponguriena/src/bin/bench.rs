@@ -59,7 +59,7 @@ fn target(random: &mut Xorshift, shift: u32) -> (i32, i32) {
 /// As a player aims who turns by keys: right, left, up or down.
 fn on_an_axis(random: &mut Xorshift) -> (i32, i32) {
     let (size, _) = target(random, 21);
-    if random.pattern() % 2 == 0 {
+    if random.pattern().is_multiple_of(2) {
         (size, 0)
     } else {
         (0, size)
@@ -68,7 +68,7 @@ fn on_an_axis(random: &mut Xorshift) -> (i32, i32) {
 
 fn on_a_diagonal(random: &mut Xorshift) -> (i32, i32) {
     let (size, _) = target(random, 21);
-    if random.pattern() % 2 == 0 {
+    if random.pattern().is_multiple_of(2) {
         (size, size)
     } else {
         (size, -size)

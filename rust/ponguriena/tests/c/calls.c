@@ -27,6 +27,10 @@ static int32_t world[PONGURIENA_WORLD];
 static int32_t records[PONGURIENA_RECORDS];
 static int32_t removed[PONGURIENA_SEATS];
 static size_t removed_count = 77;
+static int32_t sender[PONGURIENA_SENDER];
+static int32_t screen[PONGURIENA_SCREEN];
+static int32_t passed[PONGURIENA_PASSED];
+static size_t passed_count = 77;
 static int differences = 0;
 
 static void same(const char *what, int64_t is, int64_t expected) {
@@ -71,6 +75,40 @@ static uint32_t input(int32_t id, const int32_t *n) {
 
 static uint32_t tune(int32_t index, int32_t hundredths) {
     return ponguriena_tune(world, LENGTH(world), index, hundredths);
+}
+
+static uint32_t send_step(Map map) {
+    return ponguriena_send_step(world, LENGTH(world), sender, LENGTH(sender), map.width, map.height,
+                                map.tiles, map.length, records, LENGTH(records), removed,
+                                LENGTH(removed), &removed_count, passed, LENGTH(passed),
+                                &passed_count);
+}
+
+static uint32_t send_leave(int32_t id) {
+    return ponguriena_send_leave(world, LENGTH(world), sender, LENGTH(sender), id, passed,
+                                 LENGTH(passed), &passed_count);
+}
+
+static uint32_t send_tune(int32_t index, int32_t hundredths) {
+    return ponguriena_send_tune(world, LENGTH(world), sender, LENGTH(sender), index, hundredths,
+                                passed, LENGTH(passed), &passed_count);
+}
+
+static uint32_t shown(int32_t id, int32_t *record) {
+    return ponguriena_shown(screen, LENGTH(screen), id, record, PONGURIENA_RECORD);
+}
+
+/* All that is passed along arrives. */
+static void receive_all(Map map) {
+    size_t at = 0;
+    while (at < passed_count) {
+        size_t used = 0;
+        same("receive",
+             ponguriena_receive(screen, LENGTH(screen), map.width, map.height, map.tiles,
+                                map.length, passed + at, passed_count - at, &used),
+             PONGURIENA_ACCEPTED);
+        at += used > 0 ? used : 1;
+    }
 }
 
 /* One player falls by half a unit in a step. */
@@ -218,6 +256,90 @@ static void spikes(void) {
     same("leave of 7", ponguriena_leave(world, LENGTH(world), 7), PONGURIENA_ABSENT);
 }
 
+/* A step is passed along: how many numbers, and what the screen shows of id 3. */
+static void sent(Map map, size_t count, int32_t y) {
+    int32_t record[PONGURIENA_RECORD];
+    same("send_step", send_step(map), PONGURIENA_ACCEPTED);
+    same("numbers passed along", (int64_t)passed_count, (int64_t)count);
+    same("the mark", passed[0], PONGURIENA_PASSED_MARK);
+    receive_all(map);
+    same("shown", shown(3, record), PONGURIENA_ACCEPTED);
+    same("the y that is shown", record[2], y);
+    same_numbers("shown", record, records + 3 * PONGURIENA_PUBLISHED + 1, LENGTH(record));
+}
+
+/* Who falls alone is sent once; who is told something is sent again, and so is who joins anew. */
+static void surprises(void) {
+    static const int32_t right[] = {1, 0, 0, 0, 0};
+    int32_t record[PONGURIENA_RECORD];
+    same("fresh", fresh(), PONGURIENA_ACCEPTED);
+    same("sender_fresh", ponguriena_sender_fresh(sender, LENGTH(sender)), PONGURIENA_ACCEPTED);
+    same("screen_fresh", ponguriena_screen_fresh(screen, LENGTH(screen)), PONGURIENA_ACCEPTED);
+    same("join", join(OPEN, 3, 48, 48), PONGURIENA_ACCEPTED);
+    same("nothing is shown", shown(3, record), PONGURIENA_ABSENT);
+    sent(OPEN, 1 + PONGURIENA_MESSAGE, 49);
+    same("the message", passed[1], PONGURIENA_PASSED_MESSAGE);
+    same("of whom", passed[2], 3);
+    sent(OPEN, 1, 50);
+    same("input", input(3, right), PONGURIENA_ACCEPTED);
+    sent(OPEN, 1 + PONGURIENA_MESSAGE, 52);
+    same("its input", passed[3 + PONGURIENA_RECORD], 1);
+    same("send_tune", send_tune(12, 0), PONGURIENA_ACCEPTED);
+    same("numbers of a tuning", (int64_t)passed_count, 3);
+    receive_all(OPEN);
+    same("the tuning on the screen", screen[12], 0);
+    sent(OPEN, 1, 54);
+    same("send_leave", send_leave(3), PONGURIENA_ACCEPTED);
+    same("numbers of a leave", (int64_t)passed_count, 2);
+    same("the leave", passed[0], PONGURIENA_PASSED_LEAVE);
+    receive_all(OPEN);
+    same("nothing is shown any more", shown(3, record), PONGURIENA_ABSENT);
+    same("nobody is there", send_leave(3), PONGURIENA_ABSENT);
+    same("count after a refusal", (int64_t)passed_count, 2);
+}
+
+/* What is refused leaves every number. */
+static void refused_sending(void) {
+    static const int32_t no_seat[] = {PONGURIENA_PASSED_REMOVAL, PONGURIENA_SEATS};
+    static const int32_t no_tuning[] = {PONGURIENA_PASSED_TUNE, -1, 0};
+    int32_t before[PONGURIENA_SCREEN];
+    int32_t record[PONGURIENA_RECORD];
+    size_t used = 77;
+    memcpy(before, screen, sizeof screen);
+    same("leave of 16", send_leave(PONGURIENA_SEATS), PONGURIENA_BAD_ID);
+    same("tune 18", send_tune(PONGURIENA_TUNINGS, 0), PONGURIENA_BAD_TUNING);
+    same("step without a map", send_step(NO_MAP), PONGURIENA_BAD_MAP);
+    same("removal of 16",
+         ponguriena_receive(screen, LENGTH(screen), 3, 3, OPEN_TILES, 9, no_seat, 2, &used),
+         PONGURIENA_BAD_ID);
+    same("tuning of -1",
+         ponguriena_receive(screen, LENGTH(screen), 3, 3, OPEN_TILES, 9, no_tuning, 3, &used),
+         PONGURIENA_BAD_TUNING);
+    same("half a tuning",
+         ponguriena_receive(screen, LENGTH(screen), 3, 3, OPEN_TILES, 9, no_tuning, 2, &used),
+         PONGURIENA_BAD_LENGTH);
+    same("used after refusals", (int64_t)used, 77);
+    same("shown of -1", shown(-1, record), PONGURIENA_BAD_ID);
+    same("sender_fresh", ponguriena_sender_fresh(sender, LENGTH(sender) - 1),
+         PONGURIENA_BAD_LENGTH);
+    same("screen_fresh", ponguriena_screen_fresh(screen, LENGTH(screen) + 1),
+         PONGURIENA_BAD_LENGTH);
+    same_numbers("screen after refusals", screen, before, LENGTH(before));
+}
+
+/* A message and a removal of the same id, in one step. */
+static void sent_from_spikes(void) {
+    int32_t record[PONGURIENA_RECORD];
+    same("join", join(SPIKED, 7, 80, 20), PONGURIENA_ACCEPTED);
+    same("send_step", send_step(SPIKED), PONGURIENA_ACCEPTED);
+    same("how many are removed", (int64_t)removed_count, 1);
+    same("numbers passed along", (int64_t)passed_count, 1 + PONGURIENA_MESSAGE + 2);
+    same("the removal", passed[1 + PONGURIENA_MESSAGE], PONGURIENA_PASSED_REMOVAL);
+    same("of whom", passed[2 + PONGURIENA_MESSAGE], 7);
+    receive_all(SPIKED);
+    same("nothing is shown of the dead", shown(7, record), PONGURIENA_ABSENT);
+}
+
 static void points(void) {
     uint32_t tile = 9;
     same("no map", ponguriena_check_point(4, 3, SPIKED_TILES, 9, 70.0f, 40.0f, &tile),
@@ -296,6 +418,9 @@ int main(void) {
     a_leave();
     a_floor();
     spikes();
+    surprises();
+    refused_sending();
+    sent_from_spikes();
     points();
     walks();
     numbers();

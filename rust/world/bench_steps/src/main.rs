@@ -1,31 +1,38 @@
 //! Time per step of a whole world, by the port through its C interface and by
 //! document 01's world over libtw2. The latter is timed with the aim angle found
 //! in three ways: by a scan of all entries, as document 01 says it, by halving, and
-//! by the port's own function. Ratios below 1 say that the port is faster.
+//! by the port's own function. Ratios below 1 say that the port is faster. The last table
+//! has the port alone, with a sender beside its world and without.
 
 mod calls;
 mod play;
 mod scene;
 mod scenes;
+mod sending;
 mod sides;
 
 use original::find_angles_by;
 use play::{compare, per_step, times};
 use reference::{Xorshift, net_angle, scanned_angle};
-use scene::Scene;
+use scene::{ROUNDS, Scene};
 use sides::{Original, Port};
 use timing::least_times;
 
-const ROUNDS: usize = 60;
-
 fn main() {
     let mut random = Xorshift::default();
-    for scenes in [scenes::games, scenes::by_players, scenes::by_speed] {
-        print_heading();
-        scenes(&mut random).iter().for_each(print_row);
-        println!();
-    }
+    let games = scenes::games(&mut random);
+    print_steps(&games);
+    print_steps(&scenes::by_players(&mut random));
+    print_steps(&scenes::by_speed(&mut random));
     calls::print_calls(&scenes::crowds(&mut random));
+    println!();
+    sending::print_sending(&games);
+}
+
+fn print_steps(scenes: &[Scene]) {
+    print_heading();
+    scenes.iter().for_each(print_row);
+    println!();
 }
 
 fn print_heading() {

@@ -4,6 +4,7 @@
 use harness::draw::is_clear;
 use harness::{Call, Published, World};
 use libtw2_gamenet::snap_obj::PlayerInput;
+use original::CORE_NUMBERS;
 use reference::Xorshift;
 use tile_map::Map;
 
@@ -12,6 +13,9 @@ pub const BLOCKS: usize = 60;
 
 /// Steps from one time to the next.
 pub const STEPS: usize = 5;
+
+/// The fastest of so many rounds counts.
+pub const ROUNDS: usize = 60;
 
 /// So far from the middle of the map players join, in each coordinate.
 const FARTHEST_JOIN: f32 = 400.0;
@@ -68,6 +72,11 @@ impl Scene {
             blocks,
             speeds,
         }
+    }
+
+    /// The numbers of the records of all players over all steps.
+    pub fn records(&self) -> usize {
+        self.speeds.count * CORE_NUMBERS
     }
 }
 

@@ -30,11 +30,12 @@ pub trait Side<'a>: Sized {
 }
 
 pub struct Port<'a> {
-    map: ponguriena::Map<'a>,
-    world: [i32; WORLD_NUMBERS],
-    records: [i32; RECORDS_NUMBERS],
-    removed: [i32; SEATS],
-    count: usize,
+    pub map: ponguriena::Map<'a>,
+    pub world: [i32; WORLD_NUMBERS],
+    pub records: [i32; RECORDS_NUMBERS],
+    pub removed: [i32; SEATS],
+    /// How many of them count.
+    pub count: usize,
 }
 
 pub struct Original<'a> {

@@ -1,4 +1,5 @@
-//! Numbers that are lent as a world, though no world may have left them.
+//! Numbers that are lent as a world, as a sender or as a screen, though no call may have
+//! left them.
 
 use harness::encoding::{WORLD_NUMBERS, encoded};
 use harness::tunings::{ORDINARY, TUNINGS};
@@ -14,15 +15,20 @@ const DAMAGED: [usize; 3] = [3, 10, 60];
 
 /// With the game's tunings half of the times, since others refuse most steps.
 pub fn drawn(world: &harness::World, random: &mut Xorshift) -> Numbers {
-    let mut numbers = match below(random, 4) {
-        0 => [0; WORLD_NUMBERS].map(|_| any(random)),
-        1 => [0; WORLD_NUMBERS].map(|_| near(random)),
-        _ => damaged(world, random),
-    };
+    let mut numbers = drawn_near(encoded(world), random);
     if below(random, 2) == 0 {
         numbers[..TUNINGS].copy_from_slice(&ORDINARY);
     }
     numbers
+}
+
+/// Any, or these with some of them changed.
+pub fn drawn_near<const N: usize>(numbers: [i32; N], random: &mut Xorshift) -> [i32; N] {
+    match below(random, 4) {
+        0 => numbers.map(|_| any(random)),
+        1 => numbers.map(|_| near(random)),
+        _ => damaged(numbers, random),
+    }
 }
 
 /// Of all sizes, and ends.
@@ -39,9 +45,9 @@ fn near(random: &mut Xorshift) -> i32 {
     below(random, 2 * limit + 1) as i32 - limit as i32
 }
 
-fn damaged(world: &harness::World, random: &mut Xorshift) -> Numbers {
+fn damaged<const N: usize>(numbers: [i32; N], random: &mut Xorshift) -> [i32; N] {
     let one_in = pick(random, &DAMAGED);
-    encoded(world).map(|number| match below(random, one_in) {
+    numbers.map(|number| match below(random, one_in) {
         0 => any(random),
         _ => number,
     })

@@ -3,29 +3,18 @@
 //! calls go through the safe `World`; single calls on any numbers go through the
 //! buffers. Arguments: how many sequences, how many buffers, and a seed.
 
-mod any_numbers;
-mod differs;
-mod replay;
-mod sequences;
-mod single_calls;
-#[cfg(test)]
-mod tests;
-
-use differs::Differs;
+use compare_world::arguments::{Arguments, arguments};
+use compare_world::differs::Differs;
+use compare_world::{replay, sequences, single_calls};
 use record_calls::all_sequences;
-use std::env;
 
 fn main() -> Result<(), String> {
-    let arguments: Vec<String> = env::args().skip(1).collect();
-    let number = |word: &String| {
-        word.parse::<u64>()
-            .map_err(|_| format!("{word}: no number"))
-    };
-    let numbers = arguments.iter().map(number);
-    let [count, buffers, seed] = numbers.collect::<Result<Vec<u64>, _>>()?[..] else {
-        return Err("three numbers are to be named: sequences, buffers, seed".into());
-    };
-    compare_sequences(count, seed)?;
+    let Arguments {
+        sequences,
+        buffers,
+        seed,
+    } = arguments()?;
+    compare_sequences(sequences, seed)?;
     compare_buffers(buffers, seed)
 }
 

@@ -9,7 +9,7 @@ use port_calls::{call, number};
 use record_calls::{Line, Sequence};
 
 /// Beside those of seats and of tunings.
-const STRANGE: [i32; 4] = [-1, 64, i32::MIN, i32::MAX];
+pub const STRANGE: [i32; 4] = [-1, 64, i32::MIN, i32::MAX];
 
 /// How many calls were compared.
 pub fn replay(sequence: &Sequence) -> Result<usize, Differs> {
@@ -37,12 +37,12 @@ fn compare_line(world: &mut World, line: &Line) -> Result<(), Differs> {
     same_numbers("world", world.numbers(), &encoded(&line.after))
 }
 
-fn listed(records: &Records) -> Vec<(i32, [i32; CORE_NUMBERS])> {
+pub fn listed(records: &Records) -> Vec<(i32, [i32; CORE_NUMBERS])> {
     let numbers = |(id, core): (i32, ponguriena::CharacterCore)| (id, core.numbers());
     records.iter().map(numbers).collect()
 }
 
-fn expected(published: &Published) -> Vec<(i32, [i32; CORE_NUMBERS])> {
+pub fn expected(published: &Published) -> Vec<(i32, [i32; CORE_NUMBERS])> {
     let numbers = |(id, core): (i32, &Option<_>)| Some((id, core_numbers((*core)?)));
     let records = (0..).zip(&published.records);
     records.filter_map(numbers).collect()

@@ -1,5 +1,9 @@
 //! The example of document 01, the order among refusals, and that a refused call changes nothing.
 
+mod screens;
+mod sending;
+mod sending_lists;
+
 use crate::encoding::encoded_removed;
 use crate::tunings::{GRAVITY, HOOK_FIRE_SPEED, HOOK_LENGTH, ORDINARY};
 use crate::{Call, Published, Refusal, SEATS, World};

@@ -61,9 +61,7 @@ impl World {
     }
 
     pub fn tune(&mut self, index: i32, hundredths: i32) -> Result<(), Refusal> {
-        let index = usize::try_from(index).map_err(|_| Refusal::TuningIndex)?;
-        let tuning = self.tunings.get_mut(index).ok_or(Refusal::TuningIndex)?;
-        *tuning = hundredths;
+        self.tunings[tuning_place(index)?] = hundredths;
         Ok(())
     }
 
@@ -139,8 +137,16 @@ fn check_map(map: &Map) -> Result<(), Refusal> {
     Refusal::Map.when(map.tiles.len() != map.width * map.height)
 }
 
-fn seat(id: i32) -> Result<usize, Refusal> {
+/// The seat that has this id.
+pub fn seat(id: i32) -> Result<usize, Refusal> {
     let seat = usize::try_from(id).map_err(|_| Refusal::Id)?;
     Refusal::Id.when(seat >= SEATS)?;
     Ok(seat)
+}
+
+/// The place of the tuning that has this index.
+pub fn tuning_place(index: i32) -> Result<usize, Refusal> {
+    let place = usize::try_from(index).map_err(|_| Refusal::TuningIndex)?;
+    Refusal::TuningIndex.when(place >= TUNINGS)?;
+    Ok(place)
 }

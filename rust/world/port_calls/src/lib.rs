@@ -1,5 +1,9 @@
 //! The calls of the harness, made on the port.
 
+mod sending;
+
+pub use sending::{PortLink, PortSent};
+
 use harness::Call;
 use original::input_numbers;
 use ponguriena::{Map, PlayerInput, Records, Refusal, World, buffers};
@@ -50,6 +54,6 @@ pub fn number<T>(answer: &Result<T, Refusal>) -> u32 {
         .map_or_else(|refusal| refusal.number(), |_| 0)
 }
 
-fn input_of(input: libtw2_gamenet::snap_obj::PlayerInput) -> PlayerInput {
+pub fn input_of(input: libtw2_gamenet::snap_obj::PlayerInput) -> PlayerInput {
     PlayerInput::from_numbers(input_numbers(input))
 }

@@ -1,4 +1,4 @@
-//! A world and what a step publishes, each as one word: that of its numbers.
+//! Numbers as one word, among them those of a world and of what a step publishes.
 
 use harness::encoding::{encoded, encoded_records};
 use harness::{Published, World};
@@ -21,7 +21,7 @@ pub fn published_digest(published: &Published) -> u32 {
     digest(&numbers)
 }
 
-fn digest(numbers: &[i32]) -> u32 {
+pub fn digest(numbers: &[i32]) -> u32 {
     let sum = |digest, number: &i32| (digest * FACTOR + u64::from(number.to_pattern())) % MODULUS;
     numbers.iter().fold(0, sum) as u32
 }

@@ -1,11 +1,11 @@
 //! Sequences of calls on a world, with the answers of document 01's world over libtw2.
 
-mod digest;
+pub mod digest;
 mod hooks;
-mod inputs;
+pub mod inputs;
 mod leavers;
 mod limits;
-mod maps;
+pub mod maps;
 mod marks;
 mod play;
 mod refusals;

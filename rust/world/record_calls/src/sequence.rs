@@ -26,28 +26,34 @@ impl Line {
         self.answer.map_or_else(Refusal::number, |_| ACCEPTED)
     }
 
-    /// Whether fresh, map and words.
-    pub fn text(&self) -> String {
-        let fresh = if self.fresh { 'n' } else { 'c' };
-        let words: Vec<String> = self
-            .words()
-            .iter()
-            .map(|word| format!("{word:08x}"))
-            .collect();
-        format!("{fresh} {} {}", self.map.text(), words.join(" "))
+    /// The map that the call is told, which may be none.
+    pub fn told_map(&self) -> Map {
+        Map {
+            width: self.sides.0 as usize,
+            height: self.sides.1 as usize,
+            tiles: self.map.tiles.clone(),
+        }
     }
 
-    /// Sides, code and arguments, answer, digest of the world, digest of what is published.
-    fn words(&self) -> Vec<u32> {
+    /// With the digest of the world and that of what is published.
+    pub fn text(&self) -> String {
+        let published = match (self.call, &self.answer) {
+            (Call::Step, Ok(published)) => published_digest(published),
+            _ => 0,
+        };
+        self.text_with(&[world_digest(&self.after), published])
+    }
+
+    /// Whether fresh, the map, and as words the sides, the code with its arguments, the
+    /// answer and digests.
+    pub fn text_with(&self, digests: &[u32]) -> String {
+        let fresh = if self.fresh { 'n' } else { 'c' };
         let mut words = vec![self.sides.0, self.sides.1];
         words.extend(self.call.numbers().map(i32::to_pattern));
         words.push(self.number());
-        words.push(world_digest(&self.after));
-        words.push(match (self.call, &self.answer) {
-            (Call::Step, Ok(published)) => published_digest(published),
-            _ => 0,
-        });
-        words
+        words.extend(digests);
+        let words: Vec<String> = words.iter().map(|word| format!("{word:08x}")).collect();
+        format!("{fresh} {} {}", self.map.text(), words.join(" "))
     }
 }
 

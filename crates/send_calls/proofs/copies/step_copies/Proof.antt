@@ -13,7 +13,7 @@ use Rattle.base_turns.proofs.Loop.{Left, always, fold-first, turn-on, fold-end}
 use Rattle.game_tuning.specs.declared.Tuning.{Tuning}
 use Rattle.map_tiles.specs.declared.tiles.Sides.{Sides}
 use Rattle.character.specs.Tick.{seats}
-use Rattle.send_rule.specs.Send.{noCopy, copyAt, stepCopies}
+use Rattle.send_rule.specs.Send.{noCopy, copyAt}
 use Rattle.send_rule.specs.declared.Copy.{Copy}
 use Rattle.send_alone.specs.Alone.{copyAlone, aloneTurn, copiesAlone}
 use Rattle.send_alone.proofs.Copies.{copies-alone}

@@ -1,5 +1,4 @@
 -- `send_calls::sender::send` meets its contract. Assumes nothing.
-use mathlib.Core.Path.{sym, ap, _∙_}
 use borrow.Author.Tests.{eq-eqb, ne-eqb}
 use borrow.Author.Needs.{needs}
 use Rattle.send_calls.proofs.sender.send.Statement.{statement}

@@ -6,6 +6,8 @@ use lib.ListN.{length}
 use borrow.Author.Needs.{needs}
 use Rattle.send_numbers.specs.Passing.{passedCount}
 use Rattle.send_numbers.proofs.PassedBack.{Written, none-written, next-written}
+use Rattle.character.specs.Tick.{seats}
+use Rattle.send_rule.specs.Send.{mostPassed}
 use Rattle.send_numbers.proofs.passing.encode_items.Statement.{statement}
 use Rattle.send_numbers.proofs.passing.encode_items.Tie as tie
 
@@ -38,7 +40,7 @@ loop-again c =
     let k = c .before .put-passed in
     let l = c .before .before .before .before .before in
     let s = l .before in
-    let m : length (s .args .t1) ≡ 33 = search needs in
+    let m : length (s .args .t1) ≡ mostPassed seats = search needs in
     (omega arith, k .kept .1 .1 .0 ∙ l .loop .inv .1, next-written (s .args .numbers .now) (s .args .t1) (l .loop .i) (l .loop .numbers) _ (l .loop .at) (k .result) _ (l .loop .inv .2) (omega arith) (k .ensures .0) (k .ensures .1))
 
 same-length : tie.Need-same-length Inv-loop μ-loop

@@ -55,15 +55,6 @@ impl Step {
     }
 }
 
-/// With the sides that the call was told.
-fn told_map(line: &Line) -> Map {
-    Map {
-        width: line.sides.0 as usize,
-        height: line.sides.1 as usize,
-        tiles: line.map.tiles.clone(),
-    }
-}
-
 fn is_deadly(map: &Map, x: i32, y: i32) -> bool {
     map.is_deadly(vec2::new(x as f32, y as f32))
 }
@@ -96,7 +87,7 @@ fn just_those_on_spikes_are_removed() {
     let fresh = World::fresh();
     let mut counts = [0; 2];
     for step in steps_of(all_lines()) {
-        let map = told_map(&step.line);
+        let map = step.line.told_map();
         for (id, core, removed) in step.records() {
             assert_eq!(removed, kills(&map, (core.x, core.y)));
             let slot = step.line.after.slots[id];

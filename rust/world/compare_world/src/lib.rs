@@ -1,0 +1,13 @@
+//! The port beside document 01's world over libtw2: what is compared, and on what.
+
+pub mod any_numbers;
+pub mod arguments;
+pub mod differs;
+pub mod receives;
+pub mod replay;
+pub mod send_calls;
+pub mod send_replay;
+pub mod sequences;
+pub mod single_calls;
+#[cfg(test)]
+mod tests;

@@ -1,0 +1,56 @@
+//! The same calls with a sender beside the port's world.
+
+use crate::input_of;
+use harness::Call;
+use ponguriena::{Map, Records, Refusal, Screen, Sender, World};
+
+/// A server's world with its sender, and a screen to which all that is passed along
+/// arrives.
+pub struct PortLink {
+    pub world: World,
+    pub sender: Sender,
+    pub screen: Screen,
+}
+
+/// What an accepted call tells.
+pub struct PortSent {
+    /// After a step.
+    pub records: Option<Records>,
+    /// The numbers that are passed along.
+    pub passed: Vec<i32>,
+}
+
+impl PortLink {
+    pub fn fresh() -> PortLink {
+        PortLink {
+            world: World::fresh(),
+            sender: Sender::fresh(),
+            screen: Screen::fresh(),
+        }
+    }
+
+    pub fn call(&mut self, map: &Map, call: Call) -> Result<PortSent, Refusal> {
+        let sent = self.send(map, call)?;
+        self.screen.receive(map, &sent.passed)?;
+        Ok(sent)
+    }
+
+    fn send(&mut self, map: &Map, call: Call) -> Result<PortSent, Refusal> {
+        let (world, sender) = (&mut self.world, &mut self.sender);
+        let mut records = None;
+        let passed = match call {
+            Call::Join { id, x, y } => world.join(map, id, x, y).map(|()| Vec::new())?,
+            Call::Input { id, input } => world.input(id, input_of(input)).map(|()| Vec::new())?,
+            Call::Leave { id } => sender.leave(world, id)?.numbers().to_vec(),
+            Call::Tune { index, hundredths } => {
+                sender.tune(world, index, hundredths)?.numbers().to_vec()
+            }
+            Call::Step => {
+                let (taken, passed) = sender.step(world, map)?;
+                records = Some(taken);
+                passed.numbers().to_vec()
+            }
+        };
+        Ok(PortSent { records, passed })
+    }
+}
