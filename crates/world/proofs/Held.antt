@@ -50,21 +50,21 @@ abbrev There : List Slot → ℕ → Type 0
 There ss k = slotAt ss k .present ≡ true
 
 -- whom the hook of a slot holds is there
-abbrev Holds : List Slot → Slot → Type 0
-Holds ss x = Only (There ss) (x .character .hook)
+abbrev HoldsPresent : List Slot → Slot → Type 0
+HoldsPresent ss x = Only (There ss) (x .character .hook)
 
 -- ---- a step that began with ss
 module _ (n : ℕ) (s : Sides) (ts : List ℕ) (t : Tuning) (ss : List Slot) where
   -- the same ones are there, and nobody else is held
   record Holding (us : List Slot) : Type 0 where
     there : (k : ℕ) → slotAt us k .present ≡ slotAt ss k .present
-    held : (j : ℕ) → Holds ss (slotAt us j)
+    held : (j : ℕ) → HoldsPresent ss (slotAt us j)
 
   -- a slot whose presence stays
-  holding-set : (us : List Slot) (j : ℕ) (x : Slot) → Holding us → x .present ≡ slotAt us j .present → Holds ss x → Holding (set us j x)
+  holding-set : (us : List Slot) (j : ℕ) (x : Slot) → Holding us → x .present ≡ slotAt us j .present → HoldsPresent ss x → Holding (set us j x)
   holding-set us j x h p k = record {
     there = set-every (λ i y. y .present ≡ slotAt ss i .present) us j x nowhere (h .there) (p ∙ h .there j);
-    held = set-every (λ i y. Holds ss y) us j x nowhere (h .held) k;
+    held = set-every (λ i y. HoldsPresent ss y) us j x nowhere (h .held) k;
   }
 
   tick-turn : (j : ℕ) (us : List Slot) → Holding us → Ends Holding (λ r. Unit {0}) (tickTurn n s ts t j us)
@@ -73,7 +73,7 @@ module _ (n : ℕ) (s : Sides) (ts : List ℕ) (t : Tuning) (ss : List Slot) whe
       pulled : (a : AfterTick) → Holding (afterPull us (a .pull))
       pulled a = let same = pulled-others us (a .pull) in record {
         there = λ k. ap (λ (y : Slot). y .present) (same k) ∙ h .there k;
-        held = λ k. subst (Holds ss) (sym (same k)) (h .held k);
+        held = λ k. subst (HoldsPresent ss) (sym (same k)) (h .held k);
       }
 
       ticks : (k : TickedAt) → Then (λ a. Only (There ss) (a .me .hook)) k → Ends Holding (λ r. Unit {0}) (afterTick us j k)
@@ -103,18 +103,18 @@ module _ (n : ℕ) (s : Sides) (ts : List ℕ) (t : Tuning) (ss : List Slot) whe
 -- ---- every call, and every list of them
 -- whom a hook of w holds is there
 abbrev pub HeldIn : World → Type 0
-HeldIn w = (j : ℕ) → Holds (w .slots) (slotAt (w .slots) j)
+HeldIn w = (j : ℕ) → HoldsPresent (w .slots) (slotAt (w .slots) j)
 
 module _ (n : ℕ) (s : Sides) (ts : List ℕ) where
   module _ (w : World) (h : HeldIn w) where
     -- nobody goes away
-    set-held : (i : ℕ) (x : Slot) → (slotAt (w .slots) i .present ≡ true → x .present ≡ true) → Holds (w .slots) x → HeldIn (withSlot w i x)
-    set-held i x p k j = holds-only (There (w .slots)) (There (withSlot w i x .slots)) (slotAt (set (w .slots) i x) j .character .hook) (set-every (λ m y. Holds (w .slots) y) (w .slots) i x nowhere h k j) (λ m e. set-every (λ m y. slotAt (w .slots) m .present ≡ true → y .present ≡ true) (w .slots) i x nowhere (λ m q. q) p m)
+    set-held : (i : ℕ) (x : Slot) → (slotAt (w .slots) i .present ≡ true → x .present ≡ true) → HoldsPresent (w .slots) x → HeldIn (withSlot w i x)
+    set-held i x p k j = holds-only (There (w .slots)) (There (withSlot w i x .slots)) (slotAt (set (w .slots) i x) j .character .hook) (set-every (λ m y. HoldsPresent (w .slots) y) (w .slots) i x nowhere h k j) (λ m e. set-every (λ m y. slotAt (w .slots) m .present ≡ true → y .present ≡ true) (w .slots) i x nowhere (λ m q. q) p m)
 
     -- who goes away is held by nobody
     vacated-held : (i : ℕ) → HeldIn (vacate w i)
     unfolding spawn
-    vacated-held i j = holds-only (There (w .slots)) (There (vacate w i .slots)) (hook j) (vacated-every w i (λ m y. Holds (w .slots) y) tt (λ m. released-only (slotAt (w .slots) m .character .hook) i (There (w .slots)) (h m)) j) others
+    vacated-held i j = holds-only (There (w .slots)) (There (vacate w i .slots)) (hook j) (vacated-every w i (λ m y. HoldsPresent (w .slots) y) tt (λ m. released-only (slotAt (w .slots) m .character .hook) i (There (w .slots)) (h m)) j) others
       where
         hook : ℕ → Hook
         hook m = slotAt (vacate w i .slots) m .character .hook
@@ -153,7 +153,7 @@ module _ (n : ℕ) (s : Sides) (ts : List ℕ) where
 
 fresh-held : (n : ℕ) → HeldIn (fresh n)
 unfolding fresh spawn
-fresh-held n = replicate-every (λ (x : Slot). Holds (fresh n .slots) x) n emptySlot nowhere tt tt
+fresh-held n = replicate-every (λ (x : Slot). HoldsPresent (fresh n .slots) x) n emptySlot nowhere tt tt
 
 pub held-present : (n : ℕ) → HeldPresent n
 held-present n s ts cs j k e =
