@@ -47,7 +47,7 @@ use Rattle.character.specs.declared.tick.HookFlight.the-variants.{TooFar
 
 -- how many slots a world has; every definition below takes any number n of them
 abbrev pub seats : ℕ
-seats = 16
+seats = 64
 
 -- what an index past the end reads, which no call does: the value that the logic takes for it
 abbrev pub nowhere : Slot

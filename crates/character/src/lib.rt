@@ -34,7 +34,7 @@ pub struct Character {
 }
 
 // How many characters a world has room for.
-pub const SEATS: usize = 16;
+pub const SEATS: usize = 64;
 
 // A place for a character: there or not, with its last input and its floor mark, what `grounded` answered in its last tick.
 pub struct Slot {

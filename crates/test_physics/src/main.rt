@@ -1,6 +1,7 @@
 // Runs the recorded answers of the Rust for `tick` and `move_`, prints the lines that are answered otherwise, and tells how many
 // agree. rust/world/record_physics prints the lines: t or m, the map's sides and 64 tiles, then the words of a scene: the id,
-// the tunings, the input, the slots with presence and a character each; then what was answered: the number, the character, the velocities in the slots.
+// the tunings, the input, the first slots with presence and a character each; then what was answered: the number, the character, the velocities in these
+// slots. Beyond them nobody is: whoever has a turn there is as in a fresh world.
 use character::Character;
 use character::Moved;
 use character::SEATS;
@@ -31,6 +32,7 @@ use test_common::sides_of;
 use test_common::tile_count;
 use test_common::tiles_of;
 ghost use Prim.Native.Nat.{_<_};
+ghost use Rattle.test_physics.specs.Scene.{scene};
 
 // The length of a line.
 const LINE: usize = 2566;
@@ -46,12 +48,15 @@ const SLOTS: usize = 24;
 
 const SLOT_WORDS: usize = 13;
 
+// How many slots a line tells.
+const SCENE: usize = 16;
+
 // Where what was answered begins.
-const NUMBER: usize = 232;
+const NUMBER: usize = SLOTS + SLOT_WORDS * SCENE;
 
-const CHARACTER: usize = 233;
+const CHARACTER: usize = NUMBER + 1;
 
-const VELOCITIES: usize = 245;
+const VELOCITIES: usize = CHARACTER + SLOT_WORDS - 1;
 
 // The number of an answer that is not refused.
 const ACCEPTED: u32 = 0;
@@ -139,7 +144,7 @@ fn move_agrees(sides: Sides, tiles: &[u8], words: &[u8]) -> bool {
 // The character whose turn it is.
 fn own_character(words: &[u8]) -> Character {
     let id = id_of(words) as usize;
-    if id < SEATS {
+    if id < SCENE {
         let slot = slot_of(words, id);
         return slot.character;
     }
@@ -148,7 +153,7 @@ fn own_character(words: &[u8]) -> Character {
 
 fn slots_agree(slots: [Slot; SEATS], pull: HookPull, words: &[u8]) -> bool {
     let mut agree = true;
-    for j in 0..SEATS {
+    for j in 0..SCENE {
         if !slot_agrees(slots[j], pull, words, j) {
             agree = false;
         }
@@ -158,7 +163,7 @@ fn slots_agree(slots: [Slot; SEATS], pull: HookPull, words: &[u8]) -> bool {
 
 // Nothing of a slot changes but the velocity.
 fn slot_agrees(from: Slot, pull: HookPull, words: &[u8], j: usize) -> bool
-    requires { ⌜ j < 16 ⌝ }
+    requires { ⌜ j < scene ⌝ }
 {
     let slot = from.pulled(pull, j);
     let before = slot_of(words, j);
@@ -208,8 +213,8 @@ fn input_of(words: &[u8]) -> PlayerInput {
 }
 
 fn slots_of(words: &[u8]) -> [Slot; SEATS] {
-    let mut slots = [slot_of(words, 0); SEATS];
-    for j in 0..SEATS {
+    let mut slots = [Slot::empty(); SEATS];
+    for j in 0..SCENE {
         slots[j] = slot_of(words, j);
     }
     slots
@@ -217,7 +222,7 @@ fn slots_of(words: &[u8]) -> [Slot; SEATS] {
 
 // Every slot has the same input.
 fn slot_of(words: &[u8], j: usize) -> Slot
-    requires { ⌜ j < 16 ⌝ }
+    requires { ⌜ j < scene ⌝ }
 {
     let character = character_of(character_words(words, j));
     let slot = if is_present(words, j) {
@@ -229,13 +234,13 @@ fn slot_of(words: &[u8], j: usize) -> Slot
 }
 
 fn is_present(words: &[u8], j: usize) -> bool
-    requires { ⌜ j < 16 ⌝ }
+    requires { ⌜ j < scene ⌝ }
 {
     nth(words, SLOTS + j * SLOT_WORDS) == 1
 }
 
 fn character_words(words: &[u8], j: usize) -> &[u8]
-    requires { ⌜ j < 16 ⌝ }
+    requires { ⌜ j < scene ⌝ }
 {
     after(words, SLOTS + j * SLOT_WORDS + 1)
 }

@@ -36,7 +36,7 @@ enum {
 
 /* Lengths, in numbers. */
 enum {
-    PONGURIENA_SEATS = 16,                /* ids are 0 to 15 */
+    PONGURIENA_SEATS = 64,                /* ids are 0 to 63 */
     PONGURIENA_TUNINGS = 18,              /* each in hundredths */
     PONGURIENA_RECORD = 15,               /* tick, x, y, vel_x, vel_y, angle, direction, jumped,
                                              hooked_player, hook_state, hook_tick, hook_x, hook_y,

@@ -28,7 +28,7 @@ use crate::walks::Map;
 
 /// The seats of a world, and the numbers for whom a step removes. Ids are 0 up to one
 /// less.
-pub const SEATS: usize = 16;
+pub const SEATS: usize = 64;
 
 /// The tunings of a world, each in hundredths.
 pub const TUNINGS: usize = 18;

@@ -5,7 +5,7 @@ use crate::refusal::Refusal;
 use crate::snap_obj::{CORE_NUMBERS, CharacterCore, INPUT_NUMBERS, PlayerInput};
 use crate::walks::Map;
 
-/// Sixteen seats, each empty or with a character, its last input and its floor mark,
+/// Sixty-four seats, each empty or with a character, its last input and its floor mark,
 /// and the tunings. No call stops on any input: it does its work, or gives a [`Refusal`]
 /// and leaves the world as it was.
 ///

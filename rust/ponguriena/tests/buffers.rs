@@ -129,6 +129,28 @@ fn nobody_is_zeros() {
     assert_eq!(world, fresh);
 }
 
+/// Ids in hooks are not seats: the record comes back, and nobody's leave lets go of it.
+#[test]
+fn a_hook_may_hold_an_id_without_a_seat() {
+    for held in [63, SEATS as i32, -2, i32::MIN, i32::MAX] {
+        let mut world = [0; WORLD_NUMBERS];
+        assert_eq!(buffers::fresh(&mut world), Ok(()));
+        for id in [0, 63] {
+            assert_eq!(buffers::join(&mut world, &OPEN, id, 16, 16), Ok(()));
+        }
+        let core = &mut world[TUNINGS + 1..][..CORE_NUMBERS];
+        (core[8], core[9]) = (held, 5);
+        let expected = core.to_vec();
+        let mut record = [UNWRITTEN; CORE_NUMBERS];
+        assert_eq!(buffers::record(&world, 0, &mut record), Ok(()));
+        assert_eq!(record, expected[..]);
+        assert_eq!(buffers::leave(&mut world, 63), Ok(()));
+        assert_eq!(buffers::record(&world, 0, &mut record), Ok(()));
+        let told = if held == 63 { (-1, -1) } else { (held, 5) };
+        assert_eq!((record[8], record[9]), told);
+    }
+}
+
 /// Of all sizes.
 fn any_number(random: &mut Xorshift) -> i32 {
     let shift = random.pattern() % 32;

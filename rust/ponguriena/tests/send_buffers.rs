@@ -196,7 +196,8 @@ fn fresh_screen() -> [i32; SCREEN_NUMBERS] {
 #[test]
 fn the_first_thing_is_taken() {
     let message: Vec<i32> = (0..MESSAGE_NUMBERS as i32).map(|n| n.max(1)).collect();
-    for thing in [&[0][..], &message, &[2, 15], &[3, 0], &[4, 17, -5]] {
+    let (seat, tuning) = (SEATS as i32 - 1, TUNINGS as i32 - 1);
+    for thing in [&[0][..], &message, &[2, seat], &[3, 0], &[4, tuning, -5]] {
         let mut screen = fresh_screen();
         let less = send_buffers::receive(&mut screen, &OPEN, &thing[..thing.len() - 1]);
         assert_eq!(less, Err(Refusal::BadLength));

@@ -122,6 +122,21 @@ fn a_screen_shows_what_the_steps_took() -> Result<(), Refusal> {
     Ok(())
 }
 
+/// A message and a removal of each by rising id: no call passes more along.
+#[test]
+fn everybody_is_sent_and_removed() -> Result<(), Refusal> {
+    let ids: Vec<i32> = (0..SEATS as i32).collect();
+    let mut link = Link::fresh();
+    for &id in ids.iter().rev() {
+        link.world.join(&SPIKED, id, 80, 40 * id)?;
+    }
+    assert_eq!(link.step(&SPIKED)?, (ids.clone(), ids));
+    assert_eq!(link.world, World::fresh());
+    assert_eq!(link.sender, Sender::fresh());
+    assert_eq!(link.screen, Screen::fresh());
+    Ok(())
+}
+
 /// Also a leave of whom nothing was sent, and a tuning that changes nothing.
 #[test]
 fn leaves_and_tunings_are_passed_along() -> Result<(), Refusal> {

@@ -58,11 +58,11 @@ fn the_example_of_document_01() -> Result<(), Refusal> {
 #[test]
 fn records_come_by_rising_id() -> Result<(), Refusal> {
     let mut world = World::fresh();
-    for id in [9, 15, 0, 4] {
+    for id in [9, 63, 15, 0, 16, 4] {
         world.join(&OPEN, id, 20 * id, 40)?;
     }
     let ids: Vec<i32> = world.step(&OPEN)?.iter().map(|(id, _)| id).collect();
-    assert_eq!(ids, [0, 4, 9, 15]);
+    assert_eq!(ids, [0, 4, 9, 15, 16, 63]);
     Ok(())
 }
 
@@ -83,7 +83,14 @@ fn a_join_is_refused_with_the_lowest_number() {
 #[test]
 fn the_absent_have_nothing() {
     let mut world = World::fresh();
-    for (id, refusal) in [(-1, Refusal::BadId), (15, Refusal::Absent)] {
+    let no_seat = SEATS as i32;
+    for (id, refusal) in [
+        (-1, Refusal::BadId),
+        (no_seat, Refusal::BadId),
+        (no_seat - 1, Refusal::Absent),
+        (15, Refusal::Absent),
+        (16, Refusal::Absent),
+    ] {
         assert_eq!(world.leave(id), Err(refusal));
         assert_eq!(world.input(id, HOOK), Err(refusal));
         assert_eq!(world.record(id), Err(refusal));
@@ -135,6 +142,26 @@ fn who_left_is_held_by_nobody() -> Result<(), Refusal> {
     Ok(())
 }
 
+/// Ids are 0 to 63; of two who are as near a hook grabs the lower one.
+#[test]
+fn the_last_seat_is_one() -> Result<(), Refusal> {
+    assert_eq!(SEATS, 64);
+    for (lower, higher) in [(0, 63), (15, 16), (62, 63)] {
+        let mut world = World::fresh();
+        world.join(&OPEN, higher, 82, 20)?;
+        world.join(&OPEN, lower, 82, -20)?;
+        world.join(&OPEN, 40, 0, 0)?;
+        world.input(40, HOOK)?;
+        world.step(&OPEN)?;
+        assert_eq!(hook(world.record(40)?), (5, lower));
+        world.leave(higher)?;
+        assert_eq!(hook(world.record(40)?), (5, lower));
+        world.leave(lower)?;
+        assert_eq!(hook(world.record(40)?), (-1, -1));
+    }
+    Ok(())
+}
+
 /// The record is taken before the removal, so it still tells the grab.
 #[test]
 fn who_died_is_held_by_nobody() -> Result<(), Refusal> {
@@ -177,7 +204,7 @@ fn everybody_dies_wherever_they_are() -> Result<(), Refusal> {
     let ids: Vec<i32> = (0..SEATS as i32).collect();
     let mut world = World::fresh();
     for &id in &ids {
-        world.join(&spikes, id, 5000 * id, -5000)?;
+        world.join(&spikes, id, 1500 * id, -5000)?;
     }
     assert_eq!(world.step(&spikes)?.removed(), ids);
     assert_eq!(world, World::fresh());

@@ -2,14 +2,15 @@
 use Prim.Native.Nat.{_-_, _≤_}
 use native.Mathlib.Omega.{arith}
 use borrow.Author.Needs.{needs}
+use Rattle.test_physics.specs.Scene.{scene}
 use Rattle.test_physics.proofs.slots_agree.Statement.{statement}
 use Rattle.test_physics.proofs.slots_agree.Tie as tie
 
 abbrev Inv-loop : tie.InvT-loop
-Inv-loop words slots pull agree₀ j₀ agree j = j ≤ 16
+Inv-loop words slots pull agree₀ j₀ agree j = j ≤ scene
 
 abbrev μ-loop : tie.MeasureT-loop
-μ-loop words slots pull agree₀ j₀ agree j = 16 - j
+μ-loop words slots pull agree₀ j₀ agree j = scene - j
 
 loop-holds : tie.Need-loop-holds Inv-loop μ-loop
 loop-holds c = omega arith

@@ -4,23 +4,25 @@ use Prim.Native.Nat.{_-_, _≤_}
 use native.Mathlib.Omega.{arith}
 use borrow.Author.Needs.{needs}
 use lib.ListN.{length, length-set}
+use Rattle.character.specs.Tick.{seats}
+use Rattle.test_physics.specs.Scene.{scene}
 use Rattle.test_physics.proofs.slots_of.Statement.{statement}
 use Rattle.test_physics.proofs.slots_of.Tie as tie
 
 abbrev Inv-loop : tie.InvT-loop
-Inv-loop words slots₀ j₀ slots j = (j ≤ 16) × (length slots ≡ 16)
+Inv-loop words slots₀ j₀ slots j = (j ≤ scene) × (length slots ≡ seats)
 
 abbrev μ-loop : tie.MeasureT-loop
-μ-loop words slots₀ j₀ slots j = 16 - j
+μ-loop words slots₀ j₀ slots j = scene - j
 
-slot-of-requires : tie.Need-slot-of-requires Inv-loop μ-loop
-slot-of-requires c κs = omega arith
+empty-requires : tie.Need-empty-requires Inv-loop μ-loop
+empty-requires c κs = tt
 
 loop-holds : tie.Need-loop-holds Inv-loop μ-loop
 loop-holds c = search needs
 
-slot-of-requires-2 : tie.Need-slot-of-requires-2 Inv-loop μ-loop
-slot-of-requires-2 c κs = omega arith
+slot-of-requires : tie.Need-slot-of-requires Inv-loop μ-loop
+slot-of-requires c κs = omega arith
 
 mul-slots : tie.Need-mul-slots Inv-loop μ-loop
 mul-slots c = search needs
@@ -46,9 +48,9 @@ slots-of-spec =
     (tie.spec
     Inv-loop
     μ-loop
-    slot-of-requires
+    empty-requires
     loop-holds
-    slot-of-requires-2
+    slot-of-requires
     mul-slots
     array-set-from-slots
     add-j

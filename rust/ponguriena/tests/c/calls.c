@@ -8,6 +8,9 @@
 
 #define LENGTH(array) (sizeof(array) / sizeof(array)[0])
 
+/* The last id, and one that no seat has. */
+enum { LAST = PONGURIENA_SEATS - 1, NO_SEAT = PONGURIENA_SEATS };
+
 typedef struct {
     uint32_t width, height;
     const uint8_t *tiles;
@@ -159,9 +162,9 @@ static void refusals(void) {
     int32_t record[PONGURIENA_RECORD];
     static const int32_t nothing[PONGURIENA_INPUT] = {0};
     memcpy(before, world, sizeof world);
-    same("join without a map", join(NO_MAP, 16, 0, 0), PONGURIENA_BAD_MAP);
+    same("join without a map", join(NO_MAP, NO_SEAT, 0, 0), PONGURIENA_BAD_MAP);
     same("step without a map", step(NO_MAP), PONGURIENA_BAD_MAP);
-    same("join of 16", join(FLOOR, 16, 100001, 0), PONGURIENA_BAD_ID);
+    same("join of no seat", join(FLOOR, NO_SEAT, 100001, 0), PONGURIENA_BAD_ID);
     same("leave of -1", ponguriena_leave(world, LENGTH(world), -1), PONGURIENA_BAD_ID);
     same("join far away", join(FLOOR, 3, 48, -100001), PONGURIENA_OUT_OF_REACH);
     same("join in the floor", join(FLOOR, 3, 48, 64), PONGURIENA_NOT_CLEAR);
@@ -178,10 +181,10 @@ static void lengths(void) {
     const size_t less = LENGTH(world) - 1;
     int32_t number = 0;
     same("fresh", ponguriena_fresh(world, less), PONGURIENA_BAD_LENGTH);
-    same("join", ponguriena_join(world, less, 0, 0, OPEN_TILES, 9, 16, 0, 0),
+    same("join", ponguriena_join(world, less, 0, 0, OPEN_TILES, 9, NO_SEAT, 0, 0),
          PONGURIENA_BAD_LENGTH);
-    same("leave", ponguriena_leave(world, less, 16), PONGURIENA_BAD_LENGTH);
-    same("input", ponguriena_input(world, less, 16, 0, 0, 0, 0, 0), PONGURIENA_BAD_LENGTH);
+    same("leave", ponguriena_leave(world, less, NO_SEAT), PONGURIENA_BAD_LENGTH);
+    same("input", ponguriena_input(world, less, NO_SEAT, 0, 0, 0, 0, 0), PONGURIENA_BAD_LENGTH);
     same("tune", ponguriena_tune(world, less, 18, 0), PONGURIENA_BAD_LENGTH);
     same("step",
          ponguriena_step(world, LENGTH(world), 0, 0, OPEN_TILES, 9, records, LENGTH(records) - 1,
@@ -191,11 +194,12 @@ static void lengths(void) {
          ponguriena_step(world, LENGTH(world), 0, 0, OPEN_TILES, 9, records, LENGTH(records),
                          removed, LENGTH(removed) - 1, &removed_count),
          PONGURIENA_BAD_LENGTH);
-    same("record", ponguriena_record(world, LENGTH(world), 16, &number, 1), PONGURIENA_BAD_LENGTH);
-    same("player_input", ponguriena_player_input(world, LENGTH(world), 16, &number, 1),
+    same("record", ponguriena_record(world, LENGTH(world), NO_SEAT, &number, 1),
+         PONGURIENA_BAD_LENGTH);
+    same("player_input", ponguriena_player_input(world, LENGTH(world), NO_SEAT, &number, 1),
          PONGURIENA_BAD_LENGTH);
     same("tuning", ponguriena_tuning(world, less, 18, &number), PONGURIENA_BAD_LENGTH);
-    same("mark", ponguriena_floor_mark(world, less, 16, &number), PONGURIENA_BAD_LENGTH);
+    same("mark", ponguriena_floor_mark(world, less, NO_SEAT, &number), PONGURIENA_BAD_LENGTH);
 }
 
 /* A hook that would fly too far refuses the step. */
@@ -225,7 +229,8 @@ static void a_floor(void) {
     int32_t mark = -7;
     same("fresh", fresh(), PONGURIENA_ACCEPTED);
     same("mark of 3", ponguriena_floor_mark(world, LENGTH(world), 3, &mark), PONGURIENA_ABSENT);
-    same("mark of 16", ponguriena_floor_mark(world, LENGTH(world), 16, &mark), PONGURIENA_BAD_ID);
+    same("mark of no seat", ponguriena_floor_mark(world, LENGTH(world), NO_SEAT, &mark),
+         PONGURIENA_BAD_ID);
     same("mark after refusals", mark, -7);
     same("join", join(FLOOR, 3, 48, 49), PONGURIENA_ACCEPTED);
     same("mark", ponguriena_floor_mark(world, LENGTH(world), 3, &mark), PONGURIENA_ACCEPTED);
@@ -254,6 +259,27 @@ static void spikes(void) {
         same("seat", world[PONGURIENA_TUNINGS + id * PONGURIENA_SEAT], id == 4);
     }
     same("leave of 7", ponguriena_leave(world, LENGTH(world), 7), PONGURIENA_ABSENT);
+}
+
+/* The first holds the last, who leaves. */
+static void the_last_seat(void) {
+    static const int32_t hook[] = {0, 1, 0, 0, 1};
+    int32_t record[PONGURIENA_RECORD];
+    same("seats", PONGURIENA_SEATS, 64);
+    same("fresh", fresh(), PONGURIENA_ACCEPTED);
+    same("join of 0", join(OPEN, 0, 0, 0), PONGURIENA_ACCEPTED);
+    same("join of the last", join(OPEN, LAST, 110, 0), PONGURIENA_ACCEPTED);
+    same("input", input(0, hook), PONGURIENA_ACCEPTED);
+    same("step", step(OPEN), PONGURIENA_ACCEPTED);
+    for (int32_t id = 0; id < PONGURIENA_SEATS; id++) {
+        same("record", records[id * PONGURIENA_PUBLISHED], id == 0 || id == LAST);
+    }
+    same("held", records[1 + 8], LAST);
+    same("leave of the last", ponguriena_leave(world, LENGTH(world), LAST), PONGURIENA_ACCEPTED);
+    same("record of 0", ponguriena_record(world, LENGTH(world), 0, record, LENGTH(record)),
+         PONGURIENA_ACCEPTED);
+    same("held after the leave", record[8], -1);
+    same("leave again", ponguriena_leave(world, LENGTH(world), LAST), PONGURIENA_ABSENT);
 }
 
 /* A step is passed along: how many numbers, and what the screen shows of id 3. */
@@ -300,16 +326,16 @@ static void surprises(void) {
 
 /* What is refused leaves every number. */
 static void refused_sending(void) {
-    static const int32_t no_seat[] = {PONGURIENA_PASSED_REMOVAL, PONGURIENA_SEATS};
+    static const int32_t no_seat[] = {PONGURIENA_PASSED_REMOVAL, NO_SEAT};
     static const int32_t no_tuning[] = {PONGURIENA_PASSED_TUNE, -1, 0};
     int32_t before[PONGURIENA_SCREEN];
     int32_t record[PONGURIENA_RECORD];
     size_t used = 77;
     memcpy(before, screen, sizeof screen);
-    same("leave of 16", send_leave(PONGURIENA_SEATS), PONGURIENA_BAD_ID);
+    same("leave of no seat", send_leave(NO_SEAT), PONGURIENA_BAD_ID);
     same("tune 18", send_tune(PONGURIENA_TUNINGS, 0), PONGURIENA_BAD_TUNING);
     same("step without a map", send_step(NO_MAP), PONGURIENA_BAD_MAP);
-    same("removal of 16",
+    same("removal of no seat",
          ponguriena_receive(screen, LENGTH(screen), 3, 3, OPEN_TILES, 9, no_seat, 2, &used),
          PONGURIENA_BAD_ID);
     same("tuning of -1",
@@ -418,6 +444,7 @@ int main(void) {
     a_leave();
     a_floor();
     spikes();
+    the_last_seat();
     surprises();
     refused_sending();
     sent_from_spikes();

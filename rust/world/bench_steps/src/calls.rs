@@ -2,10 +2,14 @@
 
 use crate::scene::Scene;
 use crate::sides::{Original, Port, Side};
-use harness::{Call, SEATS};
+use harness::Call;
+use harness::tunings::TUNINGS;
 use timing::{print_heading, print_row};
 
 const PASSES: usize = 50;
+
+/// Somebody alone is told something less than once in two blocks.
+const INPUTS: usize = 16;
 
 pub fn print_calls(scenes: &[Scene]) {
     print_heading();
@@ -16,17 +20,16 @@ pub fn print_calls(scenes: &[Scene]) {
 
 /// On the worlds with which the scene begins.
 fn print_calls_in(scene: &Scene) {
-    let ids = 0..SEATS as i32;
-    let inputs: Vec<Call> = scene.blocks.iter().flatten().copied().collect();
-    print_call("input", scene, &inputs[..SEATS]);
-    let tunes = ids.clone().map(|index| Call::Tune {
+    let inputs = scene.blocks.iter().flatten().copied();
+    print_call("input", scene, &inputs.take(INPUTS).collect::<Vec<Call>>());
+    let tunes = (0..TUNINGS as i32).map(|index| Call::Tune {
         index,
         hundredths: 100,
     });
     print_call("tune", scene, &tunes.collect::<Vec<Call>>());
     let is_join = |call: &&Call| matches!(call, Call::Join { .. });
     let joins = scene.start.iter().filter(is_join);
-    let leaves = ids.map(|id| Call::Leave { id });
+    let leaves = (0..).map(|id| Call::Leave { id });
     let both = leaves.zip(joins).flat_map(|(leave, &join)| [leave, join]);
     print_call("leave, join", scene, &both.collect::<Vec<Call>>());
 }

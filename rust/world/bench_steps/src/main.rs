@@ -37,11 +37,11 @@ fn print_steps(scenes: &[Scene]) {
 
 fn print_heading() {
     println!(
-        "{:<18} {:>6} {:>6} {:>9} {:^26} {:^23}",
+        "{:<30} {:>6} {:>6} {:>9} {:^26} {:^23}",
         "", "mean", "above", "port", "libtw2, microseconds", "ratio"
     );
     println!(
-        "{:<18} {:>6} {:>6} {:>9} {:>8} {:>8} {:>8} {:>7} {:>7} {:>7}",
+        "{:<30} {:>6} {:>6} {:>9} {:>8} {:>8} {:>8} {:>7} {:>7} {:>7}",
         "scene", "speed", "ramp", "us", "scan", "halving", "port's", "scan", "halving", "port's"
     );
 }
@@ -65,7 +65,7 @@ fn print_row(scene: &Scene) {
     )
     .map(per_step);
     let (speed, fast) = (scene.speeds.mean(), scene.speeds.fast());
-    print!("{:<18} {speed:>6.1} {fast:>5.0}% {port:>9.2}", scene.name);
+    print!("{:<30} {speed:>6.1} {fast:>5.0}% {port:>9.2}", scene.name);
     rust.iter().for_each(|time| print!(" {time:>8.2}"));
     rust.iter().for_each(|time| print!(" {:>7.2}", port / time));
     println!();

@@ -16,7 +16,7 @@ use tile_map::walled::{hall, walled};
 const WIDTH: usize = 256;
 const HEIGHT: usize = 128;
 
-const PLAYERS: [usize; 5] = [1, 2, 4, 8, 16];
+const PLAYERS: [usize; 7] = [1, 2, 4, 8, 16, 32, SEATS];
 
 /// In units a step.
 const SPEEDS: [i32; 5] = [5, 10, 20, 40, 80];
@@ -37,10 +37,11 @@ pub fn games(random: &mut Xorshift) -> Vec<Scene> {
         tell: most_run,
     };
     vec![
-        Scene::drawn("sixteen in play", &ordinary(map, SEATS), random),
-        Scene::drawn("sixteen at speed", &fast, random),
-        Scene::drawn("two players", &ordinary(map, 2), random),
-        Scene::drawn("one of sixteen", &ordinary(map, 1), random),
+        Scene::drawn("sixty-four in play", &ordinary(map, SEATS), random),
+        Scene::drawn("sixty-four at speed", &fast, random),
+        Scene::drawn("sixteen of sixty-four in play", &ordinary(map, 16), random),
+        Scene::drawn("two of sixty-four", &ordinary(map, 2), random),
+        Scene::drawn("one of sixty-four", &ordinary(map, 1), random),
     ]
 }
 
@@ -57,7 +58,7 @@ pub fn by_players(random: &mut Xorshift) -> Vec<Scene> {
 /// For the calls that are not steps.
 pub fn crowds(random: &mut Xorshift) -> [Scene; 2] {
     let map = &course(random);
-    [("sixteen", SEATS), ("one", 1)]
+    [("sixty-four", SEATS), ("one", 1)]
         .map(|(name, players)| Scene::drawn(name, &ordinary(map, players), random))
 }
 

@@ -61,11 +61,11 @@ impl<'a> Side<'a> for Sending<'a> {
 
 pub fn print_sending(scenes: &[Scene]) {
     println!(
-        "{:<18} {:>9} {:>9} {:>9} {:>9} {:>9} {:>9}",
+        "{:<30} {:>9} {:>9} {:>9} {:>9} {:>9} {:>9}",
         "", "step", "sending", "", "sender's", "numbers", "all"
     );
     println!(
-        "{:<18} {:>9} {:>9} {:>9} {:>9} {:>9} {:>9}",
+        "{:<30} {:>9} {:>9} {:>9} {:>9} {:>9} {:>9}",
         "scene", "us", "us", "ratio", "own ratio", "a step", "records"
     );
     scenes.iter().for_each(print_row);
@@ -83,7 +83,7 @@ fn print_row(scene: &Scene) {
     let (ratio, own) = (sending / alone, (sending - alone) / alone);
     let all = scene.records() as f64 / (BLOCKS * STEPS) as f64;
     println!(
-        "{:<18} {alone:>9.2} {sending:>9.2} {ratio:>9.2} {own:>9.2} {numbers:>9.1} {all:>9.1}",
+        "{:<30} {alone:>9.2} {sending:>9.2} {ratio:>9.2} {own:>9.2} {numbers:>9.1} {all:>9.1}",
         scene.name
     );
 }

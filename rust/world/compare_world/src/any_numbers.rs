@@ -1,6 +1,7 @@
 //! Numbers that are lent as a world, as a sender or as a screen, though no call may have
 //! left them.
 
+use harness::SEATS;
 use harness::encoding::{WORLD_NUMBERS, encoded};
 use harness::tunings::{ORDINARY, TUNINGS};
 use reference::Xorshift;
@@ -8,7 +9,20 @@ use tile_map::draw::{below, pick};
 
 pub type Numbers = [i32; WORLD_NUMBERS];
 
-const ENDS: [i32; 8] = [0, 1, -1, 5, 16, i32::MIN, i32::MAX, i32::MAX - 64];
+/// Among them ids about the sixteenth and about the last.
+const ENDS: [i32; 11] = [
+    0,
+    1,
+    -1,
+    5,
+    15,
+    16,
+    SEATS as i32 - 1,
+    SEATS as i32,
+    i32::MIN,
+    i32::MAX,
+    i32::MAX - 64,
+];
 
 /// One number in so many of a world is another one.
 const DAMAGED: [usize; 3] = [3, 10, 60];

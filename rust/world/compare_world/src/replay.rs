@@ -9,7 +9,7 @@ use port_calls::{call, number};
 use record_calls::{Line, Sequence};
 
 /// Beside those of seats and of tunings.
-pub const STRANGE: [i32; 4] = [-1, 64, i32::MIN, i32::MAX];
+pub const STRANGE: [i32; 4] = [-1, SEATS as i32, i32::MIN, i32::MAX];
 
 /// How many calls were compared.
 pub fn replay(sequence: &Sequence) -> Result<usize, Differs> {

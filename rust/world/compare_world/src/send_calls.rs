@@ -87,7 +87,7 @@ pub fn compare(seed: u64, number: u64, tally: &mut Tally) -> Result<(), Differs>
     for turn in 0..CALLS {
         let call = match below(&mut random, 2) {
             0 => Call::Step,
-            _ => any_call(&decoded(&world), &sequence.map, &mut random),
+            _ => any_call(SEATS, &decoded(&world), &sequence.map, &mut random),
         };
         let told = |what: Differs| what.at(format!("call {} ({:?})", turn + 1, call.numbers()));
         let before = Left::before(world, sender);

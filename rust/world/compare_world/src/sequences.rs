@@ -1,5 +1,6 @@
 //! The sequences that are drawn.
 
+use harness::SEATS;
 use harness::draw::{any_call, any_join};
 use record_calls::Sequence;
 use reference::Xorshift;
@@ -8,7 +9,8 @@ use tile_map::draw::{below, pick, random_map};
 
 type Draw = fn(&mut Xorshift) -> Sequence;
 
-const KINDS: [Draw; 8] = [
+/// The last are of all seats.
+const KINDS: [Draw; 11] = [
     play::ordinary,
     play::full,
     play::apart,
@@ -17,6 +19,9 @@ const KINDS: [Draw; 8] = [
     play::at_map_ends,
     wrong_sides,
     play::spiked,
+    play::all_seats,
+    play::any_seats,
+    play::id_limits,
 ];
 
 const CALLS: usize = 70;
@@ -32,9 +37,9 @@ fn wrong_sides(random: &mut Xorshift) -> Sequence {
     let (width, height) = (1 + below(random, 12), 1 + below(random, 12));
     let map = random_map(width, height, 2, random);
     let mut sequence = Sequence::on(&map);
-    sequence.call(any_join(&map, random));
+    sequence.call(any_join(SEATS, &map, random));
     for _ in 0..CALLS {
-        let call = any_call(&sequence.world, &map, random);
+        let call = any_call(SEATS, &sequence.world, &map, random);
         let sides = sides((width as u32, height as u32), random);
         sequence.with_sides(sides, call);
     }

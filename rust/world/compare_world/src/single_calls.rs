@@ -44,7 +44,7 @@ pub fn compare(seed: u64, number: u64, tally: &mut Tally) -> Result<(), Differs>
     for turn in 0..CALLS {
         let call = match below(&mut random, 2) {
             0 => Call::Step,
-            _ => any_call(&decoded(&numbers), &sequence.map, &mut random),
+            _ => any_call(SEATS, &decoded(&numbers), &sequence.map, &mut random),
         };
         let before = numbers;
         numbers = compare_call(before, &sequence.map, call, tally)

@@ -1,7 +1,8 @@
 //! That the sequences are worth comparing.
 
 use crate::sequences::drawn;
-use harness::{Call, Published};
+use harness::draw::FIRST_SEATS;
+use harness::{Call, Published, SEATS};
 use std::collections::BTreeSet;
 
 const SEQUENCES: u64 = 200;
@@ -11,6 +12,41 @@ fn every_answer_of_a_call_is_drawn() {
     let lines = (0..SEQUENCES).flat_map(|number| drawn(1, number).lines);
     let answers: BTreeSet<u32> = lines.map(|line| line.number()).collect();
     assert_eq!(answers, [0, 1, 2, 3, 4, 5, 7, 8, 9].into());
+}
+
+/// Everybody is there at once; every id holds somebody and is held, in hooks that cross the
+/// sixteenth too, and somebody with every id leaves.
+#[test]
+fn every_seat_is_drawn() {
+    let (mut counts, mut holds, mut left) = (BTreeSet::new(), BTreeSet::new(), BTreeSet::new());
+    for line in (0..4 * SEQUENCES).flat_map(|number| drawn(4, number).lines) {
+        match (line.call, line.answer) {
+            (Call::Step, Ok(told)) => {
+                counts.insert(told.records.iter().flatten().count());
+                holds.extend(pairs(&told));
+            }
+            (Call::Leave { id }, Ok(_)) => {
+                left.insert(id);
+            }
+            _ => {}
+        }
+    }
+    assert!(counts.contains(&0) && counts.contains(&1) && counts.contains(&SEATS));
+    for id in 0..SEATS as i32 {
+        assert!(holds.iter().any(|&(holder, _)| holder == id), "{id}");
+        assert!(holds.iter().any(|&(_, held)| held == id), "{id}");
+        assert!(left.contains(&id), "{id}");
+    }
+    let first = FIRST_SEATS as i32;
+    let crossing = |pair: &&(i32, i32)| (pair.0 < first) != (pair.1 < first);
+    assert!(holds.iter().filter(crossing).count() > 100);
+}
+
+/// Who holds whom.
+fn pairs(told: &Published) -> Vec<(i32, i32)> {
+    let records = (0..).zip(told.records);
+    let held = records.filter_map(|(id, core)| Some((id, core?.hooked_player)));
+    held.filter(|&(_, held)| held >= 0).collect()
 }
 
 #[test]

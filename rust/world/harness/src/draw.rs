@@ -11,6 +11,10 @@ use reference::Xorshift;
 use tile_map::Map;
 use tile_map::draw::{below, pick, somewhere};
 
+/// What is recorded is drawn among these: with more of them it would be other play. Where
+/// all seats are meant it is [`SEATS`].
+pub const FIRST_SEATS: usize = 16;
+
 /// So often a clear place is looked for.
 const TRIES: usize = 40;
 
@@ -25,8 +29,9 @@ pub fn place(map: &Map, random: &mut Xorshift) -> (i32, i32) {
     found.unwrap_or_else(draw)
 }
 
-pub fn any_id(random: &mut Xorshift) -> i32 {
-    below(random, SEATS) as i32
+/// Of one of so many seats.
+pub fn any_id(seats: usize, random: &mut Xorshift) -> i32 {
+    below(random, seats) as i32
 }
 
 pub fn any_input(random: &mut Xorshift) -> PlayerInput {
@@ -43,7 +48,7 @@ pub fn any_input(random: &mut Xorshift) -> PlayerInput {
 pub fn present_id(world: &World, random: &mut Xorshift) -> i32 {
     let present: Vec<usize> = (0..SEATS).filter(|&id| world.slots[id].present).collect();
     if present.is_empty() {
-        any_id(random)
+        any_id(FIRST_SEATS, random)
     } else {
         pick(random, &present) as i32
     }
@@ -60,16 +65,17 @@ pub fn input_at_somebody(world: &World, id: i32, random: &mut Xorshift) -> Playe
     }
 }
 
-/// A step more often than not; now and then a call that is refused.
-pub fn any_call(world: &World, map: &Map, random: &mut Xorshift) -> Call {
+/// A step more often than not; now and then a call that is refused. Of so many seats, and
+/// of those who are present.
+pub fn any_call(seats: usize, world: &World, map: &Map, random: &mut Xorshift) -> Call {
     let id = match below(random, 8) {
-        0 => any_id(random),
+        0 => any_id(seats, random),
         _ => present_id(world, random),
     };
     match below(random, 40) {
-        0..=3 => any_join(map, random),
+        0..=3 => any_join(seats, map, random),
         4 => Call::Leave { id },
-        5 => wrong_call(random),
+        5 => wrong_call(seats, random),
         6 => mild_tune(random),
         7..=11 => Call::Input {
             id,
@@ -83,8 +89,8 @@ pub fn any_call(world: &World, map: &Map, random: &mut Xorshift) -> Call {
     }
 }
 
-pub fn any_join(map: &Map, random: &mut Xorshift) -> Call {
-    let (id, (x, y)) = (any_id(random), place(map, random));
+pub fn any_join(seats: usize, map: &Map, random: &mut Xorshift) -> Call {
+    let (id, (x, y)) = (any_id(seats, random), place(map, random));
     Call::Join { id, x, y }
 }
 
@@ -106,7 +112,7 @@ pub fn extreme_tuning(index: usize, random: &mut Xorshift) -> i32 {
 }
 
 /// With an argument outside its limits.
-fn wrong_call(random: &mut Xorshift) -> Call {
+fn wrong_call(seats: usize, random: &mut Xorshift) -> Call {
     let id = pick(random, &[-1, SEATS as i32, i32::MIN, i32::MAX]);
     let far = pick(random, &[100_001, -100_001, i32::MAX, i32::MIN]);
     let (x, y) = pick(random, &[(far, 20), (20, far), (far, far)]);
@@ -114,7 +120,7 @@ fn wrong_call(random: &mut Xorshift) -> Call {
     let calls = [
         Call::Join { id, x: 20, y: 20 },
         Call::Join {
-            id: any_id(random),
+            id: any_id(seats, random),
             x,
             y,
         },

@@ -3,7 +3,7 @@
 use libtw2_gamenet::snap_obj::PlayerInput;
 use original::{Character, Hook, State, vec2};
 
-pub const SEATS: usize = 16;
+pub const SEATS: usize = 64;
 
 pub type Slots = [Slot; SEATS];
 

@@ -1,6 +1,7 @@
 //! The example of document 01, the order among refusals, and that a refused call changes nothing.
 
 mod screens;
+mod seats;
 mod sending;
 mod sending_lists;
 
@@ -10,6 +11,9 @@ use crate::{Call, Published, Refusal, SEATS, World};
 use libtw2_gamenet::snap_obj::PlayerInput;
 use original::{State, core_numbers, input_numbers};
 use tile_map::Map;
+
+/// One more than the last id.
+const NO_SEAT: i32 = SEATS as i32;
 
 const HOOK: PlayerInput = PlayerInput {
     direction: 0,
@@ -91,7 +95,8 @@ fn a_join_is_refused_with_the_lowest_number() {
     let (far, inside) = (100_001, 80);
     assert_eq!(world.join(&walled(), 3, 48, 48), Ok(()));
     let mut join = |map: &Map, id, x| world.join(map, id, x, 48);
-    assert_eq!(join(&no_map(), 16, far), Err(Refusal::Map));
+    assert_eq!(join(&no_map(), NO_SEAT, far), Err(Refusal::Map));
+    assert_eq!(join(&walled(), NO_SEAT, far), Err(Refusal::Id));
     assert_eq!(join(&walled(), -1, far), Err(Refusal::Id));
     assert_eq!(join(&walled(), 3, far), Err(Refusal::Place));
     assert_eq!(join(&walled(), 3, inside), Err(Refusal::NotClear));
@@ -137,12 +142,14 @@ fn maps_are_refused_by_their_sides_and_their_count() {
 #[test]
 fn the_absent_neither_leave_nor_are_told() {
     let mut world = World::fresh();
-    for id in [-1, 16, i32::MIN, i32::MAX] {
+    for id in [-1, NO_SEAT, i32::MIN, i32::MAX] {
         assert_eq!(world.leave(id), Err(Refusal::Id));
         assert_eq!(world.input(id, HOOK), Err(Refusal::Id));
     }
-    assert_eq!(world.leave(15), Err(Refusal::Absent));
-    assert_eq!(world.input(15, HOOK), Err(Refusal::Absent));
+    for id in [0, NO_SEAT - 1] {
+        assert_eq!(world.leave(id), Err(Refusal::Absent));
+        assert_eq!(world.input(id, HOOK), Err(Refusal::Absent));
+    }
 }
 
 #[test]
@@ -233,7 +240,7 @@ fn a_mark_is_of_where_the_last_step_began() {
     world.step(&floor).expect("a short walk");
     assert_eq!(world.floor_mark(2), Ok(false));
     assert_eq!(world.floor_mark(3), Err(Refusal::Absent));
-    assert_eq!(world.floor_mark(16), Err(Refusal::Id));
+    assert_eq!(world.floor_mark(NO_SEAT), Err(Refusal::Id));
 }
 
 #[test]

@@ -9,6 +9,7 @@ pub mod maps;
 mod marks;
 mod play;
 mod refusals;
+mod seats;
 mod sequence;
 mod spikes;
 mod steering;
@@ -16,6 +17,7 @@ mod steering;
 mod tests;
 mod too_far;
 
+pub use seats::seat_sequences;
 pub use sequence::{Line, Sequence};
 pub use spikes::spike_sequences;
 pub use too_far::too_far_sequences;
@@ -27,6 +29,7 @@ pub fn all_sequences() -> Vec<Sequence> {
     sequences.extend(marks::mark_sequences());
     sequences.push(leavers::held_by_several());
     sequences.extend(spike_sequences());
+    sequences.extend(seat_sequences());
     sequences
 }
 

@@ -3,7 +3,7 @@
 use crate::inputs::{hook, walk};
 use crate::maps::all;
 use crate::sequence::Sequence;
-use harness::draw::{any_join, extreme_tuning, input_at_somebody, present_id};
+use harness::draw::{FIRST_SEATS, any_join, extreme_tuning, input_at_somebody, present_id};
 use harness::tunings::TUNINGS;
 use libtw2_gamenet::snap_obj::PlayerInput;
 use reference::Xorshift;
@@ -43,7 +43,7 @@ fn one_tuning(index: usize, hundredths: i32) -> Sequence {
 
 fn all_tunings(mut sequence: Sequence, random: &mut Xorshift) -> Sequence {
     for _ in 0..6 {
-        let call = any_join(&sequence.map, random);
+        let call = any_join(FIRST_SEATS, &sequence.map, random);
         sequence.call(call);
     }
     for index in 0..TUNINGS {

@@ -3,7 +3,7 @@
 use crate::inputs::{hook, walk};
 use crate::maps::{corridor, drawn};
 use crate::sequence::Sequence;
-use harness::Call;
+use harness::{Call, SEATS};
 use tile_map::Map;
 use tile_map::maps::{open, room};
 
@@ -14,6 +14,9 @@ const CLEAR: (i32, i32) = (80, 60);
 const IN_WALL: (i32, i32) = (10, 10);
 
 const FAR: i32 = 100_001;
+
+/// One more than the last id.
+const NO_SEAT: i32 = SEATS as i32;
 
 pub fn refusal_sequences() -> Vec<Sequence> {
     let mut sequences: Vec<Sequence> = [room(), open(), corridor()].iter().map(sides).collect();
@@ -84,7 +87,7 @@ fn shapes() -> Sequence {
 
 fn ids() -> Sequence {
     let mut sequence = Sequence::on(&open());
-    for id in [-1, 16, i32::MIN, i32::MAX, 0, 15, 255, 256] {
+    for id in [-1, NO_SEAT, i32::MIN, i32::MAX, 0, 15, 255, 256] {
         sequence = sequence.leave(id).told(id, walk(-1)).join(id, 5, 5);
         sequence = sequence.told(id, hook(3, 4)).steps(1).leave(id);
     }
@@ -144,7 +147,7 @@ fn two_at_once_for_the_map() -> Sequence {
     let mut sequence = Sequence::on(&room());
     sequence.call(join(3, CLEAR));
     for sides in [(8, 7), (0, 8), (1025, 1)] {
-        sequence.with_sides(sides, join(16, CLEAR));
+        sequence.with_sides(sides, join(NO_SEAT, CLEAR));
         sequence.with_sides(sides, join(4, (120, FAR)));
         sequence.with_sides(sides, join(4, IN_WALL));
         sequence.with_sides(sides, join(3, CLEAR));
@@ -157,7 +160,7 @@ fn two_at_once_for_the_map() -> Sequence {
 fn two_at_once() -> Sequence {
     let mut sequence = Sequence::on(&room());
     sequence.call(join(3, CLEAR));
-    for id in [-1, 16, i32::MIN, i32::MAX] {
+    for id in [-1, NO_SEAT, i32::MIN, i32::MAX] {
         sequence = sequence.join(id, FAR, 60).join(id, IN_WALL.0, IN_WALL.1);
     }
     sequence = sequence.join(5, FAR, 60).join(3, 80, -FAR);

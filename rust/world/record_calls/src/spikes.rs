@@ -2,11 +2,12 @@
 
 use crate::inputs::{hook, nothing, walk};
 use crate::sequence::Sequence;
+use harness::Call;
+use harness::draw::FIRST_SEATS;
 use harness::tunings::{
     AIR_CONTROL_ACCEL, AIR_CONTROL_SPEED, GRAVITY, HOOK_DRAG_ACCEL, HOOK_FIRE_SPEED, HOOK_LENGTH,
     PLAYER_COLLISION,
 };
-use harness::{Call, SEATS};
 use libtw2_gamenet::snap_obj::PlayerInput;
 use tile_map::Map;
 
@@ -193,10 +194,10 @@ fn some_of_many() -> Sequence {
     joined(Sequence::on(&fence()), places).steps(2)
 }
 
-/// On a map of one tile, up to the limits of a join. One comes back.
+/// Of the first seats, on a map of one tile, up to the limits of a join. One comes back.
 fn everybody() -> Sequence {
     let far = [(0, 5000, 5000), (1, -100_000, 100_000), (2, 7, -100_000)];
-    let near = (3..SEATS as i32).map(|id| (id, 40 * id, 30 * (id % 3)));
+    let near = (3..FIRST_SEATS as i32).map(|id| (id, 40 * id, 30 * (id % 3)));
     joined(
         Sequence::on(&Map::from_rows(&["2"])),
         far.into_iter().chain(near),

@@ -1,5 +1,6 @@
 //! That the sequences are what the vectors are meant to hold.
 
+mod seats;
 mod spikes;
 
 use crate::all_sequences;
@@ -14,7 +15,7 @@ use tile_map::maps::open;
 const LINE_LENGTH: usize = 180;
 
 /// With the byte that ends each line.
-const MOST_BYTES: usize = 1_300_000;
+const MOST_BYTES: usize = 1_400_000;
 
 fn all_lines() -> Vec<(World, Line)> {
     lines_of(all_sequences())

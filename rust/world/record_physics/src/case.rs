@@ -1,6 +1,6 @@
 //! A tick or a move, the answer of the original, and both as a line of text.
 
-use crate::scene::Scene;
+use crate::scene::{SCENE, Scene};
 use harness::tunings::tune_params;
 use harness::{Rules, Slot, Slots};
 use original::{State, input_numbers};
@@ -76,6 +76,7 @@ impl Case {
     }
 
     /// Id, tunings, input, slots; the number, the character, the velocities in the slots.
+    /// Beyond the slots of a scene nobody is.
     fn words(&self) -> Vec<u32> {
         let scene = &self.scene;
         let answer = self.answer();
@@ -83,13 +84,13 @@ impl Case {
         let mut words = vec![scene.id as u32];
         words.extend(scene.tunings.map(i32::to_pattern));
         words.extend(input_numbers(scene.input()).map(i32::to_pattern));
-        for slot in scene.slots {
+        for &slot in &scene.slots[..SCENE] {
             words.push(slot.present.into());
             words.extend(state_of(slot).words());
         }
         words.push(answer.number);
         words.extend(answer.me.words());
-        for slot in answer.slots {
+        for &slot in &answer.slots[..SCENE] {
             let vel = state_of(slot).vel;
             words.extend([vel.x.to_pattern(), vel.y.to_pattern()]);
         }

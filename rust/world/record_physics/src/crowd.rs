@@ -1,7 +1,6 @@
-//! Random characters in numbers from two to sixteen.
+//! Random characters in numbers from two to all of a scene.
 
-use crate::scene::Scene;
-use harness::SEATS;
+use crate::scene::{SCENE, Scene};
 use harness::draw::any_input;
 use original::{State, hook_of};
 use reference::Xorshift;
@@ -37,20 +36,20 @@ pub fn anybody(map: &Map, random: &mut Xorshift) -> State {
 pub fn with_hook(state: State, case: u32, random: &mut Xorshift) -> State {
     let pos = state.pos + pair_within(random, 150.0);
     let dir = pair_within(random, 1.0).normalize();
-    let (id, tick) = (random.pattern() % 16, random.pattern() % 61);
+    let (id, tick) = (random.pattern() % SCENE as u32, random.pattern() % 61);
     let hook = hook_of(case, pos, dir, id, tick);
     State { hook, ..state }
 }
 
 /// So many characters near one of them, whose turn it is.
 pub fn crowd(map: &Map, count: usize, random: &mut Xorshift) -> Scene {
-    let id = below(random, SEATS);
+    let id = below(random, SCENE);
     let me = anybody(map, random);
     let mut scene = Scene::new(map, id, me).told(any_input(random));
     while scene.slots.iter().filter(|slot| slot.present).count() < count {
         let pos = me.pos + pair_within(random, NEAR);
         let other = anybody(map, random);
-        scene = scene.with_other(below(random, SEATS), State { pos, ..other });
+        scene = scene.with_other(below(random, SCENE), State { pos, ..other });
     }
     scene
 }

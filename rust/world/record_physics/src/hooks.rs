@@ -2,8 +2,7 @@
 
 use crate::case::Case;
 use crate::crowd::{HOOKS, crowd, with_hook};
-use crate::scene::{Scene, at};
-use harness::SEATS;
+use crate::scene::{SCENE, Scene, at};
 use harness::tunings::{HOOK_DRAG_SPEED, HOOK_FIRE_SPEED, HOOK_LENGTH, PLAYER_HOOKING};
 use libtw2_gamenet::snap_obj::PlayerInput;
 use original::{CharacterId, Hook, State, vec2};
@@ -45,7 +44,7 @@ fn every_hook(random: &mut Xorshift) -> Vec<Scene> {
     for case in 0..HOOKS {
         for hook in [0, 1, -1] {
             for map in all() {
-                let count = 2 + below(random, SEATS - 1);
+                let count = 2 + below(random, SCENE - 1);
                 let scene = crowd(&map, count, random);
                 let (id, me) = (scene.id, with_hook(scene.me(), case, random));
                 let input = PlayerInput {
@@ -59,7 +58,7 @@ fn every_hook(random: &mut Xorshift) -> Vec<Scene> {
     scenes
 }
 
-/// Somebody present, absent, itself, the last slot and none.
+/// Somebody present, absent, itself, the last slot of the scene, and ids beyond it.
 fn grabbed() -> Vec<Scene> {
     let (me, present, absent) = (3, 7, 5);
     let mut scenes = Vec::new();
@@ -126,11 +125,11 @@ fn among_many(random: &mut Xorshift) -> Vec<Scene> {
     for _ in 0..30 {
         let dir = pair_within(random, 1.0).normalize();
         let start = MIDDLE + dir * between(random, 0.0, 200.0);
-        let mut scene = Scene::new(&open(), below(random, SEATS), flying(MIDDLE, start, dir));
+        let mut scene = Scene::new(&open(), below(random, SCENE), flying(MIDDLE, start, dir));
         for _ in 0..1 + below(random, 12) {
             let along = between(random, -40.0, 120.0);
             let side = vec2::new(-dir.y, dir.x) * random.within(40.0);
-            scene = scene.with_other(below(random, SEATS), at(start + dir * along + side));
+            scene = scene.with_other(below(random, SCENE), at(start + dir * along + side));
         }
         scenes.push(scene);
     }

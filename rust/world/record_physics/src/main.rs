@@ -7,6 +7,7 @@ mod hooks;
 mod meetings;
 mod moves;
 mod scene;
+mod seats;
 mod steering;
 #[cfg(test)]
 mod tests;
@@ -26,5 +27,6 @@ fn all_cases() -> Vec<Case> {
     cases.extend(meetings::meeting_cases(&mut random));
     cases.extend(steering::steering_cases(&mut random));
     cases.extend(moves::move_cases(&mut random));
+    cases.extend(seats::seat_cases());
     cases
 }

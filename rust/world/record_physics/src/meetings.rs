@@ -2,8 +2,7 @@
 
 use crate::case::Case;
 use crate::crowd::crowd;
-use crate::scene::{Scene, at};
-use harness::SEATS;
+use crate::scene::{SCENE, Scene, at};
 use harness::tunings::{
     HOOK_DRAG_ACCEL, HOOK_DRAG_SPEED, HOOK_LENGTH, PLAYER_COLLISION, PLAYER_HOOKING,
 };
@@ -100,13 +99,16 @@ fn dragged() -> Vec<Scene> {
 /// All numbers of characters, some of them grabbed.
 fn crowds(random: &mut Xorshift) -> Vec<Scene> {
     let mut scenes = Vec::new();
-    for count in 2..=SEATS {
+    for count in 2..=SCENE {
         for map in all() {
             let scene = crowd(&map, count, random);
             let id = scene.id;
             let me = State {
                 vel: pair_within(random, 20.0),
-                hook: Hook::Grabbed(CharacterId(random.pattern() % 16), random.pattern() % 62),
+                hook: Hook::Grabbed(
+                    CharacterId(random.pattern() % SCENE as u32),
+                    random.pattern() % 62,
+                ),
                 ..scene.me()
             };
             let scene = scene.with(id, me);

@@ -2,8 +2,7 @@
 
 use crate::case::Case;
 use crate::crowd::crowd;
-use crate::scene::{Scene, at};
-use harness::SEATS;
+use crate::scene::{SCENE, Scene, at};
 use harness::tunings::{PLAYER_COLLISION, RAMP_CURVATURE, RAMP_RANGE, RAMP_START};
 use original::{State, vec2};
 use reference::Xorshift;
@@ -93,7 +92,7 @@ fn onto_others() -> Vec<Scene> {
 /// The first of those that are close in the first turn decides.
 fn through_crowds(random: &mut Xorshift) -> Vec<Scene> {
     let mut scenes = Vec::new();
-    for count in 2..=SEATS {
+    for count in 2..=SCENE {
         for map in [open(), room()] {
             let scene = crowd(&map, count, random);
             let id = scene.id;
@@ -108,7 +107,7 @@ fn through_crowds(random: &mut Xorshift) -> Vec<Scene> {
         for _ in 0..3 {
             let along = vel * between(random, 0.3, 1.5);
             let other = at(MIDDLE + along + pair_within(random, 25.0));
-            scene = scene.with_other(below(random, SEATS), other);
+            scene = scene.with_other(below(random, SCENE), other);
         }
         scenes.push(scene);
     }

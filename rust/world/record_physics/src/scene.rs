@@ -6,6 +6,9 @@ use libtw2_gamenet::snap_obj::PlayerInput;
 use original::{Hook, State, vec2};
 use tile_map::Map;
 
+/// A line tells so many slots; beyond them nobody is.
+pub const SCENE: usize = 16;
+
 #[derive(Clone)]
 pub struct Scene {
     pub map: Map,
@@ -18,17 +21,30 @@ pub struct Scene {
 impl Scene {
     /// Alone, with the hook's button held. The others are absent, but where they would be met.
     pub fn new(map: &Map, id: usize, me: State) -> Scene {
+        Scene::among_absent(map, id, me.pos).with(id, me)
+    }
+
+    /// The one whose turn it is has a seat beyond those that a line tells: it is nowhere,
+    /// and as in a fresh world.
+    pub fn beyond(map: &Map, id: usize) -> Scene {
+        assert!(id >= SCENE);
+        Scene::among_absent(map, id, vec2::default())
+    }
+
+    fn among_absent(map: &Map, id: usize, near: vec2) -> Scene {
         let absent = Slot {
-            character: at(me.pos + vec2::new(9.0, -7.0)).into(),
+            character: at(near + vec2::new(9.0, -7.0)).into(),
             ..Slot::absent()
         };
+        let mut slots = [Slot::absent(); SEATS];
+        slots[..SCENE].fill(absent);
         let scene = Scene {
             map: map.clone(),
             id,
             tunings: ORDINARY,
-            slots: [absent; SEATS],
+            slots,
         };
-        scene.with(id, me).told(PlayerInput {
+        scene.told(PlayerInput {
             target_x: 100,
             target_y: -40,
             hook: 1,
@@ -37,6 +53,7 @@ impl Scene {
     }
 
     pub fn with(mut self, id: usize, state: State) -> Scene {
+        assert!(id < SCENE);
         self.slots[id].present = true;
         self.slots[id].character = state.into();
         self

@@ -2,8 +2,7 @@
 
 use crate::case::Case;
 use crate::crowd::crowd;
-use crate::scene::{Scene, at};
-use harness::SEATS;
+use crate::scene::{SCENE, Scene, at};
 use harness::draw::extreme_tuning;
 use harness::tunings::{AIR_FRICTION, GRAVITY, TUNINGS};
 use libtw2_gamenet::snap_obj::PlayerInput;
@@ -138,7 +137,7 @@ fn all_tunings(random: &mut Xorshift) -> Vec<Scene> {
     let mut scenes = Vec::new();
     for _ in 0..40 {
         let map = all()[scenes.len() % 4].clone();
-        let count = 2 + below(random, SEATS - 1);
+        let count = 2 + below(random, SCENE - 1);
         let mut scene = crowd(&map, count, random);
         for index in 0..TUNINGS {
             scene = scene.tuned(index, extreme_tuning(index, random));

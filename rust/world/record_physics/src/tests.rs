@@ -2,8 +2,10 @@
 
 use crate::all_cases;
 use crate::case::{Case, Op};
+use crate::scene::SCENE;
 use harness::SEATS;
 use harness::tunings::PLAYER_COLLISION;
+use original::{Hook, State};
 
 const LINE_LENGTH: usize = 2565;
 const HOOK: usize = 4;
@@ -49,7 +51,7 @@ fn some_are_refused_for_the_player_walk_alone() {
 fn all_numbers_of_characters_occur() {
     let count = |case: &Case| case.scene.slots.iter().filter(|slot| slot.present).count();
     let counts: Vec<usize> = all_cases().iter().map(count).collect();
-    for expected in 2..=SEATS {
+    for expected in 2..=SCENE {
         assert!(counts.contains(&expected));
     }
 }
@@ -58,4 +60,41 @@ fn all_of(op: Op) -> Vec<Case> {
     let mut cases = all_cases();
     cases.retain(|case| case.op == op);
     cases
+}
+
+/// As an own id, and as one that is held and let go.
+#[test]
+fn ids_beyond_the_scene_occur() {
+    let beyond = [SCENE, SCENE + 1, SEATS - 2, SEATS - 1];
+    for op in [Op::Tick, Op::Move] {
+        let cases = all_of(op);
+        let ids: Vec<usize> = cases.iter().map(|case| case.scene.id).collect();
+        assert!(beyond.iter().all(|id| ids.contains(id)));
+        assert!(ids.iter().all(|id| *id < SCENE || beyond.contains(id)));
+    }
+    let holds: Vec<[Option<u32>; 2]> = all_cases()
+        .iter()
+        .map(|case| [case.scene.me(), case.answer().me].map(held))
+        .collect();
+    for id in beyond.into_iter().chain([SEATS]) {
+        let id = Some(id as u32);
+        assert!(holds.contains(&[id, id]) && holds.contains(&[id, None]));
+    }
+}
+
+/// A line could not tell it.
+#[test]
+fn nobody_is_beyond_the_scene() {
+    for case in all_cases() {
+        let slots = &case.scene.slots[SCENE..];
+        assert!(slots.iter().all(|slot| !slot.present));
+    }
+}
+
+/// Whom its hook holds.
+fn held(state: State) -> Option<u32> {
+    match state.hook {
+        Hook::Grabbed(id, _) => Some(id.0),
+        _ => None,
+    }
 }

@@ -7,6 +7,7 @@ mod line;
 mod playing;
 mod refusals;
 mod refused_copies;
+mod seats;
 mod spikes;
 mod standing;
 #[cfg(test)]
@@ -28,5 +29,6 @@ pub fn all_sequences() -> Vec<Sequence> {
     sequences.extend(tunings::tuning_sequences());
     sequences.extend(refused_copies::refused_sequences());
     sequences.extend(playing::play_sequences(&mut random));
+    sequences.extend(seats::all_seat_sequences());
     sequences
 }

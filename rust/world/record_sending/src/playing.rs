@@ -1,7 +1,8 @@
 //! Ordinary play, and play with tunings at their ends.
 
-use harness::SEATS;
-use harness::draw::{any_call, any_join, extreme_tuning, input_at_somebody, place, present_id};
+use harness::draw::{
+    FIRST_SEATS, any_call, any_join, extreme_tuning, input_at_somebody, place, present_id,
+};
 use harness::tunings::TUNINGS;
 use record_calls::Sequence;
 use record_calls::maps::all;
@@ -28,23 +29,23 @@ pub fn play_sequences(random: &mut Xorshift) -> Vec<Sequence> {
 fn few(map: &Map, random: &mut Xorshift) -> Sequence {
     let mut sequence = Sequence::on(map);
     for _ in 0..2 + below(random, 4) {
-        sequence.call(any_join(map, random));
+        sequence.call(any_join(FIRST_SEATS, map, random));
     }
     for _ in 0..CALLS {
-        let call = any_call(&sequence.world, map, random);
+        let call = any_call(FIRST_SEATS, &sequence.world, map, random);
         sequence.call(call);
     }
     sequence
 }
 
-/// A player on every seat.
+/// A player on each of the first seats.
 fn full(map: &Map, random: &mut Xorshift) -> Sequence {
     let mut sequence = Sequence::on(map);
-    for id in 0..SEATS as i32 {
+    for id in 0..FIRST_SEATS as i32 {
         let (x, y) = place(map, random);
         sequence = sequence.join(id, x, y);
     }
-    for id in (0..SEATS as i32).step_by(3) {
+    for id in (0..FIRST_SEATS as i32).step_by(3) {
         let input = input_at_somebody(&sequence.world, id, random);
         sequence = sequence.told(id, input).steps(1);
     }
@@ -55,7 +56,7 @@ fn full(map: &Map, random: &mut Xorshift) -> Sequence {
 fn extreme(map: &Map, random: &mut Xorshift) -> Sequence {
     let mut sequence = Sequence::on(map);
     for _ in 0..4 {
-        sequence.call(any_join(map, random));
+        sequence.call(any_join(FIRST_SEATS, map, random));
     }
     sequence = sequence.steps(1);
     for index in 0..TUNINGS {

@@ -1,6 +1,6 @@
 //! Deadly tiles: who is removed, whose copy is, and who is not though its copy is.
 
-use harness::SEATS;
+use harness::draw::FIRST_SEATS;
 use harness::tunings::{AIR_CONTROL_ACCEL, AIR_CONTROL_SPEED, GRAVITY};
 use libtw2_gamenet::snap_obj::PlayerInput;
 use record_calls::Sequence;
@@ -114,10 +114,10 @@ fn holder_dies(holder: i32, held: i32) -> Sequence {
         .steps(6)
 }
 
-/// On a map of one tile: as many messages as seats, and as many removals.
+/// Of the first seats, on a map of one tile: a message and a removal of each.
 fn everybody() -> Sequence {
     let mut sequence = Sequence::on(&Map::from_rows(&["2"]));
-    for id in 0..SEATS as i32 {
+    for id in 0..FIRST_SEATS as i32 {
         sequence = sequence.join(id, 40 * id, 30 * (id % 3));
     }
     sequence

@@ -1,6 +1,7 @@
 //! The example of document 01, and every kind of fault.
 
 use crate::{MOST_BYTES, run};
+use harness::SEATS;
 
 const EXAMPLE: &str = "width height\n3 3\ntiles\n0 0 0\n0 0 0\n0 0 0\ncall a b c d e f\n\
                        1 0 48 48 0 0 0\n4 0 0 0 0 0 0\n";
@@ -61,7 +62,8 @@ fn accepted_and_refused_calls() {
     assert_third_call_is("2 0 0 0 0 0 0\n", 0);
     assert_third_call_is("3 0 -1 2147483647 -2147483648 5 -6\n", 0);
     assert_third_call_is("5 17 -2147483648 0 0 0 0\n", 0);
-    assert_third_call_is("2 16 0 0 0 0 0\n", 2);
+    assert_third_call_is("2 63 0 0 0 0 0\n", 8);
+    assert_third_call_is("2 64 0 0 0 0 0\n", 2);
     assert_third_call_is("5 18 0 0 0 0 0\n", 3);
     assert_third_call_is("1 0 100001 0 0 0 0\n", 4);
     assert_third_call_is("1 0 48 48 0 0 0\n", 7);
@@ -72,6 +74,27 @@ fn accepted_and_refused_calls() {
 fn a_step_with_nobody() {
     let text = changed("1 0 48 48 0 0 0\n", "");
     assert_prints(text, &[&nobody(1, 0)]);
+}
+
+/// By rising id, whatever the order in which they came.
+#[test]
+fn a_step_with_everybody() {
+    let join = |id: usize| format!("1 {id} {} 48 0 0 0\n", 100 * id);
+    let joins: String = (0..SEATS).rev().map(join).collect();
+    let text = changed("1 0 48 48 0 0 0\n", &joins);
+    let record = |id: usize| {
+        let number = SEATS + 1;
+        format!(
+            "{number} 0 {id} 0 {} 49 0 128 0 0 0 -1 0 0 0 0 0 0\n",
+            100 * id
+        )
+    };
+    let mut lines: Vec<String> = (1..=SEATS).map(|number| nobody(number, 0)).collect();
+    lines.extend((0..SEATS).map(record));
+    assert_prints(
+        text,
+        &lines.iter().map(String::as_str).collect::<Vec<&str>>(),
+    );
 }
 
 /// The record of who is removed is printed, and nothing else for it.
@@ -95,7 +118,7 @@ fn calls_at_fault() {
         "0 0 0 0 0 0 0\n",
         "6 0 0 0 0 0 0\n",
         "-1 0 0 0 0 0 0\n",
-        "1 16 48 48 1 0 0\n",
+        "1 64 48 48 1 0 0\n",
         "1 1 48 48 0 -1 0\n",
         "1 1 48 48 0 0 1\n",
         "2 0 1 0 0 0 0\n",

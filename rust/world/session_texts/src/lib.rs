@@ -19,7 +19,7 @@ pub use programs::output_of;
 pub use timed::timed;
 
 use Draw::{Bytes, Game};
-use record_calls::{Sequence, spike_sequences};
+use record_calls::{Sequence, seat_sequences, spike_sequences};
 use reference::Xorshift;
 use written::sequence_text;
 
@@ -56,11 +56,22 @@ const GAMES: [(&str, Draw, usize); 14] = [
 /// Drawn as games, and recorded as sequences.
 const SPIKES: &str = "spikes";
 
+/// Games over all seats, and how many of each are recorded, behind all others.
+const SEAT_GAMES: [(&str, Draw, usize); 4] = [
+    ("every seat taken", Game(play::all_seats), 3),
+    ("ids of any seats", Game(play::any_seats), 2),
+    ("limits of ids", Game(play::id_limits), 3),
+    (LONG_OUTPUTS[1], Game(play::all_seats_long), 1),
+];
+
+/// Recorded as sequences.
+const SEATS: &str = "seats";
+
 /// Each fault is recorded so often.
 const FAULTS_RECORDED: usize = 3;
 
-/// The one whose output is longer than what the program writes at once.
-const LONG_OUTPUT: &str = "long output";
+/// Those whose output is longer than what the program writes at once.
+const LONG_OUTPUTS: [&str; 2] = ["long output", "long output of every seat"];
 
 /// The example of document 01.
 const EXAMPLE: &str = "width height\n3 3\ntiles\n0 0 0\n0 0 0\n0 0 0\ncall a b c d e f\n\
@@ -75,12 +86,18 @@ impl Draw {
     }
 }
 
+/// All that are drawn.
+fn games() -> Vec<(&'static str, Draw, usize)> {
+    [GAMES.as_slice(), &SEAT_GAMES].concat()
+}
+
 /// The text of that number. Games and faults take turns.
 pub fn drawn(seed: u64, number: u64) -> Text {
     let mut random = Xorshift::seeded(seed.wrapping_mul(1 << 32).wrapping_add(number));
     let turn = (number / 2) as usize;
     if number.is_multiple_of(2) {
-        let (kind, draw, _) = GAMES[turn % GAMES.len()];
+        let games = games();
+        let (kind, draw, _) = games[turn % games.len()];
         let bytes = draw.bytes(&mut random);
         return Text { kind, bytes };
     }
@@ -96,12 +113,7 @@ pub fn recorded() -> Vec<Text> {
     let bytes = EXAMPLE.as_bytes().to_vec();
     let kind = "example";
     let mut texts = vec![Text { kind, bytes }];
-    for (kind, draw, count) in GAMES {
-        for _ in 0..count {
-            let bytes = draw.bytes(&mut random);
-            texts.push(Text { kind, bytes });
-        }
-    }
+    texts.extend(recorded_of(&GAMES, &mut random));
     for (kind, fault) in faults::all() {
         for _ in 0..FAULTS_RECORDED {
             let bytes = faults::text_with(fault, &mut random);
@@ -109,11 +121,30 @@ pub fn recorded() -> Vec<Text> {
         }
     }
     let bytes = sequence_text(&play::crowded(&mut random));
-    let kind = LONG_OUTPUT;
+    let kind = LONG_OUTPUTS[0];
     texts.push(Text { kind, bytes });
-    texts.extend(spike_sequences().iter().map(|sequence| Text {
-        kind: SPIKES,
-        bytes: sequence_text(sequence),
-    }));
+    texts.extend(written(SPIKES, &spike_sequences()));
+    texts.extend(written(SEATS, &seat_sequences()));
+    texts.extend(recorded_of(&SEAT_GAMES, &mut random));
     texts
+}
+
+/// As many of each kind as are recorded.
+fn recorded_of(games: &[(&'static str, Draw, usize)], random: &mut Xorshift) -> Vec<Text> {
+    let each = games
+        .iter()
+        .flat_map(|&(kind, draw, count)| vec![(kind, draw); count]);
+    let text = |(kind, draw): (&'static str, Draw)| Text {
+        kind,
+        bytes: draw.bytes(random),
+    };
+    each.map(text).collect()
+}
+
+fn written(kind: &'static str, sequences: &[Sequence]) -> Vec<Text> {
+    let text = |sequence: &Sequence| Text {
+        kind,
+        bytes: sequence_text(sequence),
+    };
+    sequences.iter().map(text).collect()
 }

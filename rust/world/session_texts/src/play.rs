@@ -1,13 +1,18 @@
 //! Games.
 
 use crate::maps::{end_map, spiked_map, walled_map};
-use harness::draw::{any_call, extreme_tuning, input_at_somebody, place, present_id};
+use harness::draw::{
+    FIRST_SEATS, any_call, any_id, extreme_tuning, input_at_somebody, place, present_id,
+};
 use harness::tunings::{PLAYER_COLLISION, TUNINGS};
 use harness::{Call, SEATS};
 use record_calls::Sequence;
 use reference::Xorshift;
 use tile_map::draw::{below, pick, random_map};
 use tile_map::maps::{open, room};
+
+/// One more than the last id.
+const NO_SEAT: i32 = SEATS as i32;
 
 const SHORT: usize = 70;
 const LONG: usize = 600;
@@ -28,7 +33,7 @@ pub fn small(random: &mut Xorshift) -> Sequence {
     let map = random_map(width, height, 3, random);
     let mut sequence = joined(Sequence::on(&map), 2, random);
     for _ in 0..below(random, 10) {
-        let call = any_call(&sequence.world, &map, random);
+        let call = any_call(FIRST_SEATS, &sequence.world, &map, random);
         sequence.call(call);
     }
     sequence.steps(1)
@@ -53,23 +58,47 @@ pub fn at_map_ends(random: &mut Xorshift) -> Sequence {
     played(sequence, SHORT / 2, random)
 }
 
-/// Every seat taken, and everybody told something.
+/// The first seats taken, and everybody told something.
 pub fn full(random: &mut Xorshift) -> Sequence {
-    everybody(random, 10)
+    everybody(FIRST_SEATS, random).steps(10)
 }
 
 /// The same for more steps.
 pub fn crowded(random: &mut Xorshift) -> Sequence {
-    everybody(random, 120)
+    everybody(FIRST_SEATS, random).steps(120)
 }
 
-fn everybody(random: &mut Xorshift, steps: usize) -> Sequence {
-    let mut sequence = joined(Sequence::on(&walled_map(random)), SEATS, random);
-    for id in 0..SEATS as i32 {
+/// Every seat taken, and everybody told something; some leave, who may be held.
+pub fn all_seats(random: &mut Xorshift) -> Sequence {
+    let mut sequence = everybody(SEATS, random).steps(3);
+    for _ in 0..3 {
+        sequence = sequence.leave(any_id(SEATS, random)).steps(1);
+    }
+    sequence
+}
+
+/// The same for more steps.
+pub fn all_seats_long(random: &mut Xorshift) -> Sequence {
+    all_seats(random).steps(15)
+}
+
+fn everybody(seats: usize, random: &mut Xorshift) -> Sequence {
+    let mut sequence = joined(Sequence::on(&walled_map(random)), seats, random);
+    for id in 0..seats as i32 {
         let input = input_at_somebody(&sequence.world, id, random);
         sequence = sequence.told(id, input);
     }
-    sequence.steps(steps)
+    sequence
+}
+
+/// A few players, whose ids are those of any seats.
+pub fn any_seats(random: &mut Xorshift) -> Sequence {
+    let mut sequence = Sequence::on(&spiked_map(random));
+    for _ in 0..4 + below(random, 9) {
+        let (x, y) = place(&sequence.map, random);
+        sequence = sequence.join(any_id(SEATS, random), x, y);
+    }
+    calls(SEATS, sequence, SHORT, random)
 }
 
 /// Many tunings, or all, at their ends.
@@ -92,15 +121,37 @@ pub fn extreme(random: &mut Xorshift) -> Sequence {
 
 /// Every argument at its limits.
 pub fn limits(random: &mut Xorshift) -> Sequence {
+    at_limits(&[0, 0, 1, 1, 15, 15, NO_SEAT], random)
+}
+
+/// The same with ids about the sixteenth and about the last.
+pub fn id_limits(random: &mut Xorshift) -> Sequence {
+    at_limits(
+        &[
+            15,
+            16,
+            16,
+            17,
+            NO_SEAT - 2,
+            NO_SEAT - 1,
+            NO_SEAT - 1,
+            NO_SEAT,
+        ],
+        random,
+    )
+}
+
+fn at_limits(ids: &[i32], random: &mut Xorshift) -> Sequence {
     let map = pick(random, &[open as fn() -> _, room])();
     let mut sequence = Sequence::on(&map);
     for _ in 0..SHORT {
-        sequence.call(call_at_limits(random));
+        sequence.call(call_at_limits(ids, random));
     }
     sequence
 }
 
-fn call_at_limits(random: &mut Xorshift) -> Call {
+/// Of one of these ids, or of none.
+fn call_at_limits(ids: &[i32], random: &mut Xorshift) -> Call {
     const ENDS: [i32; 5] = [0, 1, -1, i32::MIN, i32::MAX];
     const PLACES: [i32; 9] = [
         60,
@@ -113,7 +164,7 @@ fn call_at_limits(random: &mut Xorshift) -> Call {
         i32::MIN,
         i32::MAX,
     ];
-    let id = pick(random, &[0, 0, 1, 1, 15, 15, 16, -1, i32::MIN, i32::MAX]);
+    let id = pick(random, &[ids, &[-1, i32::MIN, i32::MAX]].concat());
     let index = pick(random, &[-1, 0, 16, 17, 18, i32::MIN, i32::MAX]);
     let mut end = || pick(random, &ENDS);
     let [a, b, c, d, e] = [end(), end(), end(), end(), end()];
@@ -137,11 +188,20 @@ pub fn joined(mut sequence: Sequence, count: usize, random: &mut Xorshift) -> Se
     sequence
 }
 
-fn played(sequence: Sequence, calls: usize, random: &mut Xorshift) -> Sequence {
-    let count = 1 + below(random, SEATS / 2);
-    let mut sequence = joined(sequence, count, random);
-    for _ in 0..calls {
-        let call = any_call(&sequence.world, &sequence.map, random);
+fn played(sequence: Sequence, count: usize, random: &mut Xorshift) -> Sequence {
+    let players = 1 + below(random, FIRST_SEATS / 2);
+    calls(
+        FIRST_SEATS,
+        joined(sequence, players, random),
+        count,
+        random,
+    )
+}
+
+/// So many more, of so many seats.
+fn calls(seats: usize, mut sequence: Sequence, count: usize, random: &mut Xorshift) -> Sequence {
+    for _ in 0..count {
+        let call = any_call(seats, &sequence.world, &sequence.map, random);
         sequence.call(call);
     }
     sequence

@@ -18,7 +18,7 @@ pub fn timed() -> [Text; 2] {
     let mut random = Xorshift::default();
     [
         Text {
-            kind: "sixteen players stepping",
+            kind: "every seat stepping",
             bytes: lengthened(stepping, &mut random),
         },
         Text {

@@ -2,7 +2,7 @@
 use mathlib.Core.Bool.{Bool, true, false}
 use mathlib.Core.List.{List}
 use mathlib.Core.Logic.{⊎-elim}
-use mathlib.Core.Path.{_≡_, refl, sym, ap, _∙_, subst}
+use mathlib.Core.Path.{_≡_, refl, sym, ap, ap₂, _∙_, subst}
 use Prim.Native.Nat.{ℕ, _+_, _-_, _≤_, _<_}
 use native.Mathlib.Nat.{lt-of-lt-of-le}
 use native.Mathlib.Omega.{arith}
@@ -19,6 +19,7 @@ use Rattle.character.specs.Tick.{seats, slotAt}
 use Rattle.character.specs.declared.Slot.{Slot}
 use Rattle.world.specs.Calls.{vacate}
 use Rattle.world.specs.Removal.{idsOf, dies, dying, removeAll, listed}
+use Rattle.world.specs.declared.Removed.{Removed}
 use Rattle.world.specs.declared.World.{World}
 use Rattle.world_step.proofs.Listed.{ids-more, ids-same, ids-fit, removed-last, count-last, ids-set}
 use Rattle.world_step.proofs.removing.remove_dying.Statement.{statement}
@@ -36,6 +37,9 @@ module _ (s : Sides) (ts : List ℕ) (ss : List Slot) (w : World) where
     world-is : next ≡ removeAll w (upTo j)
     ids-are : ids ≡ listed seats (upTo j) .ids
     count-is : count ≡ length (upTo j)
+
+  told : (j : ℕ) (next : World) (ids : List ℤ) (count : ℕ) → Removing j next ids count → _≡_ {A = Removed} (record { count = count; ids = ids }) (listed seats (upTo j))
+  told j next ids count h = ap₂ (λ (c : ℕ) (is : List ℤ). record { count = c; ids = is }) (h .count-is) (h .ids-are)
 
   module _ (j : ℕ) (next : World) (ids : List ℤ) (count : ℕ) (h : Removing j next ids count) (l : j < seats) where
     fits : count < seats
@@ -134,7 +138,7 @@ returns c =
     let i = c .before .loop .inv in
     let e : c .before .loop .j ≡ seats = (let h = c .loop-test .left in let g = i .within in omega arith) in
     let s = c .before .before .before .before .args in
-    (i .world-is ∙ ap (λ (j : ℕ). removeAll (s .world) (upTo (s .sides) (s .tiles .now) (s .world .slots) (s .world) j)) e, rw (i .ids-are, i .count-is) (ap (λ (j : ℕ). listed seats (upTo (s .sides) (s .tiles .now) (s .world .slots) (s .world) j)) e))
+    (i .world-is ∙ ap (λ (j : ℕ). removeAll (s .world) (upTo (s .sides) (s .tiles .now) (s .world .slots) (s .world) j)) e, told (s .sides) (s .tiles .now) (s .world .slots) (s .world) _ _ _ _ i ∙ ap (λ (j : ℕ). listed seats (upTo (s .sides) (s .tiles .now) (s .world .slots) (s .world) j)) e)
 
 pub remove-dying-spec : {M : Type 1} → statement M
 remove-dying-spec =

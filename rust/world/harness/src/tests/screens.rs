@@ -1,13 +1,13 @@
 //! What a screen makes of what is passed along, and both sides as numbers.
 
 use super::sending::copy_numbers;
-use super::{HOOK, no_map, open};
+use super::{HOOK, NO_SEAT, no_map, open};
+use crate::Refusal;
 use crate::sending::{
     COPY_NUMBERS, MOST_STEPS, Passed, SCREEN_NUMBERS, Screen, SeatCopy, all_numbers,
     decoded_screen, decoded_sender, encoded_screen, encoded_sender,
 };
 use crate::tunings::{ORDINARY, TUNINGS};
-use crate::{Refusal, SEATS};
 use libtw2_gamenet::snap_obj::{CharacterCore, PlayerInput};
 use original::{CORE_NUMBERS, core_of, input_of};
 use tile_map::Map;
@@ -86,7 +86,7 @@ fn a_refused_copy_steps_on() {
 #[test]
 fn a_screen_refuses_what_names_nothing() {
     let mut screen = Screen::fresh();
-    for id in [-1, SEATS as i32, i32::MIN, i32::MAX] {
+    for id in [-1, NO_SEAT, i32::MIN, i32::MAX] {
         let core = core_of([0; CORE_NUMBERS]);
         let input = PlayerInput::default();
         for passed in [

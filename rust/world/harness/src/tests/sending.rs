@@ -1,6 +1,6 @@
 //! When a seat is sent and when it is not.
 
-use super::{HOOK, no_map, open, spiked};
+use super::{HOOK, NO_SEAT, no_map, open, spiked};
 use crate::sending::{
     COPY_NUMBERS, Link, Passed, SeatCopy, Sender, encoded_screen, encoded_sender,
 };
@@ -8,7 +8,7 @@ use crate::tunings::{
     GRAVITY, GROUND_CONTROL_ACCEL, GROUND_CONTROL_SPEED, ORDINARY, RAMP_CURVATURE, RAMP_RANGE,
     RAMP_START, TUNINGS,
 };
-use crate::{Call, Refusal, SEATS};
+use crate::{Call, Refusal};
 use libtw2_gamenet::snap_obj::PlayerInput;
 use original::{CORE_NUMBERS, core_numbers, input_numbers};
 use tile_map::Map;
@@ -275,7 +275,7 @@ fn a_refused_call_passes_nothing_along() {
     let mut link = held_back();
     let before = (encoded_sender(&link.sender), encoded_screen(&link.screen));
     for (map, call) in [
-        (open(), Call::Leave { id: SEATS as i32 }),
+        (open(), Call::Leave { id: NO_SEAT }),
         (open(), Call::Leave { id: 5 }),
         (open(), Call::Input { id: 5, input: WALK }),
         (no_map(), Call::Step),

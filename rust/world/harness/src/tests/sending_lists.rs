@@ -1,7 +1,7 @@
 //! Lists of calls: the screen shows what the steps took, and a message comes when it is due
 //! and at no other time, by a count of its own along the calls.
 
-use crate::draw::{any_call, any_join, extreme_tuning};
+use crate::draw::{FIRST_SEATS, any_call, any_join, extreme_tuning};
 use crate::sending::{Link, MOST_STEPS, Passed, Sent, encoded_screen, encoded_sender};
 use crate::tunings::{ORDINARY, TUNINGS};
 use crate::{Call, SEATS, World};
@@ -120,10 +120,26 @@ fn check_shown(link: &Link, sent: &Sent) {
     }
 }
 
-/// Mostly of ordinary play; in every third list tunings at their ends come and go.
-fn drawn_call(world: &World, map: &Map, wild: bool, random: &mut Xorshift) -> Call {
-    if !wild || below(random, 6) > 0 {
-        return any_call(world, map, random);
+/// What the calls of a list are drawn from.
+struct Plan {
+    seats: usize,
+    /// Whether tunings at their ends come and go.
+    wild: bool,
+}
+
+/// In every fourth list ids are those of all seats, in every third tunings are wild.
+fn plan(number: u64) -> Plan {
+    let all = number.is_multiple_of(4);
+    Plan {
+        seats: if all { SEATS } else { FIRST_SEATS },
+        wild: number.is_multiple_of(3),
+    }
+}
+
+/// Mostly of ordinary play.
+fn drawn_call(world: &World, map: &Map, plan: &Plan, random: &mut Xorshift) -> Call {
+    if !plan.wild || below(random, 6) > 0 {
+        return any_call(plan.seats, world, map, random);
     }
     let place = below(random, TUNINGS);
     let hundredths = match below(random, 2) {
@@ -135,6 +151,7 @@ fn drawn_call(world: &World, map: &Map, wild: bool, random: &mut Xorshift) -> Ca
 }
 
 fn check_list(number: u64, reasons: &mut Reasons) {
+    let plan = plan(number);
     let mut random = Xorshift::seeded(number);
     let (width, height) = (2 + below(&mut random, 12), 2 + below(&mut random, 8));
     let map = random_map(width, height, 3, &mut random);
@@ -144,12 +161,11 @@ fn check_list(number: u64, reasons: &mut Reasons) {
         since: [0; SEATS],
     };
     for _ in 0..3 {
-        let call = any_join(&map, &mut random);
+        let call = any_join(plan.seats, &map, &mut random);
         check_call(&mut link, &mut count, &map, call, reasons);
     }
     for _ in 0..CALLS {
-        let wild = number.is_multiple_of(3);
-        let call = drawn_call(&link.world, &map, wild, &mut random);
+        let call = drawn_call(&link.world, &map, &plan, &mut random);
         check_call(&mut link, &mut count, &map, call, reasons);
     }
     let steps = if number.is_multiple_of(LONG_EVERY) {

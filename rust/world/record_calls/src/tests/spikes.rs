@@ -4,6 +4,7 @@ use super::{all_lines, hook_of, is_step, lines_of, state};
 use crate::digest::{FACTOR, MODULUS, published_digest};
 use crate::sequence::Line;
 use crate::spikes::spike_sequences;
+use harness::draw::FIRST_SEATS;
 use harness::tunings::PLAYER_COLLISION;
 use harness::{Call, Published, Refusal, SEATS, World};
 use libtw2_gamenet::snap_obj::CharacterCore;
@@ -204,7 +205,7 @@ fn one_several_and_everybody_die() {
     for expected in [(0, true), (1, false), (1, true), (3, false), (4, true)] {
         assert!(seen.contains(&expected), "{seen:?}");
     }
-    assert!(seen.contains(&(SEATS, true)));
+    assert!(seen.contains(&(FIRST_SEATS, true)));
 }
 
 /// Beyond every side of the map somebody dies and somebody does not.

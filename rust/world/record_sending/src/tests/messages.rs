@@ -2,7 +2,9 @@
 
 use super::{Step, each_step};
 use crate::{all_sequences, sent_lines};
-use harness::sending::{MOST_STEPS, SeatCopy};
+use harness::SEATS;
+use harness::draw::FIRST_SEATS;
+use harness::sending::{MOST_STEPS, Passed, SeatCopy};
 use harness::tunings::{HOOK_FIRE_SPEED, PLAYER_COLLISION, TUNINGS};
 use original::{CORE_NUMBERS, core_numbers};
 use std::collections::BTreeSet;
@@ -104,6 +106,39 @@ fn who_stands_is_sent_in_the_1st_and_the_151st_step() {
     let sent = steps.filter(|(_, line)| line.passed().len() > 1);
     let numbers: Vec<usize> = sent.map(|(number, _)| number + 1).collect();
     assert_eq!((lines.len(), numbers), (153, vec![1, 151]));
+}
+
+/// With nobody else's message, though others stand there too.
+#[test]
+fn every_edge_is_sent_again_by_its_own_count() {
+    let mut seen = BTreeSet::new();
+    each_seat(|seat| {
+        if seat.stepped.kept && seat.stepped.steps == MOST_STEPS {
+            let others = seat.step.taken().len() - 1;
+            seen.insert((seat.id, others, seat.step.passed.len()));
+        }
+    });
+    for id in [FIRST_SEATS - 1, FIRST_SEATS, SEATS - 1] {
+        assert!(seen.contains(&(id, 2, 2)), "{seen:?}");
+    }
+}
+
+/// Where some are sent and some are not, on both sides of the sixteenth.
+#[test]
+fn messages_come_by_rising_id() {
+    let mut count = 0;
+    each_step(|step| {
+        let id = |passed: &Passed| match *passed {
+            Passed::Message { id, .. } => Some(id as usize),
+            _ => None,
+        };
+        let ids: Vec<usize> = step.passed.iter().filter_map(id).collect();
+        assert!(ids.is_sorted_by(|lower, higher| lower < higher));
+        let low = ids.iter().filter(|&&id| id < FIRST_SEATS).count();
+        let few = ids.len() < step.taken().len();
+        count += usize::from(few && low > 0 && low < ids.len());
+    });
+    assert!(count >= 10, "{count}");
 }
 
 /// What it was told last, though the copy has another input; and where it shows.
