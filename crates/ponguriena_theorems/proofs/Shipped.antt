@@ -1,0 +1,44 @@
+-- Every theorem holds for any number of seats, so for those that there are. Assumes nothing.
+use Prim.Native.Nat.{ℕ}
+use Rattle.character.specs.Tick.{seats}
+use Rattle.world.proofs.Demand1.{demand1}
+use Rattle.world.proofs.Demand3.{demand3}
+use Rattle.world.proofs.Marks.{marks-follow}
+use Rattle.world.proofs.Leave.{leave-releases}
+use Rattle.world.proofs.Held.{held-present}
+use Rattle.world.proofs.Deadly.{step-spikes}
+use Rattle.send_rule.proofs.Shown.{screen-shows}
+use Rattle.send_rule.proofs.Sparing.{sender-spares}
+use Rattle.send_rule.proofs.Along.{sender-passes}
+use Rattle.send_rule.proofs.Foreseen.{copy-foresees, copy-stays}
+use Rattle.send_alone.proofs.Copies.{copies-alone}
+use Rattle.world_numbers.proofs.Encoded.{comes-back}
+use Rattle.world_numbers.proofs.Any.{any-comes-back}
+use Rattle.world_buffers.proofs.Reached.{buffer-follows}
+use Rattle.send_buffers.proofs.Reached.{link-follows}
+use Rattle.session_laws.proofs.Whole.{whole-output}
+use Rattle.session_laws.proofs.Ends.{play-ends}
+use Rattle.ponguriena_theorems.specs.Theorems.{Theorems, Shipped}
+
+pub all-theorems : (n : ℕ) → Theorems n
+all-theorems n = record {
+  demand1 = demand1 n;
+  demand3 = demand3 n;
+  output = whole-output n;
+  ends = play-ends n;
+  back = comes-back n;
+  anyBack = any-comes-back n;
+  marks = marks-follow n;
+  releases = leave-releases n;
+  held = held-present n;
+  spikes = step-spikes n;
+  shown = screen-shows n;
+  sparing = sender-spares n;
+  along = sender-passes n;
+  foreseen = copy-foresees n;
+  stays = copy-stays n;
+  alone = copies-alone n;
+}
+
+pub shipped : Shipped
+shipped = record { theorems = all-theorems seats; buffers = buffer-follows; links = link-follows }

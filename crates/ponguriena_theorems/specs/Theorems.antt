@@ -1,0 +1,51 @@
+-- The theorems that customers were given, for any number of seats, and what is shipped. Definitions only; proofs/Shipped.antt cites their proofs.
+use Prim.Native.Nat.{ℕ}
+use Rattle.character.specs.Tick.{seats}
+use Rattle.world.specs.Demand1.{Demand1}
+use Rattle.world.specs.Demand3.{Demand3}
+use Rattle.world.specs.Marks.{MarksFollow}
+use Rattle.world.specs.Leave.{LeaveReleases}
+use Rattle.world.specs.Held.{HeldPresent}
+use Rattle.world.specs.Deadly.{StepSpikes}
+use Rattle.send_rule.specs.Shown.{Shown}
+use Rattle.send_rule.specs.Sparing.{Sparing}
+use Rattle.send_rule.specs.Along.{Along}
+use Rattle.send_rule.specs.Foreseen.{Foreseen, Stays}
+use Rattle.send_alone.specs.Alone.{CopiesAlone}
+use Rattle.world_numbers.specs.Decoding.{ComesBack, AnyComesBack}
+use Rattle.world_buffers.specs.Following.{BufferFollows}
+use Rattle.send_buffers.specs.Following.{LinkFollows}
+use Rattle.session_laws.specs.Played.{WholeOutput, PlayEnds}
+
+-- of a world of n seats
+pub record Theorems (n : ℕ) : Type 0 where
+  -- a refusal leaves the world as it was
+  pub demand1 : Demand1 n
+  -- clear boxes, records that come back, records that are near
+  pub demand3 : Demand3 n
+  -- all that the session program writes for a text, and that it ends
+  pub output : WholeOutput n
+  pub ends : PlayEnds n
+  -- a world comes back from its numbers
+  pub back : ComesBack n
+  pub anyBack : AnyComesBack n
+  -- request 2: the floor mark
+  pub marks : MarksFollow n
+  -- request 4: hooks on who left
+  pub releases : LeaveReleases n
+  pub held : HeldPresent n
+  -- request 5: deadly tiles
+  pub spikes : StepSpikes n
+  -- request 6: screens that are sent surprises alone
+  pub shown : Shown n
+  pub sparing : Sparing n
+  pub along : Along n
+  pub foreseen : Foreseen n
+  pub stays : Stays n
+  pub alone : CopiesAlone n
+
+-- at the seats that there are; and that the numbers which C programs hold are those of the worlds and links that the theorems speak of
+pub record Shipped : Type 0 where
+  pub theorems : Theorems seats
+  pub buffers : BufferFollows
+  pub links : LinkFollows
