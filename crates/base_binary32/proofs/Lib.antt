@@ -1,3 +1,4 @@
 pub mod Nans
 pub mod Patterns
 pub mod Grid
+pub mod Sign

@@ -10,7 +10,7 @@ use lib.IntN.{ℤ, pos}
 use lib.Ieee.{Float, nan, inf, fin, binary32, up, down, round, sum, add, fits}
 use lib.Ieee.Fits.{down-pos}
 use Rattle.num_convert.specs.Whole.{wholeOf, roundToI32}
-use Rattle.map_corners.proofs.Sign.{round-sign}
+use Rattle.base_binary32.proofs.Sign.{round-sign}
 use Rattle.map_corners.proofs.Reach.{Past, value-past, negative-past, round-past}
 use Rattle.map_corners.proofs.Gap.{grain, gap}
 use Rattle.map_corners.proofs.Crossing.{exact-past, crossing}

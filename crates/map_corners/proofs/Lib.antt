@@ -1,4 +1,3 @@
-pub mod Sign
 pub mod Reach
 pub mod Gap
 pub mod Crossing

@@ -15,7 +15,7 @@ use lib.Ieee.Order.{round-mono}
 use mir.Facts.{or-yes}
 use Rattle.num_convert.specs.Whole.{cut, wholeOf, roundToI32}
 use Rattle.map_corners.specs.Tile.{tileOf}
-use Rattle.map_corners.proofs.Sign.{HasSign, round-sign}
+use Rattle.base_binary32.proofs.Sign.{HasSign, round-sign}
 
 -- i < z
 abbrev pub Past : ℕ → ℤ → Type 0

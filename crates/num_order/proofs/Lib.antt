@@ -1,0 +1,13 @@
+pub mod Signed
+pub mod Chain
+pub mod Rounded
+pub mod Places
+pub mod Sums
+pub mod Nans
+pub mod Steps
+pub mod Products
+pub mod Quotients
+pub mod Walks
+pub mod Points
+pub mod Fractions
+pub mod Vectors
