@@ -1,3 +1,5 @@
 pub mod Slowed
 pub mod Far
 pub mod FarPush
+pub mod Apart
+pub mod Mixed
