@@ -13,6 +13,7 @@ use Rattle.num_convert.specs.Number.{c0, c1}
 use Rattle.num_convert.specs.Convert.{i32ToF32}
 use Rattle.num_vec2.specs.Vec2.{vnew, vadd, vmul, vlength}
 use Rattle.num_vec2.specs.declared.vec2.{vec2}
+use Rattle.num_order.proofs.Vectors.{FitsPair}
 use Rattle.map_walks.specs.Limit.{mostTurns}
 use Rattle.map_tiles.specs.declared.tiles.Sides.{Sides}
 use Rattle.game_tuning.specs.declared.Tuning.{Tuning}
@@ -29,7 +30,7 @@ use Rattle.character.specs.declared.walk.MovedAt.{MovedAt}
 use Rattle.character.specs.declared.walk.MovedAt.the-variants as moved
 use Rattle.character.specs.Walk.{moveAt}
 use Rattle.character_laws.proofs.Choices.{either}
-use Rattle.character_laws.proofs.FitsTick.{FitsPair, add-pair}
+use Rattle.character_laws.proofs.FitsTick.{add-pair}
 use Rattle.character_laws.proofs.Moved.{withBox, move-alone}
 
 abbrev FitsBody : Body → Type 0

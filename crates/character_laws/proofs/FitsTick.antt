@@ -12,6 +12,7 @@ use Rattle.num_convert.specs.Number.{c0, clamp, saturatedAdd, c1·5}
 use Rattle.num_convert.specs.Convert.{c100, i32ToF32, hundredthsToF32}
 use Rattle.num_vec2.specs.Vec2.{vadd, vmul, vlength, vnormalize, vdistance}
 use Rattle.num_vec2.specs.declared.vec2.{vec2}
+use Rattle.num_order.proofs.Vectors.{FitsPair}
 use Rattle.game_input.specs.declared.direction.MoveDirection.{MoveDirection}
 use Rattle.game_input.specs.declared.direction.MoveDirection.the-variants.{Left, None, Right}
 use Rattle.character_hook.specs.Hook.{idOf}
@@ -42,10 +43,6 @@ use Rattle.character.specs.Tick.{slotAt, nowhere, steer, flight, meetTurn, meet
 use Rattle.character_laws.proofs.Choices.{either, on-attached, on-grabbed}
 use Rattle.character_laws.proofs.Others.{Then}
 use Rattle.character_laws.proofs.Slots.{set-every}
-
--- both coordinates are values of the format
-abbrev pub FitsPair : vec2 → Type 0
-FitsPair v = T (fits binary32 (v .x)) × T (fits binary32 (v .y))
 
 pub add-pair : (v w : vec2) → FitsPair (vadd v w)
 unfolding vadd

@@ -12,6 +12,7 @@ use Rattle.base_turns.specs.Turns.{Turn, more, stop, next, run}
 use Rattle.base_turns.proofs.Kept.{Ends, run-kept}
 use Rattle.base_turns.proofs.Last.{run-last}
 use Rattle.num_convert.specs.Number.{c0}
+use Rattle.num_order.proofs.Vectors.{FitsPair}
 use Rattle.map_tiles.specs.Map.{isMap}
 use Rattle.map_tiles.specs.declared.tiles.Sides.{Sides}
 use Rattle.game_tuning.specs.declared.Tuning.{Tuning}
@@ -32,7 +33,6 @@ use Rattle.character.specs.declared.records.Net.the-variants as net
 use Rattle.character_laws.proofs.Faithful.{core-faithful, core-clear, core-deadly}
 use Rattle.character_laws.proofs.Slots.{set-every, set-others, replicate-every}
 use Rattle.character_laws.proofs.Moved.{move-clear}
-use Rattle.character_laws.proofs.FitsTick.{FitsPair}
 use Rattle.character_laws.proofs.FitsMove.{move-fits}
 use Rattle.world.specs.Step.{Moving, unpublished, ofNet, recordOf, publish, moveIn, moveTurn, movingFrom, moveAll}
 use Rattle.world.specs.Demand3.{leftIn, leftFrom, FaithfulTo, recordAt, leftOnDeadly}

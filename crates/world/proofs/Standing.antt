@@ -10,6 +10,7 @@ use lib.Ieee.Fits.{ofInt-fits, div-fits}
 use Rattle.base_turns.proofs.Kept.{Ends, run-kept}
 use Rattle.num_convert.specs.Convert.{c256, i32ToF32, from256ths}
 use Rattle.num_vec2.specs.declared.vec2.{vec2}
+use Rattle.num_order.proofs.Vectors.{FitsPair}
 use Rattle.game_records.specs.declared.PlayerInput.{PlayerInput}
 use Rattle.map_tiles.specs.declared.tiles.Sides.{Sides}
 use Rattle.game_tuning.specs.Tuning.{tuningOf}
@@ -23,7 +24,7 @@ use Rattle.character.specs.Tick.{slotAt, nowhere, afterPull, tickAt}
 use Rattle.character_laws.specs.Representable.{Pair, Representable}
 use Rattle.character_laws.proofs.Slots.{set-every}
 use Rattle.character_laws.proofs.Others.{Then, SameButVel, tick-pos, pulled-others}
-use Rattle.character_laws.proofs.FitsTick.{FitsPair, FitsAfter, tick-fits, after-pull-fits}
+use Rattle.character_laws.proofs.FitsTick.{FitsAfter, tick-fits, after-pull-fits}
 use Rattle.world.specs.Step.{afterTick, tickTurn, tickAll}
 use Rattle.world.proofs.Seats.{by-test}
 
