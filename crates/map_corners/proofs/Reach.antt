@@ -45,7 +45,7 @@ cut-past i a c C =
     let q : (suc i ≤ cut 1 a c) ↔ (suc i * (c * 2) ≤ a * 2 + 1 * c) = le-div-iff-mul-le (mul-pos C (lit< tt)) in
     (λ h. omega (arith, q .0 h), λ h. q .1 (omega arith))
 
-cut-mono : (a c b d : ℕ) → 0 < c → 0 < d → a * d ≤ b * c → cut 1 a c ≤ cut 1 b d
+pub cut-mono : (a c b d : ℕ) → 0 < c → 0 < d → a * d ≤ b * c → cut 1 a c ≤ cut 1 b d
 cut-mono a c b d C D h = div-mono (a * 2 + 1 * c) (c * 2) (b * 2 + 1 * d) (d * 2) (mul-pos C (lit< tt)) (mul-pos D (lit< tt)) (omega arith)
 
 pub value-past : (x : Float) (a c i : ℕ) → 0 < c → i < 2 ^ 16 → HasValue x false a c → Past i (roundToI32 x) ↔ ((i * 2 + 1) * c ≤ a * 2)

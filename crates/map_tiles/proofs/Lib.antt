@@ -1,3 +1,4 @@
 pub mod Maps
 pub mod Corners
 pub mod Quantized
+pub mod Edges

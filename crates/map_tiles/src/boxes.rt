@@ -39,7 +39,7 @@ fn solid_corners(sides: Sides, tiles: &[u8], left: u32, right: u32, top: u32, bo
     is_solid_at(sides, tiles, left, bottom)
 }
 
-fn is_solid_at(sides: Sides, tiles: &[u8], column: u32, row: u32) -> bool
+pub fn is_solid_at(sides: Sides, tiles: &[u8], column: u32, row: u32) -> bool
     requires { ⌜ T (isMap sides (now tiles)) × (column < sides .width) × (row < sides .height) ⌝ }
     ensures { λ r. ⌜ r ≡ solid (tileIn sides (now (tiles .entry)) column row) ⌝ }
 {
