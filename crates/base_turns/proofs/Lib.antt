@@ -2,3 +2,4 @@ pub mod Loop
 pub mod Kept
 pub mod Last
 pub mod Mapped
+pub mod Parts

@@ -1,2 +1,4 @@
 pub mod Cases
 pub mod Clear
+pub mod Ways
+pub mod Straight

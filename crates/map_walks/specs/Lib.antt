@@ -1,3 +1,4 @@
 pub mod Limit
 pub mod Line
 pub mod Move
+pub mod Way

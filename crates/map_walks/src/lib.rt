@@ -1,6 +1,7 @@
 // The walks on a map: of a line, and of a box.
 mod lines;
 mod moves;
+mod way;
 
 pub use lines::LineCheck;
 pub use lines::LineHit;

@@ -1,5 +1,7 @@
 // A box's walk.
 use crate::MOST_TURNS;
+use crate::way::is_clear_way;
+use crate::way::way_end;
 use map_tiles::Sides;
 use map_tiles::check_box;
 use map_tiles::count;
@@ -7,9 +9,10 @@ use map_tiles::is_map;
 use num_vec2::vec2;
 ghost use mathlib.Core.Path.{_≡_};
 ghost use lib.Dec.{T};
-ghost use Prim.Native.Nat.{_≤_};
+ghost use Prim.Native.Nat.{_≤_, _<_};
 ghost use Rattle.map_tiles.specs.Map.{isMap};
 ghost use Rattle.map_walks.specs.Move.{boxTurns, bodyOf, blocked, boxTurn, boxTurnsTaken, walkBox, moveBox};
+ghost use Rattle.map_walks.specs.Way.{turnsTaken};
 
 // A position with the velocity that moves it.
 pub struct Body {
@@ -76,6 +79,52 @@ fn box_turns_taken(sides: Sides, tiles: &[u8], body: Body, box_: vec2, turns: u3
     ensures { λ r. ⌜ r ≡ boxTurnsTaken sides (now (tiles .entry)) body «box_» turns ⌝ }
 {
     let fraction = 1.0 / turns as f32;
+    let mut b = body;
+    let mut left = turns;
+    while left > 0 {
+        let n = stretch_of(left);
+        b = stretch(sides, tiles, b, fraction, box_, n);
+        left -= n;
+    }
+    b
+}
+
+// How many of the turns that are left are tried at once. On a floor the last turns of a way meet it, and those before are still straight.
+fn stretch_of(left: u32) -> u32
+    requires { ⌜ 0 < left ⌝ }
+    ensures { λ r. ⌜ (0 < r) × (r ≤ left) ⌝ }
+{
+    if left < 8 {
+        return left;
+    }
+    8
+}
+
+// Where nothing is in the way the turns are sums alone.
+fn stretch(sides: Sides, tiles: &[u8], body: Body, fraction: f32, box_: vec2, turns: u32) -> Body
+    requires { ⌜ T (isMap sides (now tiles)) ⌝ }
+    ensures { λ r. ⌜ r ≡ turnsTaken sides (now (tiles .entry)) fraction «box_» turns body ⌝ }
+{
+    let start = body.pos;
+    let vel = body.vel;
+    let end = way_end(start, vel.mul(fraction), turns);
+    if is_clear_way(sides, tiles, start, end, box_) {
+        return Body { pos: end, vel: vel };
+    }
+    turn_by_turn(sides, tiles, body, fraction, box_, turns)
+}
+
+fn turn_by_turn(
+    sides: Sides,
+    tiles: &[u8],
+    body: Body,
+    fraction: f32,
+    box_: vec2,
+    turns: u32,
+) -> Body
+    requires { ⌜ T (isMap sides (now tiles)) ⌝ }
+    ensures { λ r. ⌜ r ≡ turnsTaken sides (now (tiles .entry)) fraction «box_» turns body ⌝ }
+{
     let mut b = body;
     for _ in 0..turns {
         b = box_turn(sides, tiles, b, fraction, box_);

@@ -1,44 +1,48 @@
 -- `map_walks::moves::box_turns_taken` meets its contract. Assumes nothing.
-use mathlib.Core.Path.{sym, ap}
-use Prim.Native.Nat.{_-_, _^_}
+use mathlib.Core.Path.{_≡_, refl, sym, _∙_}
+use Prim.Native.Nat.{_^_}
 use native.Mathlib.Omega.{arith}
 use lib.Dec.{le→leb}
 use lib.Ieee.{inFloat}
+use borrow.Author.Needs.{needs}
 use Rattle.num_convert.specs.Convert.{i32ToF32}
-use Rattle.base_turns.specs.Turns.{more, fold}
-use Rattle.base_turns.proofs.Loop.{Left, always, fold-first, fold-end, turn-on}
-use Rattle.map_walks.specs.Move.{boxTurn, boxTurnsTaken}
+use Rattle.map_walks.specs.Move.{boxTurnsTaken}
+use Rattle.map_walks.specs.Way.{turnsTaken}
+use Rattle.map_walks.proofs.Straight.{in-parts, none-left}
 use Rattle.map_walks.proofs.moves.box_turns_taken.Statement.{statement}
 use Rattle.map_walks.proofs.moves.box_turns_taken.Tie as tie
 
 abbrev Inv-loop : tie.InvT-loop
-Inv-loop sides tiles box- turns fraction b₀ counter₀ b counter = Left (always (λ i. boxTurn sides tiles fraction box-)) turns counter b (more (fold (λ i. boxTurn sides tiles fraction box-) turns 0 b₀))
+Inv-loop sides tiles box- turns fraction b₀ left₀ b left = turnsTaken sides tiles fraction box- left b ≡ turnsTaken sides tiles fraction box- turns b₀
 
 abbrev μ-loop : tie.MeasureT-loop
-μ-loop sides tiles box- turns fraction b₀ counter₀ b counter = turns - counter
+μ-loop sides tiles box- turns fraction b₀ left₀ b left = left
 
 int-to-float-fraction : tie.Need-int-to-float-fraction Inv-loop μ-loop
 unfolding inFloat
 int-to-float-fraction c = le→leb (c .before .before .args .turns) (2 ^ 24) (omega arith)
 
 loop-holds : tie.Need-loop-holds Inv-loop μ-loop
-loop-holds c = fold-first
+loop-holds c = refl
 
-box-turn-requires : tie.Need-box-turn-requires Inv-loop μ-loop
-box-turn-requires c κs = c .before .before .before .before .pre .0
+stretch-of-requires : tie.Need-stretch-of-requires Inv-loop μ-loop
+stretch-of-requires c κs = search needs
 
-add-counter : tie.Need-add-counter Inv-loop μ-loop
-add-counter c = omega arith
+stretch-requires : tie.Need-stretch-requires Inv-loop μ-loop
+stretch-requires c κs = search needs
+
+sub-left : tie.Need-sub-left Inv-loop μ-loop
+sub-left c = omega arith
 
 loop-less : tie.Need-loop-less Inv-loop μ-loop
 loop-less c = omega arith
 
 loop-again : tie.Need-loop-again Inv-loop μ-loop
-loop-again c = turn-on (c .before .before .loop .inv) (c .before .loop-test .taken) (ap more (sym (c .box-turn .ensures)))
+loop-again c = sym (in-parts _ _ _ _ _ _ _ (c .before .stretch-of .ensures .1) _ (c .stretch .ensures)) ∙ c .before .before .before .loop .inv
 
 returns : tie.Need-returns Inv-loop μ-loop
-unfolding boxTurnsTaken i32ToF32
-returns c = sym (fold-end (c .before .loop .inv) (c .loop-test .left))
+unfolding boxTurnsTaken turnsTaken i32ToF32
+returns c = sym (none-left _ _ _ _ _ _ (c .loop-test .left)) ∙ c .before .loop .inv
 
 pub box-turns-taken-spec : {M : Type 1} → statement M
 box-turns-taken-spec =
@@ -48,8 +52,9 @@ box-turns-taken-spec =
     μ-loop
     int-to-float-fraction
     loop-holds
-    box-turn-requires
-    add-counter
+    stretch-of-requires
+    stretch-requires
+    sub-left
     loop-less
     loop-again
     returns)
