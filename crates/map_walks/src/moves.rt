@@ -9,7 +9,7 @@ use map_tiles::is_map;
 use num_vec2::vec2;
 ghost use mathlib.Core.Path.{_≡_};
 ghost use lib.Dec.{T};
-ghost use Prim.Native.Nat.{_≤_, _<_};
+ghost use Prim.Native.Nat.{_≤_, min};
 ghost use Rattle.map_tiles.specs.Map.{isMap};
 ghost use Rattle.map_walks.specs.Move.{boxTurns, bodyOf, blocked, boxTurn, boxTurnsTaken, walkBox, moveBox};
 ghost use Rattle.map_walks.specs.Way.{turnsTaken};
@@ -91,8 +91,7 @@ fn box_turns_taken(sides: Sides, tiles: &[u8], body: Body, box_: vec2, turns: u3
 
 // How many of the turns that are left are tried at once. On a floor the last turns of a way meet it, and those before are still straight.
 fn stretch_of(left: u32) -> u32
-    requires { ⌜ 0 < left ⌝ }
-    ensures { λ r. ⌜ (0 < r) × (r ≤ left) ⌝ }
+    ensures { λ r. ⌜ r ≡ min left 8 ⌝ }
 {
     if left < 8 {
         return left;
@@ -100,16 +99,18 @@ fn stretch_of(left: u32) -> u32
     8
 }
 
-// Where nothing is in the way the turns are sums alone.
+// Where nothing is in the way the turns are sums alone. To ask that costs as much as a turn, so one or two are just taken.
 fn stretch(sides: Sides, tiles: &[u8], body: Body, fraction: f32, box_: vec2, turns: u32) -> Body
     requires { ⌜ T (isMap sides (now tiles)) ⌝ }
     ensures { λ r. ⌜ r ≡ turnsTaken sides (now (tiles .entry)) fraction «box_» turns body ⌝ }
 {
     let start = body.pos;
     let vel = body.vel;
-    let end = way_end(start, vel.mul(fraction), turns);
-    if is_clear_way(sides, tiles, start, end, box_) {
-        return Body { pos: end, vel: vel };
+    if turns > 2 {
+        let end = way_end(start, vel.mul(fraction), turns);
+        if is_clear_way(sides, tiles, start, end, box_) {
+            return Body { pos: end, vel: vel };
+        }
     }
     turn_by_turn(sides, tiles, body, fraction, box_, turns)
 }

@@ -32,13 +32,13 @@ stretch-requires : tie.Need-stretch-requires Inv-loop μ-loop
 stretch-requires c κs = search needs
 
 sub-left : tie.Need-sub-left Inv-loop μ-loop
-sub-left c = omega arith
+sub-left c = omega (arith, c .before .stretch-of .ensures)
 
 loop-less : tie.Need-loop-less Inv-loop μ-loop
-loop-less c = omega arith
+loop-less c = omega (arith, c .before .stretch-of .ensures)
 
 loop-again : tie.Need-loop-again Inv-loop μ-loop
-loop-again c = sym (in-parts _ _ _ _ _ _ _ (c .before .stretch-of .ensures .1) _ (c .stretch .ensures)) ∙ c .before .before .before .loop .inv
+loop-again c = sym (in-parts _ _ _ _ _ _ _ (omega (arith, c .before .stretch-of .ensures)) _ (c .stretch .ensures)) ∙ c .before .before .before .loop .inv
 
 returns : tie.Need-returns Inv-loop μ-loop
 unfolding boxTurnsTaken turnsTaken i32ToF32

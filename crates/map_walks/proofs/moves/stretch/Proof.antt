@@ -20,11 +20,11 @@ is-clear-way-requires c κs = search needs
 
 returns : tie.Need-returns
 returns c =
-    let s = c .before .before .before .before .before .before .before in
+    let s = c .before .before .before .before .before .before .before .before in
     let a = s .args in
     let held : FitsPair (a .body .pos) = (subst T (sym (s .good .1 .1 .0 .1 .1 .0 .1 .1 .0 .1)) tt, subst T (sym (s .good .1 .1 .0 .1 .1 .0 .1 .1 .1 .0 .1)) tt) in
     let w = c .before .before .way-end in
-    sym (straight (a .sides) (a .tiles .now) (a .fraction) (a .«box-») (a .turns) (a .body) (w .result) held (w .ensures ∙ ap (λ (d : vec2). wayEnd (a .body .pos) d (a .turns)) (c .before .before .before .mul .ensures)) (sym (c .before .is-clear-way .ensures) ∙ c .if1 .taken))
+    sym (straight (a .sides) (a .tiles .now) (a .fraction) (a .«box-») (a .turns) (a .body) (w .result) held (w .ensures ∙ ap (λ (d : vec2). wayEnd (a .body .pos) d (a .turns)) (c .before .before .before .mul .ensures)) (sym (c .before .is-clear-way .ensures) ∙ c .if2 .taken))
 
 turn-by-turn-requires : tie.Need-turn-by-turn-requires
 turn-by-turn-requires c κs = search needs
