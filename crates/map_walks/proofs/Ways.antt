@@ -21,7 +21,7 @@ use Rattle.map_tiles.specs.Map.{tileIn, solid}
 use Rattle.map_tiles.specs.Box.{half, checkBox}
 use Rattle.map_tiles.proofs.Edges.{Over, edges, none-over, tile-minus, tile-plus}
 use Rattle.map_walks.specs.declared.way.Span.{Span}
-use Rattle.map_walks.specs.Way.{any, anyIn, c1024, isClearWay, isSize, solidAmong, solidInRow, spanFrom, spanOf}
+use Rattle.map_walks.specs.Way.{any, anyIn, c1024, hasSpan, isClearWay, solidAmong, solidInRow, spanFrom, spanOf}
 
 -- ---- the scan from i to l: it goes on, ends with a yes, or ends at l
 more : (l i : ℕ) → i ≤ l → l + 1 - i ≡ suc (l + 1 - (i + 1))
@@ -61,20 +61,24 @@ none-among : (s : Sides) (ts : List ℕ) (columns rows : Span) → solidAmong s 
 unfolding solidAmong solidInRow
 none-among s ts columns rows e c r l m t b = none-in (λ i. solid (tileIn s ts i r)) columns (none-in (λ j. anyIn (λ i. solid (tileIn s ts i j)) columns) rows e r t b) c l m
 
--- ---- half a side of a box
-size-above : (h : Float) → T (isSize h) → T (le nought h)
-unfolding isSize ofBits
-size-above h t = and-l (le c0 h) (le h c1024) t
+-- ---- what a span is known for
+record Known (h b : Float) : Type 0 where
+  above : T (le nought h)
+  small : T (finite h)
+  end : Number b
 
-size-finite : (h : Float) → T (isSize h) → T (finite h)
-unfolding isSize le ofBits
-size-finite h t = go h (and-l (le c0 h) (le h c1024) t) (and-r (le c0 h) (le h c1024) t)
+known : (h b : Float) → T (hasSpan h b) → Known h b
+unfolding hasSpan le ofBits
+known h b t =
+    let u : T (le c0 h && le h c1024) = and-l (le c0 h && le h c1024) (le b b) t in
+    let p = and-l (le c0 h) (le h c1024) u in
+    record { above = p; small = ends h p (and-r (le c0 h) (le h c1024) u); end = le-left b b (and-r (le c0 h && le h c1024) (le b b) t) }
   where
-    go : (x : Float) → T (le c0 x) → T (le x c1024) → T (finite x)
-    go nan p q = p
-    go (inf true) p q = p
-    go (inf false) p q = q
-    go (fin s m e) p q = tt
+    ends : (x : Float) → T (le c0 x) → T (le x c1024) → T (finite x)
+    ends nan p q = p
+    ends (inf true) p q = p
+    ends (inf false) p q = q
+    ends (fin s m e) p q = tt
 
 -- ---- the tiles between two coordinates
 between-number : (a z b : Float) → Between a z b → Number z
@@ -88,15 +92,15 @@ ordered true a z b e (inr w) = let l = subst T (sym e) tt in (le-trans a b z l (
 ordered false a z b e (inl w) = absurd (subst T e (le-trans a z b (w .0) (w .1)))
 ordered false a z b e (inr w) = w
 
-span-over : (side : ℕ) (h a z b : Float) → T (isSize h) → Between a z b → Over side h z (spanOf side h a b .first) (spanOf side h a b .last)
+span-over : (side : ℕ) (h a z b : Float) → Known h b → Between a z b → Over side h z (spanOf side h a b .first) (spanOf side h a b .last)
 unfolding spanOf
 span-over side h a z b k w = go (le a b) refl
   where
     from : (lo hi : Float) → T (le lo z) × T (le z hi) → Over side h z (tileAt side (sub binary32 lo h)) (tileAt side (add binary32 hi h))
     from lo hi v = record {
-      low = tile-minus side lo z h (v .0) (size-finite h k);
-      between = edges side z h (between-number a z b w) (size-above h k) (size-finite h k);
-      high = tile-plus side z hi h (v .1) (size-finite h k);
+      low = tile-minus side lo z h (v .0) (k .small);
+      between = edges side z h (between-number a z b w) (k .above) (k .small);
+      high = tile-plus side z hi h (v .1) (k .small);
     }
 
     go : (c : Bool) → le a b ≡ c → Over side h z (cond c (spanFrom side h a b) (spanFrom side h b a) .first) (cond c (spanFrom side h a b) (spanFrom side h b a) .last)
@@ -120,16 +124,14 @@ seen s ts a b box e =
     let h = vmul box half in
     let columns = spanOf (s .width) (h .x) (a .x) (b .x) in
     let rows = spanOf (s .height) (h .y) (a .y) (b .y) in
-    let x : Bool = isSize (h .x) in
-    let y : Bool = isSize (h .y) in
-    let u : Bool = le (b .x) (b .x) in
-    let v : Bool = le (b .y) (b .y) in
-    let t : T (x && y && u && v && not (solidAmong s ts columns rows)) = subst T (sym e) tt in
-    let t4 : T (x && y && u && v) = and-l (x && y && u && v) (not (solidAmong s ts columns rows)) t in
-    let t3 : T (x && y && u) = and-l (x && y && u) v t4 in
-    let t2 : T (x && y) = and-l (x && y) u t3 in
+    let x : Bool = hasSpan (h .x) (b .x) in
+    let y : Bool = hasSpan (h .y) (b .y) in
+    let n : Bool = not (solidAmong s ts columns rows) in
+    let t : T (x && y && n) = subst T (sym e) tt in
+    let kx = known (h .x) (b .x) (and-l x y (and-l (x && y) n t)) in
+    let ky = known (h .y) (b .y) (and-r x y (and-l (x && y) n t)) in
     record {
-      end-x = le-left (b .x) (b .x) (and-r (x && y) u t3);
-      end-y = le-left (b .y) (b .y) (and-r (x && y && u) v t4);
-      clear = λ p i j. clear-over s ts p box columns rows (span-over (s .width) (h .x) (a .x) (p .x) (b .x) (and-l x y t2) i) (span-over (s .height) (h .y) (a .y) (p .y) (b .y) (and-r x y t2) j) (is-false (solidAmong s ts columns rows) (and-r (x && y && u && v) (not (solidAmong s ts columns rows)) t));
+      end-x = kx .end;
+      end-y = ky .end;
+      clear = λ p i j. clear-over s ts p box columns rows (span-over (s .width) (h .x) (a .x) (p .x) (b .x) kx i) (span-over (s .height) (h .y) (a .y) (p .y) (b .y) ky j) (is-false (solidAmong s ts columns rows) (and-r (x && y) n t));
     }

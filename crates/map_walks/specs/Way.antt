@@ -27,9 +27,9 @@ wayEnd p step n = fold (λ i q. vadd q step) n 0 p
 abbrev pub c1024 : Float
 c1024 = ofBits binary32 0x4480_0000
 
--- half a side of a box: from 0 to 1,024, so that it makes no sum a not-a-number
-unfoldable pub isSize : Float → Bool
-isSize h = le c0 h && le h c1024
+-- what a span is known for: an end that is a number, and half a side of a box from 0 to 1,024, which makes no sum a not-a-number
+unfoldable pub hasSpan : Float → Float → Bool
+hasSpan h b = le c0 h && le h c1024 && le b b
 
 -- the tiles along a side from the lower edge of a box at lo to the upper edge of it at hi, each h from its middle
 abbrev pub spanFrom : ℕ → Float → Float → Float → Span
@@ -55,10 +55,10 @@ solidInRow s ts columns r = anyIn (λ c. solid (tileIn s ts c r)) columns
 unfoldable pub solidAmong : Sides → List ℕ → Span → Span → Bool
 solidAmong s ts columns rows = anyIn (solidInRow s ts columns) rows
 
--- whether a way from a to b is seen to be clear: no tile that the box can be over is solid. Nothing is seen where the end is no number
+-- whether a way from a to b is seen to be clear: no tile that the box can be over is solid
 unfoldable pub isClearWay : Sides → List ℕ → vec2 → vec2 → vec2 → Bool
 isClearWay s ts a b box =
     let h = vmul box half in
     let columns = spanOf (s .width) (h .x) (a .x) (b .x) in
     let rows = spanOf (s .height) (h .y) (a .y) (b .y) in
-    isSize (h .x) && isSize (h .y) && le (b .x) (b .x) && le (b .y) (b .y) && not (solidAmong s ts columns rows)
+    hasSpan (h .x) (b .x) && hasSpan (h .y) (b .y) && not (solidAmong s ts columns rows)

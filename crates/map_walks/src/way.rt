@@ -7,7 +7,7 @@ ghost use mathlib.Core.Path.{_≡_};
 ghost use lib.Dec.{T};
 ghost use Prim.Native.Nat.{_<_};
 ghost use Rattle.map_tiles.specs.Map.{isMap};
-ghost use Rattle.map_walks.specs.Way.{wayEnd, isSize, spanOf, solidInRow, solidAmong, isClearWay};
+ghost use Rattle.map_walks.specs.Way.{wayEnd, hasSpan, spanOf, solidInRow, solidAmong, isClearWay};
 
 // The tiles from first to last along a side.
 pub struct Span {
@@ -32,16 +32,10 @@ pub fn is_clear_way(sides: Sides, tiles: &[u8], a: vec2, b: vec2, box_: vec2) ->
     ensures { λ r. ⌜ r ≡ isClearWay sides (now (tiles .entry)) a b «box_» ⌝ }
 {
     let half = box_.mul(0.5);
-    if !is_size(half.x) {
+    if !has_span(half.x, b.x) {
         return false;
     }
-    if !is_size(half.y) {
-        return false;
-    }
-    if !(b.x <= b.x) {
-        return false;
-    }
-    if !(b.y <= b.y) {
+    if !has_span(half.y, b.y) {
         return false;
     }
     let columns = span_of(sides.width, half.x, a.x, b.x);
@@ -49,11 +43,14 @@ pub fn is_clear_way(sides: Sides, tiles: &[u8], a: vec2, b: vec2, box_: vec2) ->
     !solid_among(sides, tiles, columns, rows)
 }
 
-fn is_size(h: f32) -> bool
-    ensures { λ r. ⌜ r ≡ isSize h ⌝ }
+// Not for a box without a size, nor for an end that is a not-a-number.
+fn has_span(h: f32, b: f32) -> bool
+    ensures { λ r. ⌜ r ≡ hasSpan h b ⌝ }
 {
     if 0.0 <= h {
-        return h <= 1024.0;
+        if h <= 1024.0 {
+            return b <= b;
+        }
     }
     false
 }
