@@ -55,7 +55,7 @@ none-of f (suc n) i e k l h = go (f i) refl e (λ q j. none-of f n (suc i) q k j
     go false p q r = elim (eq-or-lt-of-le l) [ inl j ↦ subst (λ (m : ℕ). f m ≡ false) j p | inr j ↦ r q j ]
 
 none-in : (f : ℕ → Bool) (s : Span) → anyIn f s ≡ false → (k : ℕ) → s .first ≤ k → k ≤ s .last → f k ≡ false
-none-in f s e k l h = none-of f (s .last + 1 - s .first) (s .first) e k l (omega arith)
+none-in f s e k l h = none-of f _ (s .first) e k l (omega arith)
 
 none-among : (s : Sides) (ts : List ℕ) (columns rows : Span) → solidAmong s ts columns rows ≡ false → (c r : ℕ) → columns .first ≤ c → c ≤ columns .last → rows .first ≤ r → r ≤ rows .last → solid (tileIn s ts c r) ≡ false
 unfolding solidAmong solidInRow
