@@ -1,5 +1,5 @@
 -- Two that are 28 or more apart in a coordinate do not touch; and between two ends that are as far on one side all is as far. Assumes nothing.
-use mathlib.Core.Path.{_≡_, refl, sym, ap, _∙_, subst}
+use mathlib.Core.Path.{_≡_, refl, sym, _∙_, subst}
 use mathlib.Core.Logic.{inl, inr, _⊎_, ⊎-elim}
 use mathlib.Core.Bool.{Bool, true, false, _&&_}
 use Prim.Native.Nat.{ℕ, _+_, _*_, _≤_, _<_}
@@ -19,9 +19,10 @@ use Rattle.num_order.proofs.Signed.{gain, le→at-most, loss}
 use Rattle.num_order.proofs.Chain.{Between, Number, le-left, le-refl, le-right, le-trans, nan-or, nought}
 use Rattle.num_order.proofs.Places.{own-placed, placed-ordered}
 use Rattle.num_order.proofs.Sums.{add-swap, sub-mono}
-use Rattle.num_order.proofs.Nans.{above-number, add-nan, minuend}
+use Rattle.num_order.proofs.Nans.{above-number, minuend}
 use Rattle.num_order.proofs.Steps.{grows}
 use Rattle.num_order.proofs.Products.{mul-placed, square-up}
+use Rattle.num_order.proofs.Vectors.{first-nan, second-nan, squares}
 
 -- ---- 28 or more, or -28 or less
 abbrev pub Wide : Float → Type 0
@@ -51,7 +52,7 @@ wide-square (fin s m e) h =
     placed-ordered (own-placed binary32 c784 tt tt) (mul-placed binary32 (fin s m e) (fin s m e) tt tt) (lit< tt) (mul-pos (down-pos e) (down-pos e))
     (wide-size s (m * up e) (down e) (down-pos e) (⊎-elim (λ k. inl (le→at-most characterSize (fin s m e) tt tt k)) (λ k. inr (le→at-most (fin s m e) (neg characterSize) tt tt k)) h))
 
-wide-sum : (x y : Float) → Wide x → Number y → T (le c784 (add binary32 (mul binary32 x x) (mul binary32 y y)))
+wide-sum : (x y : Float) → Wide x → Number y → T (le c784 (squares x y))
 wide-sum x y h a =
     let u = mul binary32 x x in
     let v = mul binary32 y y in
@@ -72,17 +73,15 @@ module _ (p q : vec2) where
   abbrev dy : Float
   dy = sub binary32 (q .y) (p .y)
 
-  squares-are : square p q ≡ add binary32 (mul binary32 dx dx) (mul binary32 dy dy)
+  squares-are : square p q ≡ squares dx dy
   unfolding vdot vsub
   squares-are = refl
 
   nan-x : dx ≡ nan → false ≡ touches p q
-  unfolding add mul
-  nan-x e = square-nan p q (squares-are ∙ ap (λ (d : Float). add binary32 (mul binary32 d d) (mul binary32 dy dy)) e)
+  nan-x e = square-nan p q (squares-are ∙ first-nan dx dy e)
 
   nan-y : dy ≡ nan → false ≡ touches p q
-  unfolding mul
-  nan-y e = square-nan p q (squares-are ∙ ap (λ (d : Float). add binary32 (mul binary32 dx dx) (mul binary32 d d)) e ∙ add-nan binary32 (mul binary32 dx dx))
+  nan-y e = square-nan p q (squares-are ∙ second-nan dx dy e)
 
   pub apart-x : (dx ≡ nan) ⊎ Wide dx → false ≡ touches p q
   apart-x (inl e) = nan-x e
@@ -92,7 +91,7 @@ module _ (p q : vec2) where
   apart-y (inl e) = nan-y e
   apart-y (inr h) = ⊎-elim nan-x (λ a. far p q (subst (λ (z : Float). T (le c784 z)) (sym squares-are) (turned a))) (nan-or dx)
     where
-      turned : Number dx → T (le c784 (add binary32 (mul binary32 dx dx) (mul binary32 dy dy)))
+      turned : Number dx → T (le c784 (squares dx dy))
       turned a =
           let u = mul binary32 dx dx in
           let v = mul binary32 dy dy in

@@ -89,10 +89,10 @@ pub record Over (w : ℕ) (h x : Float) (first last : ℕ) : Type 0 where
   pub high : tileAt w (add binary32 x h) ≤ last
 
 -- where f is false of every tile that the box may be over, it is of its corners
-pub none-over : (f : Tile → Bool) (s : Sides) (ts : List ℕ) (p box : vec2) (left right top bottom : ℕ) → Over (s .width) (vmul box half .x) (p .x) left right → Over (s .height) (vmul box half .y) (p .y) top bottom
+pub no-corner : (f : Tile → Bool) (s : Sides) (ts : List ℕ) (p box : vec2) (left right top bottom : ℕ) → Over (s .width) (vmul box half .x) (p .x) left right → Over (s .height) (vmul box half .y) (p .y) top bottom
     → ((c r : ℕ) → left ≤ c → c ≤ right → top ≤ r → r ≤ bottom → f (tileIn s ts c r) ≡ false) → anyCorner f s ts p box ≡ false
 unfolding cornerTiles
-none-over f s ts p box left right top bottom x y o =
+no-corner f s ts p box left right top bottom x y o =
     let l = le-trans (x .between) (x .high) in
     let r = le-trans (x .low) (x .between) in
     let t = le-trans (y .between) (y .high) in

@@ -19,7 +19,7 @@ use Rattle.map_corners.specs.Tile.{tileAt}
 use Rattle.map_tiles.specs.declared.tiles.Sides.{Sides}
 use Rattle.map_tiles.specs.Map.{tileIn, solid}
 use Rattle.map_tiles.specs.Box.{half, checkBox}
-use Rattle.map_tiles.proofs.Edges.{Over, edges, none-over, tile-minus, tile-plus}
+use Rattle.map_tiles.proofs.Edges.{Over, edges, no-corner, tile-minus, tile-plus}
 use Rattle.map_walks.specs.declared.way.Span.{Span}
 use Rattle.map_walks.specs.Way.{any, anyIn, c1024, hasSpan, isClearWay, solidAmong, solidInRow, spanFrom, spanOf}
 
@@ -111,7 +111,7 @@ span-over side h a z b k w = go (le a b) refl
 -- where no tile that it can be over is solid a box is clear
 clear-over : (s : Sides) (ts : List ℕ) (p box : vec2) (columns rows : Span) → Over (s .width) (vmul box half .x) (p .x) (columns .first) (columns .last) → Over (s .height) (vmul box half .y) (p .y) (rows .first) (rows .last) → solidAmong s ts columns rows ≡ false → checkBox s ts p box ≡ false
 unfolding checkBox
-clear-over s ts p box columns rows x y e = none-over solid s ts p box (columns .first) (columns .last) (rows .first) (rows .last) x y (none-among s ts columns rows e)
+clear-over s ts p box columns rows x y e = no-corner solid s ts p box (columns .first) (columns .last) (rows .first) (rows .last) x y (none-among s ts columns rows e)
 
 pub record Seen (s : Sides) (ts : List ℕ) (a b box : vec2) : Type 0 where
   pub end-x : Number (b .x)
