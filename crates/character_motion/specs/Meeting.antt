@@ -2,7 +2,7 @@
 use Prim.Native.Nat.{ℕ}
 use mathlib.Core.Bool.{Bool, cond, _&&_}
 use lib.Dec.{eqb}
-use lib.Ieee.{Float, binary32, neg, add, sub, mul, div, lt, ne, ofBits}
+use lib.Ieee.{Float, binary32, neg, add, sub, mul, div, lt, le, ne, ofBits}
 use Rattle.num_convert.specs.Number.{c0, c1, saturatedAdd, c1·5, c0·75}
 use Rattle.game_constants.specs.Constants.{characterSize}
 use Rattle.num_vec2.specs.Vec2.{vnew, vadd, vsub, vmul, vlength, vnormalize, vdistance, vdot}
@@ -20,6 +20,10 @@ c35 = ofBits binary32 0x420c_0000
 
 abbrev pub c1·45 : Float
 c1·45 = ofBits binary32 0x3fb9_999a
+
+-- the square of 35
+abbrev pub c1225 : Float
+c1225 = ofBits binary32 0x4499_2000
 
 -- CHARACTER_SIZE times 1.5
 abbrev pub c42 : Float
@@ -52,6 +56,10 @@ pushed p v q distance =
     let d = vnormalize (vsub p q) in
     let factor = sub binary32 (mul binary32 characterSize c1·45) distance in
     vmul (vadd v (vmul (vmul (vmul d factor) (additionalVel v d)) c0·75)) c0·85
+
+-- too far for a push, by the square of the distance
+unfoldable pub isBeyond : vec2 → vec2 → Bool
+isBeyond p q = let way = vsub q p in le c1225 (vdot way way)
 
 -- where players collide and the other is near, but not in the same place
 unfoldable pub push : vec2 → vec2 → vec2 → Float → Float → vec2

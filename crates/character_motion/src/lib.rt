@@ -12,6 +12,7 @@ pub use controls::jump;
 pub use controls::landed;
 pub use controls::walk;
 pub use meeting::HookPull;
+pub use meeting::is_beyond;
 pub use meeting::meet;
 pub use meeting::pull_on;
 pub use touching::touches;

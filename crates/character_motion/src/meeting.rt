@@ -7,7 +7,7 @@ use num_convert::saturated_add;
 use num_vec2::vec2;
 ghost use mathlib.Core.Path.{_≡_};
 ghost use Rattle.num_vec2.specs.Vec2.{vdistance};
-ghost use Rattle.character_motion.specs.Meeting.{additionalVel, pushed, push, pull, dragAccel, pulled, dragged, drags, pullOn, held, meet};
+ghost use Rattle.character_motion.specs.Meeting.{additionalVel, isBeyond, pushed, push, pull, dragAccel, pulled, dragged, drags, pullOn, held, meet};
 
 // Whom a hook pulls, and the velocity that it leaves them.
 pub enum HookPull {
@@ -53,17 +53,28 @@ fn push(pos: vec2, vel: vec2, other: vec2, distance: f32, player_collision: f32)
     vel
 }
 
+// Whether the other is too far for a push: most are, and a comparison of squares spares the root.
+pub fn is_beyond(pos: vec2, other: vec2) -> bool
+    ensures { λ r. ⌜ r ≡ isBeyond pos other ⌝ }
+{
+    let way = other.sub(pos);
+    1225.0 <= vec2::dot(way, way)
+}
+
 // The same, where the distance is still to be found.
 fn collide(pos: vec2, vel: vec2, other: vec2, player_collision: f32) -> vec2
     ensures { λ r. ⌜ r ≡ push pos vel other (vdistance pos other) «player_collision» ⌝ }
 {
-    let way = other.sub(pos);
-    let square = vec2::dot(way, way);
-    // Most are far: a comparison spares the root.
-    if 1225.0 <= square {
+    if is_beyond(pos, other) {
         return vel;
     }
-    push(pos, vel, other, num_root::root(square), player_collision)
+    push(
+        pos,
+        vel,
+        other,
+        vec2::distance(pos, other),
+        player_collision,
+    )
 }
 
 // A velocity that a hook pulls along dir, up to the speed.
