@@ -112,11 +112,6 @@ unfoldable pub afterPull : List Slot → HookPull → List Slot
 afterPull ss pull.Nobody = ss
 afterPull ss (pull.Of cid v) = set ss (cid .0) (withCharacter (slotAt ss (cid .0)) (withVel (slotAt ss (cid .0) .character) v))
 
--- the seat that it pulls at; the own one where there is none
-unfoldable pub pulledSeat : ℕ → HookPull → ℕ → ℕ
-pulledSeat n pull.Nobody own = own
-pulledSeat n (pull.Of cid v) own = cond (ltb (cid .0) n) (cid .0) own
-
 -- what it leaves of the slot at the seat j
 unfoldable pub pulledSlot : Slot → HookPull → ℕ → Slot
 pulledSlot s pull.Nobody j = s

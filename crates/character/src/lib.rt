@@ -1,5 +1,8 @@
 // A character, and its tick and move among the others.
+mod among;
 mod from_record;
+mod places;
+mod pulls;
 mod records;
 mod slots;
 mod tick;
@@ -11,10 +14,14 @@ use game_input::Angle;
 use game_input::MoveDirection;
 use game_records::PlayerInput;
 use num_vec2::vec2;
+pub use places::Places;
+pub use places::places_of;
+pub use pulls::held_seat;
+pub use pulls::pull_at;
 pub use records::Net;
 pub use records::Quantized;
-pub use slots::pulled_seat;
 pub use tick::AfterTick;
+pub use tick::OwnTick;
 pub use tick::Ticked;
 pub use tick::TickedAt;
 pub use walk::Moved;

@@ -1,14 +1,17 @@
 // A slot: empty, joined, and with one of its parts set; and what a pull and its own tick leave of it.
 use crate::Character;
-use crate::SEATS;
 use crate::Slot;
+use crate::pulls::pull_at;
 use crate::tick::AfterTick;
 use character_motion::HookPull;
 use game_records::PlayerInput;
+use game_tuning::Tuning;
 use num_vec2::vec2;
 ghost use mathlib.Core.Path.{_≡_};
+ghost use Prim.Native.Nat.{_<_};
 ghost use Rattle.character.specs.Slot.{noInput, emptySlot, joinedSlot, withCharacter, withInput, withGrounded};
-ghost use Rattle.character.specs.Tick.{seats, pulledSeat, pulledSlot, tickedSlot};
+ghost use Rattle.character.specs.Tick.{seats, pulledSlot, tickedSlot};
+ghost use Rattle.character.specs.Among.{pullAt};
 
 impl Slot {
     pub fn empty() -> Slot
@@ -63,6 +66,23 @@ impl Slot {
         self.with_character(me)
     }
 
+    // What the hook of another character does to whoever is in the slot, at the held seat.
+    pub fn pull_by(self, me: Character, own: usize, held: usize, tuning: Tuning) -> HookPull
+        requires { ⌜ held < seats ⌝ }
+        ensures { λ r. ⌜ r ≡ pullAt (me .pos) own held (self .present) (self .character .pos) (self .character .vel) tuning ⌝ }
+    {
+        let other = self.character;
+        pull_at(
+            me.pos,
+            own,
+            held,
+            self.present,
+            other.pos,
+            other.vel,
+            tuning,
+        )
+    }
+
     // What a pull leaves of the slot at a seat.
     pub fn pulled(self, pull: HookPull, seat: usize) -> Slot
         ensures { λ r. ⌜ r ≡ pulledSlot self pull seat ⌝ }
@@ -89,18 +109,4 @@ fn no_input() -> PlayerInput
         jump: 0,
         hook: 0,
     }
-}
-
-// The seat that a hook pulls at; the own one where there is none.
-pub fn pulled_seat(pull: HookPull, own: usize) -> usize
-    ensures { λ r. ⌜ r ≡ pulledSeat seats pull own ⌝ }
-{
-    let HookPull::Of(cid, _) = pull else {
-        return own;
-    };
-    let seat = cid.0 as usize;
-    if seat < SEATS {
-        return seat;
-    }
-    own
 }

@@ -2,11 +2,12 @@
 use crate::Character;
 use crate::SEATS;
 use crate::Slot;
+use crate::among::caught;
+use crate::among::meet_all;
+use crate::places::places_of;
+use crate::pulls::held_seat;
 use character_hook::CharacterId;
 use character_hook::Hook;
-use character_hook::Nearest;
-use character_hook::Way;
-use character_hook::nearer;
 use character_motion::HookPull;
 use character_motion::JumpState;
 use character_motion::clamp_speed;
@@ -14,8 +15,6 @@ use character_motion::control_of;
 use character_motion::grounded;
 use character_motion::jump;
 use character_motion::landed;
-use character_motion::meet;
-use character_motion::pull_on;
 use character_motion::walk;
 use game_input::aim;
 use game_input::jumps;
@@ -31,7 +30,9 @@ ghost use mathlib.Core.Path.{_≡_};
 ghost use lib.Dec.{T};
 ghost use Prim.Native.Nat.{_<_};
 ghost use Rattle.map_tiles.specs.Map.{isMap};
-ghost use Rattle.character.specs.Tick.{seats, steer, nearest, caught, meetAll, pullOf, hooked, tickAt, tick};
+ghost use Rattle.character.specs.Tick.{seats, steer, hooked, tickAt, tick};
+ghost use Rattle.character.specs.Places.{Among};
+ghost use Rattle.character.specs.Among.{withPull};
 
 // What `tick` answers.
 pub enum Ticked {
@@ -52,6 +53,12 @@ pub struct AfterTick {
     pub me: Character,
     pub pull: HookPull,
     pub grounded: bool,
+}
+
+// What a tick leaves of its own character, with whether it stood on the ground: all but whom its hook pulls.
+pub enum OwnTick {
+    TooFar,
+    To(Character, bool),
 }
 
 // What becomes of a hook.
@@ -86,7 +93,7 @@ impl Character {
     }
 
     // The same for a map that is one and an id that has a slot.
-    pub fn tick_at(
+    fn tick_at(
         self,
         id: usize,
         slots: [Slot; SEATS],
@@ -98,20 +105,46 @@ impl Character {
         requires { ⌜ T (isMap sides (now tiles)) × (id < seats) ⌝ }
         ensures { λ r. ⌜ r ≡ tickAt seats self id slots sides (now (tiles .entry)) input tuning ⌝ }
     {
+        let places = places_of(slots);
+        let present = places.present;
+        let xs = places.xs;
+        let ys = places.ys;
+        let own = self.tick_among(id, &present, &xs, &ys, sides, tiles, input, tuning);
+        let OwnTick::To(me, grounded) = own else {
+            return TickedAt::TooFar;
+        };
+        let hook = me.hook;
+        let held = held_seat(hook, id);
+        let other = slots[held];
+        let pull = other.pull_by(me, id, held, tuning);
+        TickedAt::To(AfterTick { me, pull, grounded })
+    }
+
+    // The same without whom its hook pulls: of the others it asks who is there and where.
+    pub fn tick_among(
+        self,
+        id: usize,
+        present: &[bool; SEATS],
+        xs: &[f32; SEATS],
+        ys: &[f32; SEATS],
+        sides: Sides,
+        tiles: &[u8],
+        input: PlayerInput,
+        tuning: Tuning,
+    ) -> OwnTick
+        requires { ⌜ T (isMap sides (now tiles)) ⌝ }
+        ensures { λ r. ⌜ Among seats (now (present .entry)) (now (xs .entry)) (now (ys .entry)) (λ ss. withPull seats ss id tuning r ≡ tickAt seats self id ss sides (now (tiles .entry)) input tuning) ⌝ }
+    {
         let pos = self.pos;
         let on_ground = grounded(sides, tiles, pos);
         let steered = self.steer(on_ground, input, tuning);
         let fired = steered.hook;
-        let flight = caught(
-            fired.flown(pos, sides, tiles, tuning),
-            id,
-            slots,
-            tuning.player_hooking,
-        );
+        let way = fired.flown(pos, sides, tiles, tuning);
+        let flight = caught(way, id, present, xs, ys, tuning.player_hooking);
         let HookFlight::To(hook) = flight else {
-            return TickedAt::TooFar;
+            return OwnTick::TooFar;
         };
-        TickedAt::To(steered.hooked(on_ground, hook, id, slots, tuning))
+        steered.hooked(on_ground, hook, id, present, xs, ys, tuning)
     }
 
     // After the flight: the drag of an attached hook, the count of a held one, the others, and the clamp.
@@ -120,25 +153,22 @@ impl Character {
         grounded: bool,
         hook: Hook,
         id: usize,
-        slots: [Slot; SEATS],
+        present: &[bool; SEATS],
+        xs: &[f32; SEATS],
+        ys: &[f32; SEATS],
         tuning: Tuning,
-    ) -> AfterTick
-        ensures { λ r. ⌜ r ≡ hooked seats self grounded hook id slots tuning ⌝ }
+    ) -> OwnTick
+        ensures { λ r. ⌜ Among seats (now (present .entry)) (now (xs .entry)) (now (ys .entry)) (λ ss. withPull seats ss id tuning r ≡ TickedAt.To (hooked seats self grounded hook id ss tuning)) ⌝ }
     {
         let pos = self.pos;
         let direction = self.move_direction;
         let vel = hook.dragged(pos, self.vel, direction, tuning);
         let held = hook.hold();
-        let met = meet_all(slots, id, pos, vel, held, tuning);
+        let met = meet_all(present, xs, ys, id, pos, vel, held, tuning);
         let clamped = clamp_speed(met);
-        let pull = pull_of(slots, id, pos, held, tuning);
         self = self.with_hook(held);
         self.vel = clamped;
-        AfterTick {
-            me: self,
-            pull,
-            grounded,
-        }
+        OwnTick::To(self, grounded)
     }
 
     // Direction and angle, gravity and jump, the hook's button, walking and friction.
@@ -166,79 +196,4 @@ impl Character {
             move_direction: direction,
         }
     }
-}
-
-// Where players can be hooked, a hook that flew may grab somebody beside its way.
-fn caught(way: Way, id: usize, slots: [Slot; SEATS], player_hooking: f32) -> HookFlight
-    ensures { λ r. ⌜ r ≡ caught seats way id slots «player_hooking» ⌝ }
-{
-    match way {
-        Way::TooFar => HookFlight::TooFar,
-        Way::Still(hook) => HookFlight::To(hook),
-        Way::Along(from, to, hook) => {
-            if player_hooking != 0.0 {
-                return HookFlight::To(hook.grab(nearest(slots, id, from, to)));
-            }
-            HookFlight::To(hook)
-        },
-    }
-}
-
-// Whom a hook meets first on its way.
-fn nearest(slots: [Slot; SEATS], id: usize, from: vec2, to: vec2) -> Nearest
-    ensures { λ r. ⌜ r ≡ nearest seats slots id from to ⌝ }
-{
-    let mut best = Nearest::Nobody;
-    for j in 0..SEATS {
-        if j != id {
-            let slot = slots[j];
-            if slot.present {
-                let cid = j as u32;
-                best = nearer(best, CharacterId(cid), slot.character.pos, from, to);
-            }
-        }
-    }
-    best
-}
-
-// The own velocity after the others, by rising id.
-fn meet_all(
-    slots: [Slot; SEATS],
-    id: usize,
-    pos: vec2,
-    mut vel: vec2,
-    hook: Hook,
-    tuning: Tuning,
-) -> vec2
-    ensures { λ r. ⌜ r ≡ meetAll seats slots id pos vel hook tuning ⌝ }
-{
-    for j in 0..SEATS {
-        if j != id {
-            let slot = slots[j];
-            if slot.present {
-                let cid = j as u32;
-                vel = meet(pos, vel, hook, slot.character.pos, CharacterId(cid), tuning);
-            }
-        }
-    }
-    vel
-}
-
-// Whom the hook pulls, and the velocity that it leaves them.
-fn pull_of(slots: [Slot; SEATS], id: usize, pos: vec2, hook: Hook, tuning: Tuning) -> HookPull
-    ensures { λ r. ⌜ r ≡ pullOf seats slots id pos hook tuning ⌝ }
-{
-    let Hook::Grabbed(cid, _) = hook else {
-        return HookPull::Nobody;
-    };
-    let at = cid.0 as usize;
-    if at < SEATS {
-        if at != id {
-            let slot = slots[at];
-            if slot.present {
-                return pull_on(pos, cid, slot.character.pos, slot.character.vel, tuning);
-            }
-        }
-    }
-    HookPull::Nobody
 }

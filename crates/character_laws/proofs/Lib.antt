@@ -6,6 +6,7 @@ pub mod Slots
 pub mod Choices
 pub mod Alone
 pub mod Others
+pub mod Places
 pub mod Held
 pub mod Moved
 pub mod FitsTick

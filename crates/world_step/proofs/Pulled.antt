@@ -1,38 +1,35 @@
--- A pull that is written at one seat, the own one where nobody is pulled: the slots are those after the pull. Assumes nothing.
-use mathlib.Core.Bool.{Bool, true, false}
+-- A pull that is written at the seat that a hook holds: the slots are those after the pull. Assumes nothing.
+use mathlib.Core.Bool.{Bool}
 use mathlib.Core.List.{List}
-use mathlib.Core.Path.{_≡_, refl, sym, _∙_}
-use Prim.Native.Nat.{ℕ, _<_}
-use native.Mathlib.Omega.{arith}
-use lib.Dec.{ltb}
-use lib.ListN.{length, set}
-use lib.Seq.{set-out, set-getD}
-use borrow.Author.Tests.{ltb-true, ltb-false, eq-eqb, ne-eqb}
+use mathlib.Core.Path.{_≡_, refl}
+use Prim.Native.Nat.{ℕ}
+use lib.Dec.{eqb}
+use lib.ListN.{set}
+use lib.Seq.{set-getD}
+use borrow.Author.Tests.{eq-eqb}
+use Rattle.num_vec2.specs.Vec2.{vdistance}
+use Rattle.num_vec2.specs.declared.vec2.{vec2}
+use Rattle.game_tuning.specs.declared.Tuning.{Tuning}
+use Rattle.character_hook.specs.Hook.{idOf}
+use Rattle.character_motion.specs.Meeting.{drags, pullOn, pulled}
 use Rattle.character_motion.specs.declared.meeting.HookPull.{HookPull}
 use Rattle.character_motion.specs.declared.meeting.HookPull.the-variants.{Nobody, Of}
-use Rattle.character.specs.Slot.{withCharacter}
-use Rattle.character.specs.Character.{withVel}
-use Rattle.character.specs.Tick.{nowhere, slotAt, afterPull, pulledSeat, pulledSlot}
+use Rattle.character.specs.Among.{pullAt}
+use Rattle.character.specs.Tick.{nowhere, slotAt, afterPull, pulledSlot}
 use Rattle.character.specs.declared.Slot.{Slot}
+use Rattle.character_laws.proofs.Choices.{either}
 
-module _ (n own : ℕ) (h : own < n) where
-  -- it is a seat
-  pub pulled-below : (k : HookPull) → pulledSeat n k own < n
-  unfolding pulledSeat
-  pulled-below Nobody = h
-  pulled-below (Of cid v) = go (ltb (cid .0) n) refl
-    where
-      go : (b : Bool) → ltb (cid .0) n ≡ b → pulledSeat n (Of cid v) own < n
-      go true e = rw e (ltb-true (cid .0) n e)
-      go false e = rw e h
+module _ (ss : List Slot) (held : ℕ) where
+  -- written there, a pull leaves the slots after it
+  abbrev Written : HookPull → Type 0
+  Written k = set ss held (pulledSlot (slotAt ss held) k held) ≡ afterPull ss k
 
-  pub pulled-there : (ss : List Slot) (k : HookPull) → length ss ≡ n → set ss (pulledSeat n k own) (pulledSlot (slotAt ss (pulledSeat n k own)) k (pulledSeat n k own)) ≡ afterPull ss k
-  unfolding pulledSeat pulledSlot afterPull
-  pulled-there ss Nobody e = set-getD ss own nowhere
-  pulled-there ss (Of cid v) e = go (ltb (cid .0) n) refl
+  pub pulled-there : (p : vec2) (own : ℕ) (present : Bool) (q u : vec2) (t : Tuning) → Written (pullAt p own held present q u t)
+  unfolding pullAt pullOn pulledSlot afterPull
+  pulled-there p own present q u t = either Written (eqb held own) nobody (either Written present (either Written (drags (vdistance p q) t) one nobody) nobody)
     where
-      go : (b : Bool) → ltb (cid .0) n ≡ b → set ss (pulledSeat n (Of cid v) own) (pulledSlot (slotAt ss (pulledSeat n (Of cid v) own)) (Of cid v) (pulledSeat n (Of cid v) own)) ≡ afterPull ss (Of cid v)
-      go true q = simp (q, eq-eqb (cid .0) (cid .0) refl)
-      go false q =
-          let above = ltb-false (cid .0) n q in
-          simp (q, ne-eqb (cid .0) own (λ (z : cid .0 ≡ own). omega (arith, h, above, z))) (set-getD ss own nowhere ∙ sym (set-out ss (cid .0) (withCharacter (slotAt ss (cid .0)) (withVel (slotAt ss (cid .0) .character) v)) (omega (arith, e, above))))
+      nobody : Written Nobody
+      nobody = set-getD ss held nowhere
+
+      one : Written (Of (idOf held) (pulled p q u (vdistance p q) t))
+      one = rw (eq-eqb held held refl)

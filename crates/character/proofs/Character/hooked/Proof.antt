@@ -16,15 +16,12 @@ meet-all-requires c κs = search needs
 clamp-speed-requires : tie.Need-clamp-speed-requires
 clamp-speed-requires c κs = search needs
 
-pull-of-requires : tie.Need-pull-of-requires
-pull-of-requires c κs = search needs
-
 with-hook-requires : tie.Need-with-hook-requires
 with-hook-requires c κs = search needs
 
 returns : tie.Need-returns
 unfolding hooked
-returns c = simp (← c .before .before .before .before .before .dragged .ensures, ← c .before .before .before .before .hold .ensures, ← c .before .before .before .meet-all .ensures, c .with-hook .ensures, ← c .before .before .clamp-speed .ensures, ← c .before .pull-of .ensures)
+returns c = λ ss places. simp (← c .before .before .before .before .dragged .ensures, ← c .before .before .before .hold .ensures, ← c .before .before .meet-all .ensures ss places, c .with-hook .ensures, ← c .before .clamp-speed .ensures)
 
 pub hooked-spec : {M : Type 1} → statement M
 hooked-spec =
@@ -34,6 +31,5 @@ hooked-spec =
     hold-requires
     meet-all-requires
     clamp-speed-requires
-    pull-of-requires
     with-hook-requires
     returns)
