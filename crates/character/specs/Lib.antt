@@ -4,4 +4,5 @@ pub mod Tick
 pub mod Places
 pub mod Among
 pub mod Walk
+pub mod Near
 pub mod Records

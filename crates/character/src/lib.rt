@@ -1,6 +1,7 @@
 // A character, and its tick and move among the others.
 mod among;
 mod from_record;
+mod near;
 mod places;
 mod pulls;
 mod records;

@@ -2,6 +2,9 @@
 use crate::Character;
 use crate::SEATS;
 use crate::Slot;
+use crate::near::Near;
+use crate::near::gather;
+use crate::places::places_of;
 use character_hook::CharacterId;
 use character_motion::player_turns;
 use character_motion::ramped_move;
@@ -17,10 +20,12 @@ use map_walks::MOST_TURNS;
 use num_vec2::vec2;
 ghost use mathlib.Core.Path.{_≡_};
 ghost use lib.Dec.{T};
-ghost use Prim.Native.Nat.{_≤_, _<_};
+ghost use Prim.Native.Nat.{_≤_};
 ghost use Rattle.map_tiles.specs.Map.{isMap};
 ghost use Rattle.character.specs.Tick.{seats};
-ghost use Rattle.character.specs.Walk.{isClose, walkAmong, playerWalk, moveAt, move};
+ghost use Rattle.character.specs.Walk.{playerWalk, moveAt, move};
+ghost use Rattle.character.specs.Places.{Among};
+ghost use Rattle.character.specs.Near.{walkNear};
 
 // What `move_` answers.
 pub enum Moved {
@@ -56,7 +61,12 @@ impl Character {
         if is_map(sides, tiles) {
             let at = id.0 as usize;
             if at < SEATS {
-                return match self.move_at(at, slots, sides, tiles, tuning_of(tunings)) {
+                let places = places_of(slots);
+                let present = places.present;
+                let xs = places.xs;
+                let ys = places.ys;
+                let tuning = tuning_of(tunings);
+                return match self.move_among(at, &present, &xs, &ys, sides, tiles, tuning) {
                     MovedAt::TooFar => Moved::TooFar,
                     MovedAt::To(me) => Moved::To(me),
                 };
@@ -66,17 +76,19 @@ impl Character {
         Moved::BadMap
     }
 
-    // The same for a map that is one and an id that has a slot.
-    pub fn move_at(
+    // The same for a map that is one: of the others it asks who is there and where.
+    pub fn move_among(
         mut self,
         id: usize,
-        slots: [Slot; SEATS],
+        present: &[bool; SEATS],
+        xs: &[f32; SEATS],
+        ys: &[f32; SEATS],
         sides: Sides,
         tiles: &[u8],
         tuning: Tuning,
     ) -> MovedAt
-        requires { ⌜ T (isMap sides (now tiles)) × (id < seats) ⌝ }
-        ensures { λ r. ⌜ r ≡ moveAt seats self id slots sides (now (tiles .entry)) tuning ⌝ }
+        requires { ⌜ T (isMap sides (now tiles)) ⌝ }
+        ensures { λ r. ⌜ Among seats (now (present .entry)) (now (xs .entry)) (now (ys .entry)) (λ ss. r ≡ moveAt seats self id ss sides (now (tiles .entry)) tuning) ⌝ }
     {
         let from = self.pos;
         let moved = ramped_move(sides, tiles, from, self.vel, tuning);
@@ -85,7 +97,8 @@ impl Character {
         };
         let new_pos = body.pos;
         let new_vel = body.vel;
-        let walked = player_walk(slots, id, from, new_pos, tuning.player_collision);
+        let collision = tuning.player_collision;
+        let walked = player_walk(present, xs, ys, id, from, new_pos, collision);
         let PlayerWalk::At(rest) = walked else {
             return MovedAt::TooFar;
         };
@@ -95,64 +108,54 @@ impl Character {
     }
 }
 
-// The way from one point to another; where players collide, up to the first turn in which somebody is close.
+// The way from one point to another; where players collide, up to the first turn in which somebody is close. Where nobody may be touched there is no
+// walk, but it is too far all the same.
 fn player_walk(
-    slots: [Slot; SEATS],
+    present: &[bool; SEATS],
+    xs: &[f32; SEATS],
+    ys: &[f32; SEATS],
     id: usize,
     from: vec2,
     to: vec2,
     player_collision: f32,
 ) -> PlayerWalk
-    ensures { λ r. ⌜ r ≡ playerWalk seats slots id from to «player_collision» ⌝ }
+    ensures { λ r. ⌜ Among seats (now (present .entry)) (now (xs .entry)) (now (ys .entry)) (λ ss. r ≡ playerWalk seats ss id from to «player_collision») ⌝ }
 {
     if player_collision != 0.0 {
         let distance = vec2::distance(from, to);
         let turns = player_turns(distance);
+        let end = from.add(to.sub(from));
+        let near = gather(present, xs, ys, id, from, end);
         if turns > MOST_TURNS {
             return PlayerWalk::TooFar;
         }
-        return PlayerWalk::At(walk_among(slots, id, from, to, distance, turns as u32));
+        if near.count == 0 {
+            return PlayerWalk::At(to);
+        }
+        return PlayerWalk::At(walk_near(near, from, to, distance, turns as u32));
     }
     PlayerWalk::At(to)
 }
 
-fn walk_among(
-    slots: [Slot; SEATS],
-    id: usize,
-    from: vec2,
-    to: vec2,
-    distance: f32,
-    turns: u32,
-) -> vec2
-    requires { ⌜ turns ≤ 65536 ⌝ }
-    ensures { λ r. ⌜ r ≡ walkAmong seats slots id from to distance turns ⌝ }
+fn walk_near(near: Near, from: vec2, to: vec2, distance: f32, turns: u32) -> vec2
+    requires { ⌜ (turns ≤ 65536) × (near .count ≤ seats) ⌝ }
+    ensures { λ r. ⌜ r ≡ walkNear (near .count) (near .at) from to distance turns ⌝ }
 {
+    let count = near.count;
+    let at = near.at;
     let mut last = from;
     let mut rest = to;
     'walk: for i in 0..turns {
         let fraction = i as f32 / distance;
         let p = vec2::mix(from, to, fraction);
-        for j in 0..SEATS {
-            let slot = slots[j];
-            if is_close(slot, id, j, p) {
-                rest = rest_at(fraction, last, from, to, p, slot.character.pos);
+        for k in 0..count {
+            let q = at[k];
+            if touches(p, q) {
+                rest = rest_at(fraction, last, from, to, p, q);
                 break 'walk;
             }
         }
         last = p;
     }
     rest
-}
-
-// Whether somebody else is there, and close to p.
-fn is_close(slot: Slot, id: usize, j: usize, p: vec2) -> bool
-    ensures { λ r. ⌜ r ≡ isClose slot id j p ⌝ }
-{
-    if j == id {
-        return false;
-    }
-    if slot.present {
-        return touches(p, slot.character.pos);
-    }
-    false
 }

@@ -4,6 +4,7 @@ use character::MovedAt;
 use character::Net;
 use character::SEATS;
 use character::Slot;
+use character::places_of;
 use game_records::CharacterCore;
 use game_records::Tick;
 use game_refusals::TICK_TOO_LARGE;
@@ -14,6 +15,7 @@ use world::Published;
 use world::Recorded;
 ghost use mathlib.Core.Path.{_≡_};
 ghost use lib.Dec.{T};
+ghost use Rattle.base_turns.specs.Turns.{stop};
 ghost use Rattle.map_tiles.specs.Map.{isMap};
 ghost use Rattle.character.specs.Tick.{seats};
 ghost use Rattle.world.specs.Step.{unpublished, ofNet, recordOf, movingFrom, moveAll};
@@ -52,29 +54,30 @@ pub fn unpublished() -> Published
     }
 }
 
-// By rising id each moves and is quantized.
+// By rising id each moves and is quantized; where it is then is noted for those who move after it.
 pub fn move_all(slots: [Slot; SEATS], sides: Sides, tiles: &[u8], tuning: Tuning) -> Moves
     requires { ⌜ T (isMap sides (now tiles)) ⌝ }
     ensures { λ r. ⌜ r ≡ movesOf (movingFrom seats slots) (moveAll seats slots sides (now (tiles .entry)) tuning) ⌝ }
 {
-    let none = [unpublished(); SEATS];
+    let places = places_of(slots);
+    let present = places.present;
+    let mut xs = places.xs;
+    let mut ys = places.ys;
     let mut all = slots;
-    let mut records = none;
+    let mut records = [unpublished(); SEATS];
     for j in 0..SEATS {
         let slot = all[j];
         if slot.present {
             let me = slot.character;
-            match record_of(me.move_at(j, all, sides, tiles, tuning)) {
+            match record_of(me.move_among(j, &present, &xs, &ys, sides, tiles, tuning)) {
                 Recorded::Refused(number) => {
-                    return Moves {
-                        done: false,
-                        number,
-                        slots,
-                        records: none,
-                    };
+                    return refused(slots, number);
                 }
                 Recorded::Core(core) => {
-                    all[j] = slot.with_character(Character::from_net(core));
+                    let left = Character::from_net(core);
+                    xs[j] = left.pos.x;
+                    ys[j] = left.pos.y;
+                    all[j] = slot.with_character(left);
                     let record = Published {
                         present: true,
                         core,
@@ -89,6 +92,17 @@ pub fn move_all(slots: [Slot; SEATS], sides: Sides, tiles: &[u8], tuning: Tuning
         number: 0,
         slots: all,
         records,
+    }
+}
+
+fn refused(slots: [Slot; SEATS], number: u32) -> Moves
+    ensures { λ r. ⌜ r ≡ movesOf (movingFrom seats slots) (stop number) ⌝ }
+{
+    Moves {
+        done: false,
+        number,
+        slots,
+        records: [unpublished(); SEATS],
     }
 }
 

@@ -13,11 +13,14 @@ is-map-requires c κs = search needs
 cast-at : tie.Need-cast-at
 cast-at c = search needs
 
+places-of-requires : tie.Need-places-of-requires
+places-of-requires c κs = search needs
+
 tuning-of-requires : tie.Need-tuning-of-requires
 tuning-of-requires c κs = search needs
 
-move-at-requires : tie.Need-move-at-requires
-move-at-requires c κs = (subst T (sym (c .before .before .before .if1 .taken) ∙ c .before .before .before .before .is-map .ensures) tt, c .before .if2 .taken)
+move-among-requires : tie.Need-move-among-requires
+move-among-requires c κs = subst T (sym (c .before .before .before .before .before .before .before .before .before .before .if1 .taken) ∙ c .before .before .before .before .before .before .before .before .before .before .before .is-map .ensures) tt
 
 enum-told : tie.Need-enum-told
 enum-told c = search needs
@@ -27,11 +30,11 @@ enum-known-me c = search needs
 
 returns : tie.Need-returns
 unfolding move
-returns c = simp (← c .before .before .before .before .before .before .before .is-map .ensures, c .before .before .before .before .before .before .if1 .taken, lt-ltb _ _ (c .before .before .before .before .if2 .taken), ← c .before .before .before .tuning-of .ensures, ← c .before .before .move-at .ensures, c .enum-told .given .1)
+returns c = let e = c .before .before .move-among .ensures (c .before .before .before .before .before .before .before .before .before .before .before .before .before .before .before .before .args .slots) (c .before .before .before .before .before .before .before .before .before .before .places-of .ensures) in simp (← c .before .before .before .before .before .before .before .before .before .before .before .before .before .before .is-map .ensures, c .before .before .before .before .before .before .before .before .before .before .before .before .before .if1 .taken, lt-ltb _ _ (c .before .before .before .before .before .before .before .before .before .before .before .if2 .taken), ← c .before .before .before .before .before .before .tuning-of .ensures, ← e, c .enum-told .given .1)
 
 returns-2 : tie.Need-returns-2
 unfolding move
-returns-2 c = simp (← c .before .before .before .before .before .before .before .before .is-map .ensures, c .before .before .before .before .before .before .before .if1 .taken, lt-ltb _ _ (c .before .before .before .before .before .if2 .taken), ← c .before .before .before .before .tuning-of .ensures, ← c .before .before .before .move-at .ensures, c .before .me .given .1)
+returns-2 c = let e = c .before .before .before .move-among .ensures (c .before .before .before .before .before .before .before .before .before .before .before .before .before .before .before .before .before .args .slots) (c .before .before .before .before .before .before .before .before .before .before .before .places-of .ensures) in simp (← c .before .before .before .before .before .before .before .before .before .before .before .before .before .before .before .is-map .ensures, c .before .before .before .before .before .before .before .before .before .before .before .before .before .before .if1 .taken, lt-ltb _ _ (c .before .before .before .before .before .before .before .before .before .before .before .before .if2 .taken), ← c .before .before .before .before .before .before .before .tuning-of .ensures, ← e, c .before .me .given .1)
 
 returns-3 : tie.Need-returns-3
 unfolding move
@@ -47,8 +50,9 @@ move--spec =
     (tie.spec
     is-map-requires
     cast-at
+    places-of-requires
     tuning-of-requires
-    move-at-requires
+    move-among-requires
     enum-told
     enum-known-me
     returns

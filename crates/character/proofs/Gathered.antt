@@ -1,0 +1,123 @@
+-- Those who are gathered answer for all: whoever is left out is close at no turn of the player walk. Assumes nothing.
+use mathlib.Core.Path.{_≡_, refl, sym, ap, _∙_, subst}
+use mathlib.Core.Logic.{inl, inr}
+use mathlib.Core.Bool.{Bool, true, false, cond, true≢false}
+use mathlib.Core.List.{List}
+use Prim.Native.Nat.{ℕ, zero, suc, _+_, _≤_, _<_}
+use native.Mathlib.Numerals.{add-one}
+use native.Mathlib.Omega.{arith}
+use lib.Dec.{T}
+use lib.IntN.{pos}
+use lib.ListN.{length, set}
+use lib.Seq.{getD-set-same, getD-set-other}
+use lib.Ieee.{Float, nan, binary32, neg, sub, div, le}
+use Rattle.base_turns.specs.Turns.{Turn, more, stop, next, run}
+use Rattle.base_turns.proofs.Last.{run-last}
+use Rattle.game_constants.specs.Constants.{characterSize}
+use Rattle.num_convert.specs.Convert.{i32ToF32}
+use Rattle.num_vec2.specs.Vec2.{vnew, vdistance, vmix}
+use Rattle.num_vec2.specs.declared.vec2.{vec2}
+use Rattle.character_motion.specs.Touching.{touches}
+use Rattle.character_motion.specs.Walking.{playerTurns, restAt}
+use Rattle.character_motion.proofs.Apart.{Aside}
+use Rattle.character_motion.proofs.Mixed.{Away, part}
+use Rattle.character_motion.proofs.Mixed as mixed
+use Rattle.character.specs.declared.Slot.{Slot}
+use Rattle.character.specs.Tick.{slotAt}
+use Rattle.character.specs.Walk.{isClose, slotTurn, walkTurn, orTo, walkAmong}
+use Rattle.character.specs.Near.{isAside, mayTouch, nearTurn, nearWalkTurn, walkNear, Asked}
+
+-- ---- the test
+aside : (a b q : Float) → isAside a b q ≡ true → Aside a b q
+unfolding isAside
+aside a b q h = go (le characterSize (sub binary32 q a)) (le (sub binary32 q a) (neg characterSize)) refl refl h
+  where
+    go : (s t : Bool) → le characterSize (sub binary32 q a) ≡ s → le (sub binary32 q a) (neg characterSize) ≡ t → cond s (le characterSize (sub binary32 q b)) (cond t (le (sub binary32 q b) (neg characterSize)) false) ≡ true → Aside a b q
+    go true t d e k = inl (subst T (sym d) tt, subst T (sym k) tt)
+    go false true d e k = inr (subst T (sym e) tt, subst T (sym k) tt)
+    go false false d e k = absurd (true≢false (sym k))
+
+pub left-out : (from to q : vec2) → mayTouch from (mixed.end from to) q ≡ false → Away from to q
+unfolding mayTouch
+left-out from to q h = go (isAside (from .x) (mixed.end from to .x) (q .x)) (isAside (from .y) (mixed.end from to .y) (q .y)) refl refl h
+  where
+    go : (a b : Bool) → isAside (from .x) (mixed.end from to .x) (q .x) ≡ a → isAside (from .y) (mixed.end from to .y) (q .y) ≡ b → cond a false (cond b false true) ≡ false → Away from to q
+    go true b d e k = inl (aside _ _ _ d)
+    go false true d e k = inr (aside _ _ _ e)
+    go false false d e k = absurd (true≢false k)
+
+-- ---- a walk whose turns are another's
+module _ {R : Type 0} where
+  -- a turn that goes on changes nothing
+  goes-on : (f : ℕ → Unit {0} → Turn (Unit {0}) R) (j : ℕ) → f j tt ≡ more tt → (t : Turn (Unit {0}) R) → next (f j) t ≡ t
+  goes-on f j h (more u) = h
+  goes-on f j h (stop r) = refl
+
+  next-same : (f g : Unit {0} → Turn (Unit {0}) R) → f tt ≡ g tt → (t : Turn (Unit {0}) R) → next f t ≡ next g t
+  next-same f g h (more u) = h
+  next-same f g h (stop r) = refl
+
+  last-turn : (f : ℕ → Unit {0} → Turn (Unit {0}) R) (j : ℕ) → run f (j + 1) 0 tt ≡ next (f j) (run f j 0 tt)
+  last-turn f j = ap (λ (n : ℕ). run f n 0 tt) (add-one j) ∙ run-last f j 0 tt ∙ ap (λ (n : ℕ). next (f n) (run f j 0 tt)) (omega arith)
+
+next-alike : {S R : Type 0} (f g : S → Turn S R) → ((u : S) → f u ≡ g u) → (t : Turn S R) → next f t ≡ next g t
+next-alike f g h (more u) = h u
+next-alike f g h (stop r) = refl
+
+-- up to the index k
+run-same : {S R : Type 0} (f g : ℕ → S → Turn S R) (k : ℕ) → ((i : ℕ) (s : S) → i < k → f i s ≡ g i s) → (n i : ℕ) (s : S) → n + i ≤ k → run f n i s ≡ run g n i s
+unfolding run
+run-same f g k h zero i s l = refl
+run-same f g k h (suc n) i s l = ap (next (run f n (suc i))) (h i s (omega arith)) ∙ next-alike (run f n (suc i)) (run g n (suc i)) (λ u. run-same f g k h n (suc i) u (omega arith)) (g i s)
+
+-- ---- the places that are asked, slot by slot
+module _ (ss : List Slot) (id : ℕ) (from end : vec2) where
+  pub asked-none : (qs : List vec2) → Asked ss id from end 0 0 qs
+  unfolding run
+  asked-none qs = record { same = λ to z i last l. refl }
+
+  -- the slot j is close at no turn
+  pub asked-past : (j m : ℕ) (qs : List vec2) → ((to : vec2) → end ≡ mixed.end from to → (i : ℕ) → i < playerTurns (vdistance from to) → isClose (slotAt ss j) id j (vmix from to (part from to i)) ≡ false) → Asked ss id from end j m qs → Asked ss id from end (j + 1) m qs
+  asked-past j m qs h k = record {
+    same = λ to z i last l.
+        let f = part from to i in
+        let p = vmix from to f in
+        let s = slotTurn ss id from to last f p in
+        last-turn s j
+        ∙ goes-on s j (ap (λ (b : Bool). cond b (stop (restAt f last from to p (slotAt ss j .character .pos))) (more tt)) (h to z i l)) (run s j 0 tt)
+        ∙ k .same to z i last l;
+  }
+
+  -- or its place is one more to ask
+  pub asked-more : (j m : ℕ) (qs : List vec2) → m < length qs → ((p : vec2) → isClose (slotAt ss j) id j p ≡ touches p (slotAt ss j .character .pos)) → Asked ss id from end j m qs → Asked ss id from end (j + 1) (m + 1) (set qs m (slotAt ss j .character .pos))
+  asked-more j m qs w h k = record {
+    same = λ to z i last l.
+        let f = part from to i in
+        let p = vmix from to f in
+        let q = slotAt ss j .character .pos in
+        let s = slotTurn ss id from to last f p in
+        let old = nearTurn qs from to last f p in
+        let new = nearTurn (set qs m q) from to last f p in
+        let one : vec2 → Turn (Unit {0}) vec2 = λ c. cond (touches p c) (stop (restAt f last from to p c)) (more tt) in
+        last-turn s j
+        ∙ ap (next (s j)) (k .same to z i last l ∙ run-same old new m (λ n u y. ap one (sym (getD-set-other qs m n q (vnew nan nan) (λ e. omega arith)))) m 0 tt (omega arith))
+        ∙ next-same (s j) (new m) (ap (λ (b : Bool). cond b (stop (restAt f last from to p q)) (more tt)) (h p) ∙ ap one (sym (getD-set-same qs m q (vnew nan nan) w))) (run new m 0 tt)
+        ∙ sym (last-turn new m);
+  }
+
+-- ---- the walk
+pub walk-gathered : (n : ℕ) (ss : List Slot) (id : ℕ) (from to : vec2) (m : ℕ) (qs : List vec2) → Asked ss id from (mixed.end from to) n m qs → walkAmong n ss id from to (vdistance from to) (playerTurns (vdistance from to)) ≡ walkNear m qs from to (vdistance from to) (playerTurns (vdistance from to))
+unfolding walkAmong walkNear
+walk-gathered n ss id from to m qs k =
+    let d = vdistance from to in
+    let t = playerTurns d in
+    ap (orTo to) (run-same (walkTurn n ss id from to d) (nearWalkTurn m qs from to d) t (λ i last l. ap (next (λ u. more (vmix from to (part from to i)))) (k .same to refl i last l)) t 0 from (omega arith))
+
+-- where nobody is asked it goes to its end
+pub walk-alone : (qs : List vec2) (from to : vec2) (d : Float) (turns : ℕ) → walkNear 0 qs from to d turns ≡ to
+unfolding walkNear run
+walk-alone qs from to d turns = go turns 0 from
+  where
+    go : (n i : ℕ) (last : vec2) → orTo to (run (nearWalkTurn 0 qs from to d) n i last) ≡ to
+    go zero i last = refl
+    go (suc n) i last = go n (suc i) (vmix from to (div binary32 (i32ToF32 (pos i)) d))

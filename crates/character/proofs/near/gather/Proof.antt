@@ -1,0 +1,158 @@
+-- `character::near::gather` meets its contract. Assumes nothing.
+use mathlib.Core.Bool.{Bool, true, false, cond, true≢false}
+use mathlib.Core.List.{List}
+use mathlib.Core.Logic.{_⊎_, inl, inr, ⊎-elim}
+use mathlib.Core.Path.{_≡_, refl, sym, ap, _∙_, subst}
+use Prim.Native.Nat.{ℕ, _+_, _-_, _≤_, _<_}
+use native.Mathlib.Omega.{arith}
+use lib.Dec.{T, eqb}
+use lib.Ieee.{Float}
+use lib.ListN.{length, getD, set, length-set}
+use borrow.Author.Needs.{needs}
+use borrow.Author.Tests.{ne-eqb, eqb-false}
+use Rattle.num_order.proofs.Vectors.{FitsPair}
+use Rattle.num_vec2.specs.Vec2.{vdistance, vmix}
+use Rattle.num_vec2.specs.declared.vec2.{vec2}
+use Rattle.character_motion.proofs.Mixed.{part, untouched}
+use Rattle.character_motion.proofs.Mixed as mixed
+use Rattle.character_motion.specs.Touching.{touches}
+use Rattle.character_motion.specs.Walking.{playerTurns}
+use Rattle.character.specs.Near.{mayTouch, Asked}
+use Rattle.character.specs.Places.{placeAt, PlacesOf, Among}
+use Rattle.character.specs.Tick.{seats, slotAt}
+use Rattle.character.specs.Walk.{isClose}
+use Rattle.character.specs.declared.Slot.{Slot}
+use Rattle.character.proofs.Gathered.{left-out, asked-none, asked-past, asked-more}
+use Rattle.character.proofs.near.gather.Statement.{statement}
+use Rattle.character.proofs.near.gather.Tie as tie
+
+-- what holds after j seats
+abbrev Kept : List Bool → List Float → List Float → ℕ → vec2 → vec2 → ℕ → ℕ → List vec2 → Type 0
+Kept ps xs ys id from end j m qs = (m ≤ j) × (j ≤ seats) × (length qs ≡ seats) × Among seats ps xs ys (λ ss. Asked ss id from end j m qs)
+
+-- a turn, on plain values: somebody is taken in, or left out
+module _ (ps : List Bool) (xs ys : List Float) (id : ℕ) (from end : vec2) (j m : ℕ) (qs : List vec2) (l : j < seats) (q : vec2) (at : q ≡ placeAt xs ys j) (k : Kept ps xs ys id from end j m qs) (us : List vec2) (n : ℕ) where
+  close : (j ≡ id → ⊥) → (s : Slot) → s .present ≡ true → (p : vec2) → isClose s id j p ≡ touches p (s .character .pos)
+  unfolding isClose
+  close o s here p = simp (ne-eqb j id o, here)
+
+  taken : getD ps j false ≡ true → (j ≡ id → ⊥) → us ≡ set qs m q → n ≡ m + 1 → Kept ps xs ys id from end (j + 1) n us
+  taken b o e f = rw (e, f) (omega arith, omega arith, simp length-set (k .2), λ ss places. more ss places)
+    where
+      more : (ss : List Slot) → PlacesOf seats ss ps xs ys → Asked ss id from end (j + 1) (m + 1) (set qs m q)
+      more ss places =
+          let here : slotAt ss j .present ≡ true = sym (places j l .there) ∙ b in
+          let stands : q ≡ slotAt ss j .character .pos = at ∙ places j l .stands here in
+          rw stands (asked-more ss id from end j m qs (omega arith) (close o (slotAt ss j) here) (k .3 ss places))
+
+  -- its own place, nobody there, or on one side of the way
+  abbrev Reason : Type 0
+  Reason = (j ≡ id) ⊎ ((getD ps j false ≡ false) ⊎ (mayTouch from end q ≡ false))
+
+  module _ (fit : FitsPair from) (why : Reason) where
+    module _ (ss : List Slot) (places : PlacesOf seats ss ps xs ys) (to : vec2) (z : end ≡ mixed.end from to) (i : ℕ) (h : i < playerTurns (vdistance from to)) where
+      far : (j ≡ id → ⊥) → slotAt ss j .present ≡ true → Reason → touches (vmix from to (part from to i)) (slotAt ss j .character .pos) ≡ false
+      far o here (inl own) = absurd (o own)
+      far o here (inr (inl gone)) = absurd (true≢false (sym here ∙ sym (places j l .there) ∙ gone))
+      far o here (inr (inr side)) = sym (untouched from to (slotAt ss j .character .pos) i h fit (left-out from to (slotAt ss j .character .pos) (rw (at ∙ places j l .stands here, z) at side)))
+
+      not-close : isClose (slotAt ss j) id j (vmix from to (part from to i)) ≡ false
+      unfolding isClose
+      not-close = go (eqb j id) (slotAt ss j .present) refl refl
+        where
+          go : (b c : Bool) → eqb j id ≡ b → slotAt ss j .present ≡ c → cond b false (cond c (touches (vmix from to (part from to i)) (slotAt ss j .character .pos)) false) ≡ false
+          go true c d e = refl
+          go false false d e = refl
+          go false true d e = far (eqb-false j id d) e why
+
+  passed : FitsPair from → Reason × (us ≡ qs) × (n ≡ m) → Kept ps xs ys id from end (j + 1) n us
+  passed fit (why, e, f) = rw (e, f) (omega arith, omega arith, k .2, λ ss places. asked-past ss id from end j m qs (not-close fit why ss places) (k .3 ss places))
+
+abbrev Inv-loop : tie.InvT-loop
+Inv-loop present xs ys id from end at₀ count₀ j₀ at count j = Kept present xs ys id from end j count at
+
+abbrev μ-loop : tie.MeasureT-loop
+μ-loop present xs ys id from end at₀ count₀ j₀ at count j = seats - j
+
+loop-holds : tie.Need-loop-holds Inv-loop μ-loop
+loop-holds c = (search needs, search needs, search needs, λ ss places. asked-none ss _ _ _ _)
+
+mul-new : tie.Need-mul-new Inv-loop μ-loop
+mul-new c = omega arith
+
+element-copy-out-new : tie.Need-element-copy-out-new Inv-loop μ-loop
+element-copy-out-new c = search needs
+
+mul-new-2 : tie.Need-mul-new-2 Inv-loop μ-loop
+mul-new-2 c = omega arith
+
+element-copy-out-new-2 : tie.Need-element-copy-out-new-2 Inv-loop μ-loop
+element-copy-out-new-2 c = search needs
+
+new-requires : tie.Need-new-requires Inv-loop μ-loop
+new-requires c κs = search needs
+
+may-touch-requires : tie.Need-may-touch-requires Inv-loop μ-loop
+may-touch-requires c κs = search needs
+
+element-copy-out-if2 : tie.Need-element-copy-out-if2 Inv-loop μ-loop
+element-copy-out-if2 c = search needs
+
+mul-at : tie.Need-mul-at Inv-loop μ-loop
+mul-at c = omega arith
+
+array-set-from-at : tie.Need-array-set-from-at Inv-loop μ-loop
+array-set-from-at c = omega arith
+
+add-count : tie.Need-add-count Inv-loop μ-loop
+add-count c = omega arith
+
+add-j : tie.Need-add-j Inv-loop μ-loop
+add-j c = omega arith
+
+loop-less : tie.Need-loop-less Inv-loop μ-loop
+loop-less c = omega arith
+
+loop-again : tie.Need-loop-again Inv-loop μ-loop
+loop-again c =
+    let h = c .before .before .before .before .before .loop-test .taken in
+    let l = c .before .before .before .before .before .before .loop in
+    let s = c .before .before .before .before .before .before .before in
+    let a = s .args in
+    let q = c .before .before .new in
+    let from = s .good .1 .1 .1 .1 .0 in
+    let fit : FitsPair (a .from) = (subst T (sym (from .1 .1 .0 .1)) tt, subst T (sym (from .1 .1 .1 .0 .1)) tt) in
+    let side = sym (c .before .may-touch .ensures) in
+    ⊎-elim
+    (λ w. taken (a .present .now) (a .xs .now) (a .ys .now) (a .id) (a .from) (a .end) (l .j) (l .count) (l .at) h (q .result) (q .ensures) (l .inv) (c .if1 .at) (c .if1 .count) (w .2 .taken) (w .3 .taken) (w .4) (w .5))
+    (λ w. passed (a .present .now) (a .xs .now) (a .ys .now) (a .id) (a .from) (a .end) (l .j) (l .count) (l .at) h (q .result) (q .ensures) (l .inv) (c .if1 .at) (c .if1 .count) fit
+    (⊎-elim (λ u. (inl (u .3 .left), u .4, u .5)) (⊎-elim (λ u. (inr (inl (u .2 .left)), u .3, u .4)) (λ u. (inr (inr (side ∙ u .0 .left)), u .1, u .2))) w))
+    (c .if1 .came)
+
+returns : tie.Need-returns Inv-loop μ-loop
+returns c =
+    let l = c .before .loop in
+    let a = c .before .before .args in
+    (omega arith, λ ss places. subst (λ (j : ℕ). Asked ss (a .id) (a .from) (a .end) j (l .count) (l .at)) (omega arith) (l .inv .3 ss places))
+
+pub gather-spec : {M : Type 1} → statement M
+gather-spec =
+    tie.close
+    (tie.spec
+    Inv-loop
+    μ-loop
+    loop-holds
+    mul-new
+    element-copy-out-new
+    mul-new-2
+    element-copy-out-new-2
+    new-requires
+    may-touch-requires
+    element-copy-out-if2
+    mul-at
+    array-set-from-at
+    add-count
+    add-j
+    loop-less
+    loop-again
+    returns)

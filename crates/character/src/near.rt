@@ -1,0 +1,70 @@
+// Whom a player walk may touch: the others but those who are a character's size or more to one side of the whole way.
+use crate::SEATS;
+use game_constants::CHARACTER_SIZE;
+use num_vec2::vec2;
+ghost use mathlib.Core.Path.{_≡_};
+ghost use Prim.Native.Nat.{_≤_};
+ghost use Rattle.character.specs.Tick.{seats};
+ghost use Rattle.character.specs.Places.{Among};
+ghost use Rattle.character.specs.Near.{isAside, mayTouch, Asked};
+
+// Where they are, by rising id; `count` of them.
+pub struct Near {
+    pub count: usize,
+    pub at: [vec2; SEATS],
+}
+
+// Most are on one side, which comparisons tell before anything else is asked.
+pub fn gather(
+    present: &[bool; SEATS],
+    xs: &[f32; SEATS],
+    ys: &[f32; SEATS],
+    id: usize,
+    from: vec2,
+    end: vec2,
+) -> Near
+    ensures { λ r. ⌜ (r .count ≤ seats) × Among seats (now (present .entry)) (now (xs .entry)) (now (ys .entry)) (λ ss. Asked ss id from end seats (r .count) (r .at)) ⌝ }
+{
+    let mut at = [from; SEATS];
+    let mut count: usize = 0;
+    for j in 0..SEATS {
+        let place = vec2::new(xs[j], ys[j]);
+        if may_touch(from, end, place) {
+            if present[j] {
+                if j != id {
+                    at[count] = place;
+                    count += 1;
+                }
+            }
+        }
+    }
+    Near { count, at }
+}
+
+// Whether q is on one side of the way in neither coordinate.
+fn may_touch(from: vec2, end: vec2, q: vec2) -> bool
+    ensures { λ r. ⌜ r ≡ mayTouch from end q ⌝ }
+{
+    if is_aside(from.x, end.x, q.x) {
+        return false;
+    }
+    if is_aside(from.y, end.y, q.y) {
+        return false;
+    }
+    true
+}
+
+// Whether a and b are both a character's size or more to the same side of q.
+fn is_aside(a: f32, b: f32, q: f32) -> bool
+    ensures { λ r. ⌜ r ≡ isAside a b q ⌝ }
+{
+    let first = q - a;
+    let last = q - b;
+    if CHARACTER_SIZE <= first {
+        return CHARACTER_SIZE <= last;
+    }
+    if first <= -CHARACTER_SIZE {
+        return last <= -CHARACTER_SIZE;
+    }
+    false
+}
