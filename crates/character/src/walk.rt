@@ -137,6 +137,7 @@ fn player_walk(
     PlayerWalk::At(to)
 }
 
+// Point by point, up to the first at which one of those who may be touched is close.
 fn walk_near(near: Near, from: vec2, to: vec2, distance: f32, turns: u32) -> vec2
     requires { ⌜ (turns ≤ 65536) × (near .count ≤ seats) ⌝ }
     ensures { λ r. ⌜ r ≡ walkNear (near .count) (near .at) from to distance turns ⌝ }

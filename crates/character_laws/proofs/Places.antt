@@ -5,7 +5,6 @@ use mathlib.Core.Path.{_≡_, sym, ap, _∙_, subst}
 use Prim.Native.Nat.{ℕ, _<_}
 use lib.Ieee.{Float}
 use lib.ListN.{getD, set}
-use Rattle.num_vec2.specs.declared.vec2.{vec2}
 use Rattle.game_records.specs.declared.PlayerInput.{PlayerInput}
 use Rattle.game_tuning.specs.declared.Tuning.{Tuning}
 use Rattle.map_tiles.specs.declared.tiles.Sides.{Sides}
@@ -14,7 +13,6 @@ use Rattle.character.specs.Places.{placeAt, Placed, PlacesOf}
 use Rattle.character.specs.Tick.{nowhere, slotAt, afterPull, tickAt, tickedSlot}
 use Rattle.character.specs.declared.Slot.{Slot}
 use Rattle.character.specs.declared.tick.AfterTick.{AfterTick}
-use Rattle.character.specs.declared.tick.TickedAt.{TickedAt}
 use Rattle.character.specs.declared.tick.TickedAt.the-variants.{To}
 use Rattle.character_laws.proofs.Others.{Then, tick-pos, pulled-others}
 use Rattle.character_laws.proofs.Slots.{set-every}
