@@ -1,7 +1,7 @@
--- Two that are 28 or more apart in a coordinate do not touch; and between two ends that are as far on one side all is as far. Assumes nothing.
+-- Two that are 28 or more apart in a coordinate have no distance below 28; and between two ends that are as far on one side all is as far. Assumes nothing.
 use mathlib.Core.Path.{_≡_, refl, sym, _∙_, subst}
 use mathlib.Core.Logic.{inl, inr, _⊎_, ⊎-elim}
-use mathlib.Core.Bool.{Bool, true, false, _&&_}
+use mathlib.Core.Bool.{Bool, true, false}
 use Prim.Native.Nat.{ℕ, _+_, _*_, _≤_, _<_}
 use native.Mathlib.Nat.{mul-pos, mul-le-mul}
 use native.Mathlib.Omega.{arith}
@@ -9,12 +9,10 @@ use lib.Dec.{T, lit<}
 use lib.Ieee.{Float, nan, inf, fin, binary32, up, down, neg, add, sub, mul, lt, le, ofBits, fits}
 use lib.Ieee.Fits.{down-pos, mul-fits}
 use Rattle.num_root.specs.Root.{root}
-use Rattle.num_convert.specs.Number.{c0}
 use Rattle.game_constants.specs.Constants.{characterSize}
-use Rattle.num_vec2.specs.Vec2.{vsub, vdot}
+use Rattle.num_vec2.specs.Vec2.{vsub, vdot, vdistance}
 use Rattle.num_vec2.specs.declared.vec2.{vec2}
-use Rattle.character_motion.specs.Touching.{touches}
-use Rattle.character_motion.proofs.Far.{square, c784, far, distance-is}
+use Rattle.character_motion.proofs.Far.{square, c784, far-28, distance-is}
 use Rattle.num_order.proofs.Signed.{gain, le→at-most, loss}
 use Rattle.num_order.proofs.Chain.{Between, Number, le-left, le-refl, le-right, le-trans, nan-or, nought}
 use Rattle.num_order.proofs.Places.{own-placed, placed-ordered}
@@ -60,10 +58,10 @@ wide-sum x y h a =
     let z = square-up binary32 y a in
     le-trans c784 u (add binary32 u v) k (grows binary32 u v (mul-fits binary32 x x) (above-number binary32 u v (le-trans nought c784 u nought-784 k) z) z)
 
--- ---- where a coordinate differs by as much, or by nan, two do not touch
-square-nan : (p q : vec2) → square p q ≡ nan → false ≡ touches p q
-unfolding touches lt root ofBits
-square-nan p q e = subst (λ (d : Float). false ≡ lt c0 d && lt d characterSize) (distance-is p q) (subst (λ (z : Float). false ≡ lt c0 (root binary32 z) && lt (root binary32 z) characterSize) (sym e) refl)
+-- ---- where a coordinate differs by as much, or by nan, the distance is not below 28
+square-nan : (p q : vec2) → square p q ≡ nan → lt (vdistance p q) characterSize ≡ false
+unfolding lt root
+square-nan p q e = subst (λ (d : Float). lt d characterSize ≡ false) (distance-is p q) (subst (λ (z : Float). lt (root binary32 z) characterSize ≡ false) (sym e) refl)
 
 module _ (p q : vec2) where
   -- the differences of the coordinates
@@ -77,19 +75,19 @@ module _ (p q : vec2) where
   unfolding vdot vsub
   squares-are = refl
 
-  nan-x : dx ≡ nan → false ≡ touches p q
+  nan-x : dx ≡ nan → lt (vdistance p q) characterSize ≡ false
   nan-x e = square-nan p q (squares-are ∙ first-nan dx dy e)
 
-  nan-y : dy ≡ nan → false ≡ touches p q
+  nan-y : dy ≡ nan → lt (vdistance p q) characterSize ≡ false
   nan-y e = square-nan p q (squares-are ∙ second-nan dx dy e)
 
-  pub apart-x : (dx ≡ nan) ⊎ Wide dx → false ≡ touches p q
+  pub apart-x : (dx ≡ nan) ⊎ Wide dx → lt (vdistance p q) characterSize ≡ false
   apart-x (inl e) = nan-x e
-  apart-x (inr h) = ⊎-elim nan-y (λ a. far p q (subst (λ (z : Float). T (le c784 z)) (sym squares-are) (wide-sum dx dy h a))) (nan-or dy)
+  apart-x (inr h) = ⊎-elim nan-y (λ a. far-28 p q (subst (λ (z : Float). T (le c784 z)) (sym squares-are) (wide-sum dx dy h a))) (nan-or dy)
 
-  pub apart-y : (dy ≡ nan) ⊎ Wide dy → false ≡ touches p q
+  pub apart-y : (dy ≡ nan) ⊎ Wide dy → lt (vdistance p q) characterSize ≡ false
   apart-y (inl e) = nan-y e
-  apart-y (inr h) = ⊎-elim nan-x (λ a. far p q (subst (λ (z : Float). T (le c784 z)) (sym squares-are) (turned a))) (nan-or dx)
+  apart-y (inr h) = ⊎-elim nan-x (λ a. far-28 p q (subst (λ (z : Float). T (le c784 z)) (sym squares-are) (turned a))) (nan-or dx)
     where
       turned : Number dx → T (le c784 (squares dx dy))
       turned a =

@@ -67,6 +67,13 @@ rooted-784 : Rooted c784 characterSize
 unfolding root rootOf isqrt ofBits round fits le lt eq
 rooted-784 = record { root-is = refl; fitting = tt; above = tt; positive-root = tt }
 
-pub far : (p q : vec2) → T (le c784 (square p q)) → false ≡ touches p q
+pub far-28 : (p q : vec2) → T (le c784 (square p q)) → lt (vdistance p q) characterSize ≡ false
+far-28 = far-from c784 characterSize rooted-784
+
+-- two whose distance is not below 28 do not touch
+pub not-touching : (p q : vec2) → lt (vdistance p q) characterSize ≡ false → false ≡ touches p q
 unfolding touches
-far p q h = both (lt c0 (vdistance p q)) (lt (vdistance p q) characterSize) (far-from c784 characterSize rooted-784 p q h)
+not-touching p q h = both (lt c0 (vdistance p q)) (lt (vdistance p q) characterSize) h
+
+pub far : (p q : vec2) → T (le c784 (square p q)) → false ≡ touches p q
+far p q h = not-touching p q (far-28 p q h)

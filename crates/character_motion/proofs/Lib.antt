@@ -3,3 +3,4 @@ pub mod Far
 pub mod FarPush
 pub mod Apart
 pub mod Mixed
+pub mod Unmet

@@ -1,4 +1,4 @@
--- Whoever is 28 or more to one side of both ends of a way, in a coordinate, is touched at no turn of the player walk. Assumes nothing.
+-- Whoever is 28 or more to one side of both ends of a way, in a coordinate, has no point of it nearer, and is touched at no turn of the player walk. Assumes nothing.
 use mathlib.Core.Path.{_≡_, ap, _∙_}
 use mathlib.Core.Logic.{inl, inr, _⊎_, ⊎-elim}
 use mathlib.Core.Bool.{false}
@@ -7,7 +7,7 @@ use native.Mathlib.Omega.{arith}
 use lib.Dec.{T}
 use lib.IntN.{ℤ, pos, negsuc}
 use lib.Signed.{mag}
-use lib.Ieee.{Float, nan, binary32, neg, add, sub, mul, div, ofInt, fits}
+use lib.Ieee.{Float, nan, binary32, neg, add, sub, mul, div, lt, ofInt, fits}
 use lib.Ieee.Fits.{sub-fits}
 use Rattle.num_convert.specs.Whole.{truncToI32}
 use Rattle.num_convert.specs.Convert.{i32ToF32}
@@ -21,6 +21,7 @@ use Rattle.num_order.proofs.Chain.{Number, le-left, le-right, nan-or}
 use Rattle.num_order.proofs.Nans.{add-nan, div-nan, mul-nan, sub-nan, subtrahend}
 use Rattle.num_order.proofs.Products.{Factor}
 use Rattle.num_order.proofs.Points.{point-between}
+use Rattle.character_motion.proofs.Far.{not-touching}
 use Rattle.character_motion.proofs.Apart.{Aside, Wide, apart-x, apart-y, aside}
 use Rattle.num_order.proofs.Fractions.{fraction}
 use Rattle.num_order.proofs.Vectors.{FitsPair, distance-fits, distance-up}
@@ -47,10 +48,11 @@ end from to = vadd from (vsub to from)
 abbrev pub Away : vec2 → vec2 → vec2 → Type 0
 Away from to q = Aside (from .x) (end from to .x) (q .x) ⊎ Aside (from .y) (end from to .y) (q .y)
 
-mixed-away : (from to q : vec2) (v : Float) → (v ≡ nan) ⊎ Factor v → FitsPair from → Away from to q → false ≡ touches (vmix from to v) q
+-- so no point of the way is nearer than 28
+pub mixed-apart : (from to q : vec2) (v : Float) → (v ≡ nan) ⊎ Factor v → FitsPair from → Away from to q → lt (vdistance (vmix from to v) q) characterSize ≡ false
 unfolding vmix vadd vmul vsub
-mixed-away from to q v h t (inl k) = apart-x (vmix from to v) q (mixed (from .x) (sub binary32 (to .x) (from .x)) v (q .x) (t .0) (sub-fits binary32 (to .x) (from .x)) k h)
-mixed-away from to q v h t (inr k) = apart-y (vmix from to v) q (mixed (from .y) (sub binary32 (to .y) (from .y)) v (q .y) (t .1) (sub-fits binary32 (to .y) (from .y)) k h)
+mixed-apart from to q v h t (inl k) = apart-x (vmix from to v) q (mixed (from .x) (sub binary32 (to .x) (from .x)) v (q .x) (t .0) (sub-fits binary32 (to .x) (from .x)) k h)
+mixed-apart from to q v h t (inr k) = apart-y (vmix from to v) q (mixed (from .y) (sub binary32 (to .y) (from .y)) v (q .y) (t .1) (sub-fits binary32 (to .y) (from .y)) k h)
 
 -- ---- the turns of the player walk
 -- the fraction of the turn i
@@ -69,4 +71,4 @@ module _ (from to q : vec2) (i : ℕ) (l : i < playerTurns (vdistance from to)) 
       (λ z. fraction binary32 (vdistance from to) i (distance-fits from to) z (omega (arith, count-size (truncToI32 (vdistance from to))))) (distance-up from to)
 
   pub untouched : FitsPair from → Away from to q → false ≡ touches (vmix from to (part from to i)) q
-  untouched = mixed-away from to q (part from to i) part-factor
+  untouched t k = not-touching (vmix from to (part from to i)) q (mixed-apart from to q (part from to i) part-factor t k)

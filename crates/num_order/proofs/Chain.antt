@@ -1,15 +1,16 @@
--- The order of all values but nan: the infinities are its ends, it is reflexive and transitive, and `neg` turns it round. Assumes nothing.
+-- The order of all values but nan: the infinities are its ends, it is reflexive, transitive and total, and `neg` turns it round. Assumes nothing.
 use mathlib.Core.Path.{_≡_, refl}
 use mathlib.Core.Logic.{inl, inr, _⊎_}
-use mathlib.Core.Bool.{Bool, true, false, not}
+use mathlib.Core.Bool.{Bool, true, false, not, true≢false}
 use Prim.Native.Nat.{ℕ, _+_, _*_, _≤_, _<_}
 use native.Mathlib.Nat.{le-of-mul-le-mul-right, mul-le-mul-right}
 use native.Mathlib.Omega.{arith}
 use lib.Dec.{T}
 use lib.IntN.{pos}
-use lib.Ieee.{Float, nan, inf, fin, up, down, neg, le, isNan}
+use lib.Ieee.{Float, nan, inf, fin, up, down, neg, below, lt, le, isNan}
 use lib.Ieee.Fits.{down-pos}
 use lib.Ieee.Scale.{finite}
+use borrow.Author.Tests.{ltb-false}
 use Rattle.num_order.proofs.Signed.{at-most→le, gain, le→at-most, loss}
 
 -- a number or an infinity
@@ -95,6 +96,27 @@ le-trans (fin s m e) (fin t n d) (fin r i j) h k =
     at-most→le (fin s m e) (fin r i j) tt tt
     (through (gain s (m * up e)) (loss s (m * up e)) (down e) (gain t (n * up d)) (loss t (n * up d)) (down d) (gain r (i * up j)) (loss r (i * up j)) (down j) (down-pos d)
     (le→at-most (fin s m e) (fin t n d) tt tt h) (le→at-most (fin t n d) (fin r i j) tt tt k))
+
+-- ---- of two numbers one is at least the other
+crossed : (s t : Bool) (a c b d : ℕ) → below s (a * d) t (b * c) ≡ false → gain t b * c + loss s a * d ≤ gain s a * d + loss t b * c
+crossed true true a c b d h = omega (arith, ltb-false (b * c) (a * d) h)
+crossed true false a c b d h = omega (arith, ltb-false 0 (a * d + b * c) h)
+crossed false true a c b d h = omega arith
+crossed false false a c b d h = omega (arith, ltb-false (a * d) (b * c) h)
+
+pub at-least : (x y : Float) → Number x → Number y → lt x y ≡ false → T (le y x)
+unfolding lt le isNan
+at-least nan y a b h = absurd a
+at-least (inf s) nan a b h = absurd b
+at-least (inf true) (inf true) a b h = tt
+at-least (inf true) (inf false) a b h = absurd (true≢false h)
+at-least (inf true) (fin t n d) a b h = absurd (true≢false h)
+at-least (inf false) (inf t) a b h = most (inf t) tt
+at-least (inf false) (fin t n d) a b h = tt
+at-least (fin s m e) nan a b h = absurd b
+at-least (fin s m e) (inf true) a b h = tt
+at-least (fin s m e) (inf false) a b h = absurd (true≢false h)
+at-least (fin s m e) (fin t n d) a b h = at-most→le (fin t n d) (fin s m e) tt tt (crossed s t (m * up e) (down e) (n * up d) (down d) h)
 
 -- ---- `neg`
 turned : (s t : Bool) (a b c d : ℕ) → gain s a * d + loss t b * c ≤ gain t b * c + loss s a * d → gain (not t) b * c + loss (not s) a * d ≤ gain (not s) a * d + loss (not t) b * c

@@ -11,3 +11,5 @@ pub mod Walks
 pub mod Points
 pub mod Fractions
 pub mod Vectors
+pub mod Clamped
+pub mod Symmetric
