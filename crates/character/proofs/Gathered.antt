@@ -1,50 +1,27 @@
 -- Those who are gathered answer for all: whoever is left out is close at no turn of the player walk. Assumes nothing.
-use mathlib.Core.Path.{_≡_, refl, sym, ap, _∙_, subst}
-use mathlib.Core.Logic.{inl, inr}
-use mathlib.Core.Bool.{Bool, true, false, cond, true≢false}
+use mathlib.Core.Path.{_≡_, refl, sym, ap, _∙_}
+use mathlib.Core.Bool.{Bool, false, cond}
 use mathlib.Core.List.{List}
 use Prim.Native.Nat.{ℕ, zero, suc, _+_, _≤_, _<_}
 use native.Mathlib.Numerals.{add-one}
 use native.Mathlib.Omega.{arith}
-use lib.Dec.{T}
 use lib.IntN.{pos}
 use lib.ListN.{length, set}
 use lib.Seq.{getD-set-same, getD-set-other}
-use lib.Ieee.{Float, nan, binary32, neg, sub, div, le}
+use lib.Ieee.{Float, nan, binary32, div}
 use Rattle.base_turns.specs.Turns.{Turn, more, stop, next, run}
 use Rattle.base_turns.proofs.Last.{run-last}
-use Rattle.game_constants.specs.Constants.{characterSize}
 use Rattle.num_convert.specs.Convert.{i32ToF32}
 use Rattle.num_vec2.specs.Vec2.{vnew, vdistance, vmix}
 use Rattle.num_vec2.specs.declared.vec2.{vec2}
 use Rattle.character_motion.specs.Touching.{touches}
 use Rattle.character_motion.specs.Walking.{playerTurns, restAt}
-use Rattle.character_motion.proofs.Apart.{Aside}
-use Rattle.character_motion.proofs.Mixed.{Away, part}
+use Rattle.character_motion.proofs.Mixed.{part}
 use Rattle.character_motion.proofs.Mixed as mixed
 use Rattle.character.specs.declared.Slot.{Slot}
 use Rattle.character.specs.Tick.{slotAt}
 use Rattle.character.specs.Walk.{isClose, slotTurn, walkTurn, orTo, walkAmong}
-use Rattle.character.specs.Near.{isAside, mayTouch, nearTurn, nearWalkTurn, walkNear, Asked}
-
--- ---- the test
-aside : (a b q : Float) → isAside a b q ≡ true → Aside a b q
-unfolding isAside
-aside a b q h = go (le characterSize (sub binary32 q a)) (le (sub binary32 q a) (neg characterSize)) refl refl h
-  where
-    go : (s t : Bool) → le characterSize (sub binary32 q a) ≡ s → le (sub binary32 q a) (neg characterSize) ≡ t → cond s (le characterSize (sub binary32 q b)) (cond t (le (sub binary32 q b) (neg characterSize)) false) ≡ true → Aside a b q
-    go true t d e k = inl (subst T (sym d) tt, subst T (sym k) tt)
-    go false true d e k = inr (subst T (sym e) tt, subst T (sym k) tt)
-    go false false d e k = absurd (true≢false (sym k))
-
-pub left-out : (from to q : vec2) → mayTouch from (mixed.end from to) q ≡ false → Away from to q
-unfolding mayTouch
-left-out from to q h = go (isAside (from .x) (mixed.end from to .x) (q .x)) (isAside (from .y) (mixed.end from to .y) (q .y)) refl refl h
-  where
-    go : (a b : Bool) → isAside (from .x) (mixed.end from to .x) (q .x) ≡ a → isAside (from .y) (mixed.end from to .y) (q .y) ≡ b → cond a false (cond b false true) ≡ false → Away from to q
-    go true b d e k = inl (aside _ _ _ d)
-    go false true d e k = inr (aside _ _ _ e)
-    go false false d e k = absurd (true≢false k)
+use Rattle.character.specs.Near.{nearTurn, nearWalkTurn, walkNear, Asked}
 
 -- ---- a walk whose turns are another's
 module _ {R : Type 0} where

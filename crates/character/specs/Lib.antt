@@ -4,5 +4,6 @@ pub mod Tick
 pub mod Places
 pub mod Among
 pub mod Walk
+pub mod Aside
 pub mod Near
 pub mod Records

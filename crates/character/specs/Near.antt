@@ -1,28 +1,19 @@
 -- Whom the player walk has to ask: the others but those who are a character's size or more to one side of the whole way. Definitions only.
 use Prim.Native.Nat.{ℕ, _<_}
 use mathlib.Core.Path.{_≡_}
-use mathlib.Core.Bool.{Bool, true, false, cond}
+use mathlib.Core.Bool.{cond}
 use mathlib.Core.List.{List}
 use lib.IntN.{pos}
 use lib.ListN.{getD}
-use lib.Ieee.{Float, nan, binary32, neg, sub, div, le}
+use lib.Ieee.{Float, nan, binary32, div}
 use Rattle.base_turns.specs.Turns.{Turn, more, stop, next, run}
 use Rattle.num_convert.specs.Convert.{i32ToF32}
 use Rattle.num_vec2.specs.Vec2.{vnew, vadd, vsub, vdistance, vmix}
 use Rattle.num_vec2.specs.declared.vec2.{vec2}
-use Rattle.game_constants.specs.Constants.{characterSize}
 use Rattle.character_motion.specs.Touching.{touches}
 use Rattle.character_motion.specs.Walking.{playerTurns, restAt}
 use Rattle.character.specs.declared.Slot.{Slot}
 use Rattle.character.specs.Walk.{slotTurn, orTo}
-
--- a and b are both as far below q, or both as far above it
-unfoldable pub isAside : Float → Float → Float → Bool
-isAside a b q = cond (le characterSize (sub binary32 q a)) (le characterSize (sub binary32 q b)) (cond (le (sub binary32 q a) (neg characterSize)) (le (sub binary32 q b) (neg characterSize)) false)
-
--- q is on one side of the way from one point to its end in neither coordinate
-unfoldable pub mayTouch : vec2 → vec2 → vec2 → Bool
-mayTouch from end q = cond (isAside (from .x) (end .x) (q .x)) false (cond (isAside (from .y) (end .y) (q .y)) false true)
 
 -- the place k of those who are asked
 abbrev pub nearAt : List vec2 → ℕ → vec2

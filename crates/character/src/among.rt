@@ -1,5 +1,6 @@
 // What a tick asks of the others, who are lent as places: whom its hook meets on its way, and what is left of the own velocity.
 use crate::SEATS;
+use crate::aside::may_touch;
 use crate::pulls::held_seat;
 use crate::tick::HookFlight;
 use character_hook::CharacterId;
@@ -39,7 +40,7 @@ pub fn caught(
     }
 }
 
-// Whom a hook meets first on its way. Each costs a root, so who is not there is passed over first.
+// Whom a hook meets first on its way. Each costs roots; most are aside of the way, which comparisons tell.
 fn nearest(
     present: &[bool; SEATS],
     xs: &[f32; SEATS],
@@ -50,13 +51,16 @@ fn nearest(
 ) -> Nearest
     ensures { λ r. ⌜ Among seats (now (present .entry)) (now (xs .entry)) (now (ys .entry)) (λ ss. r ≡ nearest seats ss id from to) ⌝ }
 {
+    let end = from.add(to.sub(from));
     let mut best = Nearest::Nobody;
     for j in 0..SEATS {
-        if j != id {
-            if present[j] {
-                let cid = j as u32;
-                let place = vec2::new(xs[j], ys[j]);
-                best = nearer(best, CharacterId(cid), place, from, to);
+        if present[j] {
+            let place = vec2::new(xs[j], ys[j]);
+            if may_touch(from, end, place) {
+                if j != id {
+                    let cid = j as u32;
+                    best = nearer(best, CharacterId(cid), place, from, to);
+                }
             }
         }
     }

@@ -1,12 +1,11 @@
 // Whom a player walk may touch: the others but those who are a character's size or more to one side of the whole way.
 use crate::SEATS;
-use game_constants::CHARACTER_SIZE;
+use crate::aside::may_touch;
 use num_vec2::vec2;
-ghost use mathlib.Core.Path.{_≡_};
 ghost use Prim.Native.Nat.{_≤_};
 ghost use Rattle.character.specs.Tick.{seats};
 ghost use Rattle.character.specs.Places.{Among};
-ghost use Rattle.character.specs.Near.{isAside, mayTouch, Asked};
+ghost use Rattle.character.specs.Near.{Asked};
 
 // Where they are, by rising id; `count` of them.
 pub struct Near {
@@ -39,32 +38,4 @@ pub fn gather(
         }
     }
     Near { count, at }
-}
-
-// Whether q is on one side of the way in neither coordinate.
-fn may_touch(from: vec2, end: vec2, q: vec2) -> bool
-    ensures { λ r. ⌜ r ≡ mayTouch from end q ⌝ }
-{
-    if is_aside(from.x, end.x, q.x) {
-        return false;
-    }
-    if is_aside(from.y, end.y, q.y) {
-        return false;
-    }
-    true
-}
-
-// Whether a and b are both a character's size or more to the same side of q.
-fn is_aside(a: f32, b: f32, q: f32) -> bool
-    ensures { λ r. ⌜ r ≡ isAside a b q ⌝ }
-{
-    let first = q - a;
-    let last = q - b;
-    if CHARACTER_SIZE <= first {
-        return CHARACTER_SIZE <= last;
-    }
-    if first <= -CHARACTER_SIZE {
-        return last <= -CHARACTER_SIZE;
-    }
-    false
 }

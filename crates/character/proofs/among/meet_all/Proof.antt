@@ -1,52 +1,19 @@
 -- `character::among::meet_all` meets its contract. Assumes nothing.
-use mathlib.Core.Bool.{Bool, true, false, cond, true≢false}
-use mathlib.Core.List.{List}
-use mathlib.Core.Logic.{_⊎_, inl, inr, ⊎-elim}
-use mathlib.Core.Path.{_≡_, refl, sym, ap, _∙_}
-use Prim.Native.Nat.{ℕ, _-_, _<_}
+use mathlib.Core.Logic.{inl, inr, ⊎-elim}
+use mathlib.Core.Path.{sym, ap, _∙_}
+use Prim.Native.Nat.{_-_}
 use native.Mathlib.Omega.{arith}
-use lib.Dec.{eqb}
-use lib.Ieee.{Float}
-use lib.ListN.{getD}
 use borrow.Author.Needs.{needs}
-use borrow.Author.Tests.{eq-eqb, ne-eqb, eqb-false}
 use Rattle.base_turns.proofs.Loop.{Left, always, fold-first, turn-on, fold-end}
 use Rattle.base_turns.specs.Turns.{fold, more}
-use Rattle.num_vec2.specs.declared.vec2.{vec2}
-use Rattle.game_tuning.specs.declared.Tuning.{Tuning}
 use Rattle.character_hook.specs.Hook.{idOf}
-use Rattle.character_hook.specs.declared.hook.Hook.{Hook}
 use Rattle.character_motion.specs.Meeting.{meet}
-use Rattle.character.specs.Among.{heldSeat, mayMeet}
-use Rattle.character.specs.Places.{placeAt, PlacesOf, Among}
-use Rattle.character.specs.Tick.{seats, slotAt, meetTurn, meetAll}
-use Rattle.character.specs.declared.Slot.{Slot}
+use Rattle.character.specs.Places.{Among}
+use Rattle.character.specs.Tick.{seats, meetTurn, meetAll}
 use Rattle.character.proofs.Held.{left-out}
+use Rattle.character.proofs.Seat.{seat-turn}
 use Rattle.character.proofs.among.meet_all.Statement.{statement}
 use Rattle.character.proofs.among.meet_all.Tie as tie
-
--- a turn, on plain values: w is the velocity after it
-module _ (ss : List Slot) (ps : List Bool) (xs ys : List Float) (places : PlacesOf seats ss ps xs ys) (id : ℕ) (p : vec2) (h : Hook) (t : Tuning) (j : ℕ) (l : j < seats) (q : vec2) (at : q ≡ placeAt xs ys j) (v w : vec2) where
-  -- somebody else is there; or it is its own place, nobody is there, or a meeting would change nothing
-  abbrev Ways : Type 0
-  Ways = (getD ps j false ≡ true × (j ≡ id → ⊥) × (w ≡ meet p v h q (idOf j) t)) ⊎ (((j ≡ id) ⊎ ((getD ps j false ≡ false) ⊎ (mayMeet p q j (heldSeat seats h id) ≡ false))) × (w ≡ v))
-
-  turn : Ways → always (meetTurn ss id p h t) j v ≡ more w
-  turn (inl (b, n, e)) =
-      let here : slotAt ss j .present ≡ true = sym (places j l .there) ∙ b in
-      let stands : q ≡ slotAt ss j .character .pos = at ∙ places j l .stands here in
-      simp (e, ne-eqb j id n, here, stands)
-  turn (inr (inl own, e)) = simp (e, eq-eqb j id own)
-  turn (inr (inr quiet, e)) = ap more (go (eqb j id) (slotAt ss j .present) refl refl ∙ sym e)
-    where
-      unchanged : slotAt ss j .present ≡ true → (j ≡ id → ⊥) → (getD ps j false ≡ false) ⊎ (mayMeet p q j (heldSeat seats h id) ≡ false) → v ≡ meet p v h q (idOf j) t
-      unchanged here n (inl gone) = absurd (true≢false (sym here ∙ sym (places j l .there) ∙ gone))
-      unchanged here n (inr far) = left-out seats id p v h q j t l n far
-
-      go : (o here : Bool) → eqb j id ≡ o → slotAt ss j .present ≡ here → cond o v (cond here (meet p v h (slotAt ss j .character .pos) (idOf j) t) v) ≡ v
-      go true here d k = refl
-      go false false d k = refl
-      go false true d k = rw (← places j l .stands k, ← at) (sym (unchanged k (eqb-false j id d) quiet))
 
 abbrev Inv-loop : tie.InvT-loop
 Inv-loop present xs ys id pos vel₀ hook tuning held j₀ vel j = Among seats present xs ys (λ ss. Left (always (meetTurn ss id pos hook tuning)) seats j vel (more (fold (meetTurn ss id pos hook tuning) seats 0 vel₀)))
@@ -101,11 +68,13 @@ loop-again c = λ ss places.
     let h = b .loop-test .taken in
     let place = c .before .before .new in
     let far = sym (c .before .may-meet .ensures) in
-    turn-on (l .inv ss places) h (turn ss (a .present .now) (a .xs .now) (a .ys .now) places (a .id) (a .pos) (a .hook) (a .tuning) (l .j) h (place .result) (place .ensures) (l .vel) (c .if1 .vel)
+    turn-on (l .inv ss places) h
+    (ap more (seat-turn seats ss (a .present .now) (a .xs .now) (a .ys .now) places (a .id) (l .j) h (place .result) (place .ensures) (λ q v. meet (a .pos) v (a .hook) q (idOf (l .j)) (a .tuning)) (l .vel) (c .if1 .vel)
     (⊎-elim (λ w. inl (w .2 .taken, w .3 .taken, w .5 ∙ w .4 .ensures))
     (⊎-elim (λ w. inr (inl (w .3 .left), w .4))
-    (⊎-elim (λ w. inr (inr (inl (w .2 .left)), w .3)) (λ w. inr (inr (inr (rw (b .before .before .held-seat .ensures) at (far ∙ w .0 .left))), w .1))))
-    (c .if1 .came)))
+    (⊎-elim (λ w. inr (inr (inl (w .2 .left)), w .3))
+    (λ w. inr (inr (inr (λ o. sym (left-out seats (a .id) (a .pos) (l .vel) (a .hook) (place .result) (l .j) (a .tuning) h o (rw (b .before .before .held-seat .ensures) at (far ∙ w .0 .left))))), w .1))))
+    (c .if1 .came))))
 
 returns : tie.Need-returns Inv-loop μ-loop
 unfolding meetAll

@@ -1,8 +1,8 @@
--- `character::near::may_touch` meets its contract. Assumes nothing.
+-- `character::aside::may_touch` meets its contract. Assumes nothing.
 use borrow.Author.Needs.{needs}
-use Rattle.character.specs.Near.{mayTouch}
-use Rattle.character.proofs.near.may_touch.Statement.{statement}
-use Rattle.character.proofs.near.may_touch.Tie as tie
+use Rattle.character.specs.Aside.{mayTouch}
+use Rattle.character.proofs.aside.may_touch.Statement.{statement}
+use Rattle.character.proofs.aside.may_touch.Tie as tie
 
 is-aside-requires : tie.Need-is-aside-requires
 is-aside-requires c κs = search needs
