@@ -1,12 +1,14 @@
--- Laws of `put`, of numbers and of bytes alike: one element, one more, and one row after another. Assumes nothing.
-use Prim.Native.Nat.{ℕ, _+_, _≤_, _<_}
-use mathlib.Core.Path.{_≡_, refl, sym, ap, _∙_}
+-- Laws of `put`, of numbers and of bytes alike: one element, one more, one row after another, and what stands before, in and behind it. Assumes nothing.
+use Prim.Native.Nat.{ℕ, _+_, _-_, _≤_, _<_}
+use mathlib.Core.Path.{_≡_, refl, sym, ap, ap₂, _∙_}
 use mathlib.Core.List.{List, [], _∷_, _++_, append-assoc, append-nil}
+use mathlib.Core.Logic.{_⊎_, inl, inr, ⊎-elim}
 use native.Mathlib.Omega.{arith}
 use native.Mathlib.Nat.{add-zero}
 use native.Mathlib.Numerals.{add-one}
+use lib.Dec.{lit<}
 use lib.ListN.{length, take, drop, set, getD, length-append, length-drop, take-append-drop}
-use lib.Seq.{length-take-le, take-at, drop-at, drop-drop, drop-length, set-split, take-suc}
+use lib.Seq.{length-take-le, take-at, drop-at, drop-drop, drop-length, set-split, take-suc, take-add, take-take, take-append-le, getD-take, getD-drop, drop-append-le}
 use Rattle.base_rows.specs.Put.{put}
 
 module _ {A : Type 0} where
@@ -81,3 +83,56 @@ module _ {A : Type 0} where
       ap (λ (q : List A). set q end x) (put-put d at s w next e (omega arith))
       ∙ put-snoc d at (s ++ w) end x (omega arith) (omega arith)
       ∙ ap (put d at) (append-assoc s w (x ∷ []))
+
+  -- ---- what is read of it
+  -- from its place on
+  pub drop-put : (d : List A) (at : ℕ) (w : List A) → at ≤ length d → drop at (put d at w) ≡ w ++ drop (at + length w) d
+  unfolding put
+  drop-put d at w h = drop-at (take at d) (w ++ drop (at + length w) d) at (length-take-le at d h)
+
+  -- from a place before it on
+  pub drop-put-add : (d : List A) (p q : ℕ) (w : List A) → p + q ≤ length d → drop p (put d (p + q) w) ≡ put (drop p d) q w
+  unfolding put
+  drop-put-add d p q w h =
+      let r : List A = w ++ drop (p + q + length w) d in
+      let m : p + q + length w ≡ p + (q + length w) = omega arith in
+      ap (λ (l : List A). drop p (l ++ r)) (take-add p q d)
+      ∙ ap (drop p) (append-assoc (take p d) (take q (drop p d)) r)
+      ∙ drop-at (take p d) (take q (drop p d) ++ r) p (length-take-le p d (omega arith))
+      ∙ ap (λ (l : List A). take q (drop p d) ++ (w ++ l)) (ap (λ (n : ℕ). drop n d) m ∙ sym (drop-drop (q + length w) p d))
+
+  pub take-before : (d : List A) (at : ℕ) (w : List A) (n : ℕ) → n ≤ at → at ≤ length d → take n (put d at w) ≡ take n d
+  unfolding put
+  take-before d at w n h g = take-append-le n (take at d) (w ++ drop (at + length w) d) (omega (arith, length-take-le at d g)) ∙ take-take n at d h
+
+  pub drop-behind : (d : List A) (at : ℕ) (w : List A) (n : ℕ) → at + length w ≤ n → at ≤ length d → drop n (put d at w) ≡ drop n d
+  drop-behind d at w n h g =
+      let e : ℕ = at + length w in
+      let m : e + (n - e) ≡ n = omega arith in
+      ap (λ (k : ℕ). drop k (put d at w)) (sym m)
+      ∙ sym (drop-drop (n - e) e (put d at w))
+      ∙ ap (drop (n - e)) (ap (drop e) (split d at w) ∙ drop-at (take at d ++ w) (drop e d) e (front d at w g))
+      ∙ drop-drop (n - e) e d
+      ∙ ap (λ (k : ℕ). drop k d) m
+
+  -- a part of n elsewhere is as it was, and so is one element
+  pub part-else : (d : List A) (at : ℕ) (w : List A) (a n : ℕ) → at ≤ length d → (a + n ≤ at) ⊎ (at + length w ≤ a) → take n (drop a (put d at w)) ≡ take n (drop a d)
+  part-else d at w a n g =
+      ⊎-elim
+      (λ h. let q : a + (at - a) ≡ at = omega arith in
+      ap (λ (k : ℕ). take n (drop a (put d k w))) (sym q) ∙ ap (take n) (drop-put-add d a (at - a) w (omega arith)) ∙ take-before (drop a d) (at - a) w n (omega arith) (omega (arith, length-drop a d)))
+      (λ h. ap (take n) (drop-behind d at w a h g))
+
+  pub put-else : (d : List A) (at : ℕ) (w : List A) (i : ℕ) (x : A) → at ≤ length d → (i < at) ⊎ (at + length w ≤ i) → getD (put d at w) i x ≡ getD d i x
+  put-else d at w i x g h = alone (put d at w) ∙ ap (λ (l : List A). getD l 0 x) (part-else d at w i 1 g (⊎-elim (λ q. inl (omega arith)) inr h)) ∙ sym (alone d)
+    where
+      alone : (l : List A) → getD l i x ≡ getD (take 1 (drop i l)) 0 x
+      alone l = ap (λ (k : ℕ). getD l k x) (sym (add-zero i)) ∙ sym (getD-take 1 (drop i l) 0 x (lit< tt) ∙ getD-drop i l 0 x)
+
+  -- in the first of two rows
+  pub put-append : (d e : List A) (at : ℕ) (w : List A) → at + length w ≤ length d → put (d ++ e) at w ≡ put d at w ++ e
+  unfolding put
+  put-append d e at w h =
+      ap₂ (λ (a b : List A). a ++ (w ++ b)) (take-append-le at d e (omega arith)) (drop-append-le (at + length w) d e h)
+      ∙ ap (λ (l : List A). take at d ++ l) (sym (append-assoc w (drop (at + length w) d) e))
+      ∙ sym (append-assoc (take at d) (w ++ drop (at + length w) d) e)

@@ -59,7 +59,7 @@ flag-back true = refl
 flag-back false = refl
 
 -- a seat, whatever stands after it
-seat-back : (s : Slot) (l : List ℤ) → Kept s → seatOf (seatNumbers s ++ l) ≡ s
+pub seat-back : (s : Slot) (l : List ℤ) → Kept s → seatOf (seatNumbers s ++ l) ≡ s
 unfolding seatOf seatNumbers presentNumbers recordNumbers coreNumbers inputNumbers isSet coreIn inputIn
 seat-back s l k = go (s .present) refl
   where

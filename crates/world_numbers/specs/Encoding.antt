@@ -2,7 +2,7 @@
 use Prim.Native.Nat.{ℕ, _+_, _*_}
 use mathlib.Core.Bool.{Bool, true, cond}
 use mathlib.Core.List.{List, [], _∷_, _++_}
-use lib.IntN.{ℤ, pos}
+use lib.IntN.{ℤ, pos, negsuc}
 use lib.ListN.{replicate}
 use Rattle.game_records.specs.declared.CharacterCore.{CharacterCore}
 use Rattle.game_records.specs.Numbers.{coreCount, inputCount, coreNumbers, inputNumbers}
@@ -38,6 +38,19 @@ worldCount = tuningCount + seatCount * seats
 abbrev pub recordsCount : ℕ
 recordsCount = recordCount * seats
 
+-- ---- where they stand
+
+-- where the numbers of the seat k begin in a world
+abbrev pub seatPlace : ℕ → ℕ
+seatPlace k = tuningCount + seatCount * k
+
+-- where a seat's hook begins in it: who is held, then state, tick, position and direction
+abbrev pub hookPlace : ℕ
+hookPlace = 9
+
+abbrev pub statePlace : ℕ
+statePlace = hookPlace + 1
+
 -- ---- which they are
 
 -- f of each, one after the other
@@ -61,6 +74,10 @@ recordNumbers p = flag (p .present) ∷ coreNumbers (p .core)
 -- the presence, record, input and floor mark of a seat where somebody is
 unfoldable pub presentNumbers : Slot → List ℤ
 presentNumbers s = recordNumbers (record { present = true; core = netCore (toNet (s .character)) }) ++ (inputNumbers (s .input) ++ (flag (s .grounded) ∷ []))
+
+-- the numbers of a Retracted hook: nobody is held, state -1, and zeros
+abbrev pub retractedNumbers : List ℤ
+retractedNumbers = negsuc 0 ∷ negsuc 0 ∷ replicate 5 (pos 0)
 
 -- zeros where nobody is, whatever else the slot holds
 unfoldable pub seatNumbers : Slot → List ℤ

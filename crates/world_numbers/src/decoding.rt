@@ -1,7 +1,7 @@
 // A world out of the numbers of a buffer.
 use crate::encoding::MARK;
 use crate::encoding::RECORD;
-use crate::encoding::SEAT;
+use crate::encoding::seat_place;
 use base_rows::copy;
 use character::Character;
 use character::SEATS;
@@ -13,11 +13,11 @@ use game_records::input_of;
 use game_tuning::TUNINGS;
 use world::World;
 ghost use mathlib.Core.Path.{_≡_};
-ghost use Prim.Native.Nat.{_+_, _*_, _≤_, _<_};
+ghost use Prim.Native.Nat.{_≤_, _<_};
 ghost use lib.ListN.{length, take, drop};
 ghost use Rattle.character.specs.Tick.{seats};
 ghost use Rattle.game_tuning.specs.Tuning.{tuningCount};
-ghost use Rattle.world_numbers.specs.Encoding.{seatCount, worldCount};
+ghost use Rattle.world_numbers.specs.Encoding.{seatCount, worldCount, seatPlace};
 ghost use Rattle.world_numbers.specs.Decoding.{fromZero, isSet, readable, seatOf, seatsOf, decoding};
 
 pub fn is_set(z: i32) -> bool
@@ -61,9 +61,9 @@ fn seat_of(seat: &[i32]) -> Slot
 // The seat with the id `id` of a world's numbers.
 pub fn seat_at(numbers: &[i32], id: usize) -> Slot
     requires { ⌜ (length (now numbers) ≡ worldCount) × (id < seats) ⌝ }
-    ensures { λ r. ⌜ r ≡ seatOf (drop (tuningCount + seatCount * id) (now (numbers .entry))) ⌝ }
+    ensures { λ r. ⌜ r ≡ seatOf (drop (seatPlace id) (now (numbers .entry))) ⌝ }
 {
-    let at = TUNINGS + SEAT * id;
+    let at = seat_place(id);
     seat_of(&numbers[at..])
 }
 

@@ -14,8 +14,10 @@ use world::Published;
 use world::World;
 use world_step::unpublished;
 ghost use mathlib.Core.Path.{_≡_};
+ghost use Prim.Native.Nat.{_<_};
 ghost use lib.ListN.{length};
-ghost use Rattle.world_numbers.specs.Encoding.{worldCount, recordsCount, flag, netCore, recordNumbers, presentNumbers, seatNumbers, encoding, recordsEncoding};
+ghost use Rattle.character.specs.Tick.{seats};
+ghost use Rattle.world_numbers.specs.Encoding.{seatPlace, worldCount, recordsCount, flag, netCore, recordNumbers, presentNumbers, seatNumbers, encoding, recordsEncoding};
 
 // How many numbers a seat has among the records of a step, in a world before its floor mark, and in a world.
 pub const RECORD: usize = 1 + CORE;
@@ -28,6 +30,19 @@ pub const SEAT: usize = MARK + 1;
 pub const WORLD: usize = TUNINGS + SEAT * SEATS;
 
 pub const RECORDS: usize = RECORD * SEATS;
+
+// Where a seat's hook begins in it: who is held, then its state, tick, position and direction.
+pub const HOOK: usize = 9;
+
+pub const STATE: usize = HOOK + 1;
+
+// Where the numbers of a seat begin in a world.
+pub fn seat_place(id: usize) -> usize
+    requires { ⌜ id < seats ⌝ }
+    ensures { λ r. ⌜ r ≡ seatPlace id ⌝ }
+{
+    TUNINGS + SEAT * id
+}
 
 pub fn flag(set: bool) -> i32
     ensures { λ r. ⌜ r ≡ flag set ⌝ }
@@ -92,7 +107,7 @@ pub fn encode(world: World, numbers: &mut [i32])
     copy(numbers, 0, &tunings);
     for i in 0..SEATS {
         let row = seat_numbers(slots[i]);
-        copy(numbers, TUNINGS + SEAT * i, &row);
+        copy(numbers, seat_place(i), &row);
     }
 }
 

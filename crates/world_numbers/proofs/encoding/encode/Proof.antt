@@ -1,5 +1,5 @@
 -- `world_numbers::encoding::encode` meets its contract. Assumes nothing.
-use Prim.Native.Nat.{_+_, _*_, _-_, _≤_}
+use Prim.Native.Nat.{ℕ, _+_, _*_, _-_, _≤_}
 use mathlib.Core.Path.{_≡_, sym, ap, ap₂, _∙_}
 use mathlib.Core.List.{List, _++_, append-nil}
 use native.Mathlib.Omega.{arith}
@@ -7,6 +7,7 @@ use lib.IntN.{ℤ}
 use lib.ListN.{length, take, length-map}
 use lib.Seq.{take-all}
 use borrow.Author.Needs.{needs}
+use Rattle.base_rows.specs.Put.{put}
 use Rattle.base_rows.proofs.Puts.{take-put}
 use Rattle.character.specs.Tick.{seats}
 use Rattle.character.specs.declared.Slot.{Slot}
@@ -44,11 +45,8 @@ array-copy-out-seat-numbers c = search needs
 seat-numbers-requires : tie.Need-seat-numbers-requires Inv-loop μ-loop
 seat-numbers-requires c κs = search needs
 
-mul-copy : tie.Need-mul-copy Inv-loop μ-loop
-mul-copy c = search needs
-
-add-copy : tie.Need-add-copy Inv-loop μ-loop
-add-copy c = search needs
+seat-place-requires : tie.Need-seat-place-requires Inv-loop μ-loop
+seat-place-requires c κs = search needs
 
 slice-aggregate-copy-2 : tie.Need-slice-aggregate-copy-2 Inv-loop μ-loop
 slice-aggregate-copy-2 c = search needs
@@ -65,12 +63,13 @@ loop-less c = search needs
 loop-again : tie.Need-loop-again Inv-loop μ-loop
 loop-again c =
     let k = c .before .copy2 in
-    let r = c .before .before .before .before .seat-numbers in
-    let l = c .before .before .before .before .before .before .before in
+    let p = c .before .before .before .seat-place in
+    let r = c .before .before .before .before .before .seat-numbers in
+    let l = c .before .before .before .before .before .before .before .before in
     let i = l .loop .i in
-    let s = c .before .before .before .before .before .before .before .before .before .before .before .before .before .before in
+    let s = l .before .before .before .before .before .before .before in
     let m : length (s .args .world .slots) ≡ seats = slots-long s in
-    (omega arith, k .kept .0 ∙ l .loop .inv .1, next-row seatNumbers seatCount seat-long (take tuningCount (c .before .before .before .before .before .before .before .before .before .copy .last .0)) (s .args .world .slots) _ i (tuningCount + seatCount * i) (tuningCount + seatCount * (i + 1)) (l .loop .numbers) (k .last .0) (r .result) (omega arith) (omega arith) (l .loop .inv .2) (r .ensures) (k .ensures) (omega arith))
+    (omega arith, k .kept .0 ∙ l .loop .inv .1, next-row seatNumbers seatCount seat-long (take tuningCount (l .before .before .copy .last .0)) (s .args .world .slots) _ i (tuningCount + seatCount * i) (tuningCount + seatCount * (i + 1)) (l .loop .numbers) (k .last .0) (r .result) (omega arith) (omega arith) (l .loop .inv .2) (r .ensures) (k .ensures ∙ ap (λ (at : ℕ). put (l .loop .numbers) at (r .result)) (p .ensures)) (omega arith))
 
 same-length : tie.Need-same-length Inv-loop μ-loop
 same-length c = search needs
@@ -101,8 +100,7 @@ encode-spec =
     mul-seat-numbers
     array-copy-out-seat-numbers
     seat-numbers-requires
-    mul-copy
-    add-copy
+    seat-place-requires
     slice-aggregate-copy-2
     copy-requires-2
     add-i
