@@ -6,6 +6,8 @@ mod hooking;
 
 pub use flying::Way;
 pub use hook::CharacterId;
+pub use hook::HOOK_ATTACHED_GRABBED;
+pub use hook::HOOK_RETRACTED;
 pub use hook::Hook;
 pub use hooking::Nearest;
 pub use hooking::nearer;

@@ -1,66 +1,87 @@
--- What calls leave in buffers, by the tests that decide it. Assumes nothing.
-use Prim.Native.Nat.{ℕ}
+-- What calls leave in a world's buffer, by the tests that decide it. Assumes nothing.
+use Prim.Native.Nat.{ℕ, _+_, _≤_, _<_}
+use mathlib.Core.Bool.{Bool, true, false}
 use mathlib.Core.List.{List}
-use mathlib.Core.Path.{_≡_, sym, ap, _∙_}
+use mathlib.Core.Path.{_≡_}
 use lib.IntN.{ℤ}
-use lib.ListN.{length}
-use borrow.Author.Tests.{eq-eqb, ne-eqb}
-use Rattle.game_refusals.specs.Refusals.{badLength}
+use lib.ListN.{length, set}
+use borrow.Author.Tests.{eq-eqb, ne-eqb, lt-ltb, le-ltb}
+use Rattle.base_rows.specs.Put.{put}
+use Rattle.num_vec2.specs.declared.vec2.{vec2}
+use Rattle.game_refusals.specs.Refusals.{badMap, badId, badTuning, outOfReach, notClear, isPresent, isAbsent, badLength}
+use Rattle.map_tiles.specs.Map.{isMap}
 use Rattle.map_tiles.specs.declared.tiles.Sides.{Sides}
+use Rattle.map_tiles.specs.Box.{checkBox, characterBox}
+use Rattle.game_tuning.specs.Tuning.{tuningCount}
+use Rattle.character.specs.Slot.{joinedSlot}
 use Rattle.character.specs.Tick.{seats}
-use Rattle.world.specs.Step.{step}
-use Rattle.world.specs.declared.Answer.{Answer}
-use Rattle.world.specs.declared.Stepped.{Stepped}
-use Rattle.world.specs.declared.World.{World}
-use Rattle.world_numbers.specs.Encoding.{worldCount, recordsCount, encoding, recordsEncoding}
-use Rattle.world_numbers.specs.Decoding.{decoding}
-use Rattle.world_buffers.specs.Buffers.{Left, StepBuffers, LeftByStep, keep, callIn, toldIn, keepStep, stepIn}
+use Rattle.world.specs.Calls.{placeOf, inReach, pointOf}
+use Rattle.world_numbers.specs.Encoding.{worldCount, seatPlace, presentNumbers}
+use Rattle.world_buffers.specs.Buffers.{Left, refusedIn, acceptedIn, ofWorld, tuneIn, isThere, atSeat, joinAtIn, joinIn}
 
--- ---- a call's answer
-module _ (l : List ℤ) (a : Answer) where
-  pub accepted-kept : (m : List ℤ) → a .number ≡ 0 → m ≡ encoding (a .world) → keep l a ≡ record { number = 0; world = m }
-  unfolding keep
-  accepted-kept m z e = rw (z, e)
+-- ---- the length
+module _ (l : List ℤ) (a : Left) where
+  pub no-world : (length l ≡ worldCount → ⊥) → ofWorld l a ≡ refusedIn l badLength
+  no-world h = rw (ne-eqb (length l) worldCount h)
 
-  pub refused-kept : (a .number ≡ 0 → ⊥) → keep l a ≡ record { number = a .number; world = l }
-  unfolding keep
-  refused-kept z = rw (ne-eqb (a .number) 0 z)
+  pub a-world : length l ≡ worldCount → ofWorld l a ≡ a
+  a-world h = rw (eq-eqb (length l) worldCount h)
 
-module _ (call : World → Answer) (l : List ℤ) where
-  pub wrong-length : (length l ≡ worldCount → ⊥) → callIn call l ≡ record { number = badLength; world = l }
-  unfolding callIn
-  wrong-length h = rw (ne-eqb (length l) worldCount h)
+-- ---- a tuning
+module _ (l : List ℤ) (index z : ℤ) (k : ℕ) (h : length l ≡ worldCount) (p : k ≡ placeOf tuningCount index) where
+  pub not-tuned : tuningCount ≤ k → tuneIn l index z ≡ refusedIn l badTuning
+  unfolding tuneIn
+  not-tuned g = rw (eq-eqb (length l) worldCount h, ← p, le-ltb k tuningCount g)
 
-  pub right-length : (a : Answer) (e : Left) → length l ≡ worldCount → a ≡ call (decoding seats l) → keep l a ≡ e → callIn call l ≡ e
-  unfolding callIn
-  right-length a e h q k = rw (eq-eqb (length l) worldCount h) (ap (keep l) (sym q) ∙ k)
+  pub tuned : (m : List ℤ) → k < tuningCount → m ≡ set l k z → tuneIn l index z ≡ acceptedIn m
+  unfolding tuneIn
+  tuned m g e = rw (eq-eqb (length l) worldCount h, ← p, lt-ltb k tuningCount g, e)
 
--- ---- a step's
-pub told-is : (a : Stepped) (rs is : List ℤ) → rs ≡ recordsEncoding (a .records) → is ≡ a .removed .ids → record { records = rs; removed = is; count = a .removed .count } ≡ toldIn a
-told-is a rs is e f = rw (e, f)
+-- ---- the seat k, which an id names
+module _ (l : List ℤ) (id : ℤ) (next : ℕ → List ℤ) (k : ℕ) (h : length l ≡ worldCount) (p : k ≡ placeOf seats id) where
+  pub no-seat : seats ≤ k → atSeat l id next ≡ refusedIn l badId
+  no-seat g = rw (eq-eqb (length l) worldCount h, ← p, le-ltb k seats g)
 
-module _ (l : List ℤ) (b : StepBuffers) (a : Stepped) where
-  pub accepted-step-kept : (m : List ℤ) (d : StepBuffers) → a .number ≡ 0 → m ≡ encoding (a .world) → d ≡ toldIn a → keepStep l b a ≡ record { number = 0; world = m; told = d }
-  unfolding keepStep
-  accepted-step-kept m d z e f = rw (z, e, f)
+  pub nobody : k < seats → isThere l k ≡ false → atSeat l id next ≡ refusedIn l isAbsent
+  nobody g e = rw (eq-eqb (length l) worldCount h, ← p, lt-ltb k seats g, e)
 
-  pub refused-step-kept : (a .number ≡ 0 → ⊥) → keepStep l b a ≡ record { number = a .number; world = l; told = b }
-  unfolding keepStep
-  refused-step-kept z = rw (ne-eqb (a .number) 0 z)
+  pub somebody : (m : List ℤ) → k < seats → isThere l k ≡ true → m ≡ next k → atSeat l id next ≡ acceptedIn m
+  somebody m g e q = rw (eq-eqb (length l) worldCount h, ← p, lt-ltb k seats g, e, q)
 
-module _ (s : Sides) (ts : List ℕ) (l : List ℤ) (b : StepBuffers) where
-  pub wrong-world : (length l ≡ worldCount → ⊥) → stepIn s ts l b ≡ record { number = badLength; world = l; told = b }
-  unfolding stepIn
-  wrong-world h = rw (ne-eqb (length l) worldCount h)
+-- ---- join
+module _ (s : Sides) (ts : List ℕ) (l : List ℤ) (k : ℕ) (p : vec2) where
+  pub blocked : checkBox s ts p characterBox ≡ true → joinAtIn s ts l k p ≡ refusedIn l notClear
+  unfolding joinAtIn
+  blocked e = rw e
 
-  pub wrong-records : length l ≡ worldCount → (length (b .records) ≡ recordsCount → ⊥) → stepIn s ts l b ≡ record { number = badLength; world = l; told = b }
-  unfolding stepIn
-  wrong-records h g = rw (eq-eqb (length l) worldCount h, ne-eqb (length (b .records)) recordsCount g)
+  module _ (e : checkBox s ts p characterBox ≡ false) where
+    pub taken : isThere l k ≡ true → joinAtIn s ts l k p ≡ refusedIn l isPresent
+    unfolding joinAtIn
+    taken f = rw (e, f)
 
-  pub wrong-removed : length l ≡ worldCount → length (b .records) ≡ recordsCount → (length (b .removed) ≡ seats → ⊥) → stepIn s ts l b ≡ record { number = badLength; world = l; told = b }
-  unfolding stepIn
-  wrong-removed h g f = rw (eq-eqb (length l) worldCount h, eq-eqb (length (b .records)) recordsCount g, ne-eqb (length (b .removed)) seats f)
+    pub seated : (m : List ℤ) → isThere l k ≡ false → m ≡ put l (seatPlace k) (presentNumbers (joinedSlot p)) → joinAtIn s ts l k p ≡ acceptedIn m
+    unfolding joinAtIn
+    seated m f q = rw (e, f, q)
 
-  pub right-lengths : (a : Stepped) (e : LeftByStep) → length l ≡ worldCount → length (b .records) ≡ recordsCount → length (b .removed) ≡ seats → a ≡ step seats (decoding seats l) s ts → keepStep l b a ≡ e → stepIn s ts l b ≡ e
-  unfolding stepIn
-  right-lengths a e h g f q k = rw (eq-eqb (length l) worldCount h, eq-eqb (length (b .records)) recordsCount g, eq-eqb (length (b .removed)) seats f) (ap (keepStep l b) (sym q) ∙ k)
+module _ (s : Sides) (ts : List ℕ) (l : List ℤ) (id x y : ℤ) (h : length l ≡ worldCount) where
+  pub no-map : isMap s ts ≡ false → joinIn s ts l id x y ≡ refusedIn l badMap
+  unfolding joinIn
+  no-map e = rw (eq-eqb (length l) worldCount h, e)
+
+  module _ (e : isMap s ts ≡ true) (k : ℕ) (p : k ≡ placeOf seats id) where
+    pub join-nowhere : seats ≤ k → joinIn s ts l id x y ≡ refusedIn l badId
+    unfolding joinIn
+    join-nowhere g = rw (eq-eqb (length l) worldCount h, e, ← p, le-ltb k seats g)
+
+    module _ (g : k < seats) where
+      pub x-far : inReach x ≡ false → joinIn s ts l id x y ≡ refusedIn l outOfReach
+      unfolding joinIn
+      x-far f = rw (eq-eqb (length l) worldCount h, e, ← p, lt-ltb k seats g, f)
+
+      pub y-far : inReach x ≡ true → inReach y ≡ false → joinIn s ts l id x y ≡ refusedIn l outOfReach
+      unfolding joinIn
+      y-far f j = rw (eq-eqb (length l) worldCount h, e, ← p, lt-ltb k seats g, f, j)
+
+      pub in-reach : (a : Left) → inReach x ≡ true → inReach y ≡ true → joinAtIn s ts l k (pointOf x y) ≡ a → joinIn s ts l id x y ≡ a
+      unfolding joinIn
+      in-reach a f j q = rw (eq-eqb (length l) worldCount h, e, ← p, lt-ltb k seats g, f, j) q

@@ -1,4 +1,8 @@
 pub mod Answers
-pub mod Follows
-pub mod Reached
+pub mod StepAnswers
 pub mod Readings
+pub mod SeatTurns
+pub mod Released
+pub mod Stands
+pub mod Refusals
+pub mod Reached

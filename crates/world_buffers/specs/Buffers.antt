@@ -1,61 +1,81 @@
--- Calls on a world that is kept as the numbers of a buffer: what each answers, and what it leaves in the buffers. Definitions only.
-use Prim.Native.Nat.{ℕ}
+-- Calls on a world that is kept as the numbers of a buffer: what each answers, and the numbers that it leaves. A call writes what it changes and nothing
+-- else; a refused one leaves every number as it was. Definitions only.
+use Prim.Native.Nat.{ℕ, _+_}
 use mathlib.Core.Bool.{Bool, cond, _&&_}
 use mathlib.Core.List.{List}
-use lib.Dec.{eqb}
+use lib.Dec.{eqb, ltb}
 use lib.IntN.{ℤ}
-use lib.ListN.{length}
-use Rattle.game_refusals.specs.Refusals.{badLength}
+use lib.ListN.{length, set}
+use Rattle.base_rows.specs.Put.{put}
+use Rattle.num_vec2.specs.declared.vec2.{vec2}
+use Rattle.game_refusals.specs.Refusals.{badMap, badId, badTuning, outOfReach, notClear, isPresent, isAbsent, badLength}
+use Rattle.map_tiles.specs.Map.{isMap}
 use Rattle.map_tiles.specs.declared.tiles.Sides.{Sides}
+use Rattle.map_tiles.specs.Box.{checkBox, characterBox}
+use Rattle.game_records.specs.Numbers.{numberAt, inputNumbers}
+use Rattle.game_records.specs.declared.PlayerInput.{PlayerInput}
+use Rattle.game_tuning.specs.Tuning.{tuningCount}
+use Rattle.character.specs.Slot.{joinedSlot}
 use Rattle.character.specs.Tick.{seats}
-use Rattle.world.specs.Step.{step}
-use Rattle.world.specs.declared.Answer.{Answer}
-use Rattle.world.specs.declared.Stepped.{Stepped}
-use Rattle.world.specs.declared.World.{World}
-use Rattle.world_numbers.specs.Encoding.{worldCount, recordsCount, encoding, recordsEncoding}
-use Rattle.world_numbers.specs.Decoding.{decoding}
+use Rattle.world.specs.World.{fresh}
+use Rattle.world.specs.Calls.{placeOf, inReach, pointOf}
+use Rattle.world_numbers.specs.Encoding.{recordCount, worldCount, seatPlace, presentNumbers, encoding}
+use Rattle.world_numbers.specs.Decoding.{isSet}
+use Rattle.world_buffers.specs.Leaving.{vacateIn}
 
 -- whether a buffer has n numbers
 abbrev pub has : ℕ → List ℤ → Bool
 has n l = eqb (length l) n
-
--- ---- calls that change a world
 
 -- a call's number, and the numbers of the world that it leaves
 pub record Left : Type 0 where
   pub number : ℕ
   pub world : List ℤ
 
--- an accepted call leaves the next world, a refused one every number as it was
-unfoldable pub keep : List ℤ → Answer → Left
-keep l a = record { number = a .number; world = cond (eqb (a .number) 0) (encoding (a .world)) l }
+-- a refusal's number, and the numbers as they were
+abbrev pub refusedIn : List ℤ → ℕ → Left
+refusedIn l k = record { number = k; world = l }
 
--- a call on the world that the numbers stand for
-unfoldable pub callIn : (World → Answer) → List ℤ → Left
-callIn call l = cond (has worldCount l) (keep l (call (decoding seats l))) (record { number = badLength; world = l })
+abbrev pub acceptedIn : List ℤ → Left
+acceptedIn l = record { number = 0; world = l }
 
--- ---- step
+-- a call on the numbers of a world: 17 where they are not as many
+abbrev pub ofWorld : List ℤ → Left → Left
+ofWorld l a = cond (has worldCount l) a (refusedIn l badLength)
 
--- what a step is lent to tell: a buffer for the records, one for the ids of who is removed, and a place for their count
-pub record StepBuffers : Type 0 where
-  pub records : List ℤ
-  pub removed : List ℤ
-  pub count : ℕ
+unfoldable pub freshIn : List ℤ → Left
+freshIn l = ofWorld l (acceptedIn (encoding (fresh seats)))
 
--- its number, and what it leaves in the world's buffer and in those
-pub record LeftByStep : Type 0 where
-  pub number : ℕ
-  pub world : List ℤ
-  pub told : StepBuffers
+-- one number
+unfoldable pub tuneIn : List ℤ → ℤ → ℤ → Left
+tuneIn l index z = let k = placeOf tuningCount index in ofWorld l (cond (ltb k tuningCount) (acceptedIn (set l k z)) (refusedIn l badTuning))
 
--- the records, the removed ids with zeros behind them, and how many they are
-abbrev pub toldIn : Stepped → StepBuffers
-toldIn a = record { records = recordsEncoding (a .records); removed = a .removed .ids; count = a .removed .count }
+-- somebody is at the seat k
+abbrev pub isThere : List ℤ → ℕ → Bool
+isThere l k = isSet (numberAt l (seatPlace k))
 
--- an accepted step leaves the next world and what it tells, a refused one everything as it was
-unfoldable pub keepStep : List ℤ → StepBuffers → Stepped → LeftByStep
-keepStep l b a = record { number = a .number; world = cond (eqb (a .number) 0) (encoding (a .world)) l; told = cond (eqb (a .number) 0) (toldIn a) b }
+-- what leave and input do at a seat: 2 where there is none, 8 where nobody is there
+abbrev pub atSeat : List ℤ → ℤ → (ℕ → List ℤ) → Left
+atSeat l id next = let k = placeOf seats id in ofWorld l (cond (ltb k seats) (cond (isThere l k) (acceptedIn (next k)) (refusedIn l isAbsent)) (refusedIn l badId))
 
--- a step of the world that the numbers l stand for, which is told in b
-unfoldable pub stepIn : Sides → List ℕ → List ℤ → StepBuffers → LeftByStep
-stepIn s ts l b = cond (has worldCount l && has recordsCount (b .records) && has seats (b .removed)) (keepStep l b (step seats (decoding seats l) s ts)) (record { number = badLength; world = l; told = b })
+-- the five numbers of the input
+unfoldable pub inputIn : List ℤ → ℤ → PlayerInput → Left
+inputIn l id i = atSeat l id (λ k. put l (seatPlace k + recordCount) (inputNumbers i))
+
+-- the seat, and the hooks that it releases
+unfoldable pub leaveIn : List ℤ → ℤ → Left
+leaveIn l id = atSeat l id (vacateIn l)
+
+-- a join at the seat k: 5 where the box isn't clear, 7 where somebody is there
+unfoldable pub joinAtIn : Sides → List ℕ → List ℤ → ℕ → vec2 → Left
+joinAtIn s ts l k p =
+    cond (checkBox s ts p characterBox) (refusedIn l notClear) (cond (isThere l k) (refusedIn l isPresent) (acceptedIn (put l (seatPlace k) (presentNumbers (joinedSlot p)))))
+
+-- 1 where the map is none, 2 where the id has no seat, 4 where x or y is out of reach
+unfoldable pub joinIn : Sides → List ℕ → List ℤ → ℤ → ℤ → ℤ → Left
+joinIn s ts l id x y =
+    let k = placeOf seats id in
+    ofWorld l (
+    cond (isMap s ts)
+    (cond (ltb k seats) (cond (inReach x && inReach y) (joinAtIn s ts l k (pointOf x y)) (refusedIn l outOfReach)) (refusedIn l badId))
+    (refusedIn l badMap))

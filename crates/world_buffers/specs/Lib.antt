@@ -1,3 +1,5 @@
 pub mod Buffers
+pub mod Leaving
+pub mod Stepping
 pub mod Following
 pub mod Readers

@@ -1,45 +1,46 @@
-// The calls on a world that is kept as the numbers of a lent buffer. A refused call leaves every number of every buffer as it was.
+// The calls but step on a world that is kept as the numbers of a lent buffer: each writes what it changes and nothing else. A refused call leaves every
+// number as it was.
+use crate::leaving::vacate_in;
 use base_rows::copy;
 use character::SEATS;
+use character::Slot;
+use game_constants::CHARACTER_SIZE;
 use game_records::PlayerInput;
+use game_records::input_numbers;
+use game_refusals::ABSENT;
+use game_refusals::BAD_ID;
 use game_refusals::BAD_LENGTH;
+use game_refusals::BAD_MAP;
+use game_refusals::BAD_TUNING;
+use game_refusals::NOT_CLEAR;
+use game_refusals::OUT_OF_REACH;
+use game_refusals::PRESENT;
+use game_tuning::TUNINGS;
 use map_tiles::Sides;
-use world::Answer;
-use world::Stepped;
+use map_tiles::check_box;
+use map_tiles::is_map;
+use num_vec2::vec2;
 use world_calls::fresh;
-use world_calls::input;
-use world_calls::join;
-use world_calls::leave;
-use world_calls::tune;
-use world_numbers::RECORDS;
+use world_calls::in_reach;
+use world_calls::place_of;
+use world_calls::point_of;
+use world_numbers::RECORD;
 use world_numbers::WORLD;
-use world_numbers::decode;
 use world_numbers::encode;
-use world_numbers::encode_records;
-use world_step::step;
+use world_numbers::is_set;
+use world_numbers::present_numbers;
+use world_numbers::seat_place;
 ghost use mathlib.Core.Path.{_≡_};
+ghost use Prim.Native.Nat.{_<_};
+ghost use lib.Dec.{T};
 ghost use lib.ListN.{length};
+ghost use Rattle.map_tiles.specs.Map.{isMap};
 ghost use Rattle.character.specs.Tick.{seats};
-ghost use Rattle.world.specs.World.{fresh};
-ghost use Rattle.world.specs.Calls.{accepted, join, leave, input, tune};
-ghost use Rattle.world_numbers.specs.Encoding.{worldCount, recordsCount};
-ghost use Rattle.world_buffers.specs.Buffers.{keep, callIn, keepStep, stepIn};
-
-// Leaves the next world in the buffer where the call was accepted.
-pub fn keep(answer: Answer, world: &mut [i32]) -> u32
-    requires { ⌜ length (now world) ≡ worldCount ⌝ }
-    ensures { λ r. ⌜ keep (now (world .entry)) answer ≡ record { number = r; world = now (world .exit) } ⌝ }
-{
-    if answer.number == 0 {
-        let next = answer.world;
-        encode(next, world);
-        return 0;
-    }
-    answer.number
-}
+ghost use Rattle.world_numbers.specs.Encoding.{worldCount};
+ghost use Rattle.world_buffers.specs.Buffers.{freshIn, tuneIn, inputIn, leaveIn, joinAtIn, joinIn};
 
 pub fn fresh_in(world: &mut [i32]) -> u32
-    ensures { λ r. ⌜ callIn (λ _. accepted (fresh seats)) (now (world .entry)) ≡ record { number = r; world = now (world .exit) } ⌝ }
+    ensures { λ r. ⌜ freshIn (now (world .entry)) ≡ record { number = r; world = now (world .exit) } ⌝ }
 {
     if world.len() != WORLD {
         return BAD_LENGTH;
@@ -48,90 +49,88 @@ pub fn fresh_in(world: &mut [i32]) -> u32
     0
 }
 
-pub fn join_in(world: &mut [i32], sides: Sides, tiles: &[u8], id: i32, x: i32, y: i32) -> u32
-    ensures { λ r. ⌜ callIn (λ w. join seats w sides (now (tiles .entry)) id x y) (now (world .entry)) ≡ record { number = r; world = now (world .exit) } ⌝ }
+pub fn tune_in(world: &mut [i32], index: i32, value: i32) -> u32
+    ensures { λ r. ⌜ tuneIn (now (world .entry)) index value ≡ record { number = r; world = now (world .exit) } ⌝ }
 {
     if world.len() != WORLD {
         return BAD_LENGTH;
     }
-    let answer = join(decode(world), sides, tiles, id, x, y);
-    keep(answer, world)
-}
-
-pub fn leave_in(world: &mut [i32], id: i32) -> u32
-    ensures { λ r. ⌜ callIn (λ w. leave seats w id) (now (world .entry)) ≡ record { number = r; world = now (world .exit) } ⌝ }
-{
-    if world.len() != WORLD {
-        return BAD_LENGTH;
+    let at = place_of(TUNINGS, index);
+    if at < TUNINGS {
+        world[at] = value;
+        return 0;
     }
-    let answer = leave(decode(world), id);
-    keep(answer, world)
+    BAD_TUNING
 }
 
 pub fn input_in(world: &mut [i32], id: i32, values: PlayerInput) -> u32
-    ensures { λ r. ⌜ callIn (λ w. input seats w id values) (now (world .entry)) ≡ record { number = r; world = now (world .exit) } ⌝ }
+    ensures { λ r. ⌜ inputIn (now (world .entry)) id values ≡ record { number = r; world = now (world .exit) } ⌝ }
 {
     if world.len() != WORLD {
         return BAD_LENGTH;
     }
-    let answer = input(decode(world), id, values);
-    keep(answer, world)
+    let at = place_of(SEATS, id);
+    if at < SEATS {
+        let place = seat_place(at);
+        if is_set(world[place]) {
+            let row = input_numbers(values);
+            copy(world, place + RECORD, &row);
+            return 0;
+        }
+        return ABSENT;
+    }
+    BAD_ID
 }
 
-pub fn tune_in(world: &mut [i32], index: i32, value: i32) -> u32
-    ensures { λ r. ⌜ callIn (λ w. tune w index value) (now (world .entry)) ≡ record { number = r; world = now (world .exit) } ⌝ }
+pub fn leave_in(world: &mut [i32], id: i32) -> u32
+    ensures { λ r. ⌜ leaveIn (now (world .entry)) id ≡ record { number = r; world = now (world .exit) } ⌝ }
 {
     if world.len() != WORLD {
         return BAD_LENGTH;
     }
-    let answer = tune(decode(world), index, value);
-    keep(answer, world)
-}
-
-// Leaves the next world, the records and who is removed in the buffers where the step was accepted.
-pub fn keep_step(
-    stepped: Stepped,
-    world: &mut [i32],
-    records: &mut [i32],
-    removed: &mut [i32],
-    count: &mut usize,
-) -> u32
-    requires { ⌜ (length (now world) ≡ worldCount) × (length (now records) ≡ recordsCount) × (length (now removed) ≡ seats) ⌝ }
-    ensures { λ r. ⌜ keepStep (now (world .entry)) (record { records = now (records .entry); removed = now (removed .entry); count = now (count .entry) }) stepped ≡ record { number = r; world = now (world .exit); told = record { records = now (records .exit); removed = now (removed .exit); count = now (count .exit) } } ⌝ }
-{
-    if stepped.number == 0 {
-        let next = stepped.world;
-        let published = stepped.records;
-        let gone = stepped.removed;
-        let ids = gone.ids;
-        encode(next, world);
-        encode_records(published, records);
-        copy(removed, 0, &ids);
-        *count = gone.count;
-        return 0;
+    let at = place_of(SEATS, id);
+    if at < SEATS {
+        if is_set(world[seat_place(at)]) {
+            vacate_in(world, at);
+            return 0;
+        }
+        return ABSENT;
     }
-    stepped.number
+    BAD_ID
 }
 
-pub fn step_in(
-    world: &mut [i32],
-    sides: Sides,
-    tiles: &[u8],
-    records: &mut [i32],
-    removed: &mut [i32],
-    count: &mut usize,
-) -> u32
-    ensures { λ r. ⌜ stepIn sides (now (tiles .entry)) (now (world .entry)) (record { records = now (records .entry); removed = now (removed .entry); count = now (count .entry) }) ≡ record { number = r; world = now (world .exit); told = record { records = now (records .exit); removed = now (removed .exit); count = now (count .exit) } } ⌝ }
+pub fn join_in(world: &mut [i32], sides: Sides, tiles: &[u8], id: i32, x: i32, y: i32) -> u32
+    ensures { λ r. ⌜ joinIn sides (now (tiles .entry)) (now (world .entry)) id x y ≡ record { number = r; world = now (world .exit) } ⌝ }
 {
     if world.len() != WORLD {
         return BAD_LENGTH;
     }
-    if records.len() != RECORDS {
-        return BAD_LENGTH;
+    if is_map(sides, tiles) {
+        let at = place_of(SEATS, id);
+        if at < SEATS {
+            if in_reach(x) && in_reach(y) {
+                return join_at_in(world, sides, tiles, at, point_of(x, y));
+            }
+            return OUT_OF_REACH;
+        }
+        return BAD_ID;
     }
-    if removed.len() != SEATS {
-        return BAD_LENGTH;
+    BAD_MAP
+}
+
+fn join_at_in(world: &mut [i32], sides: Sides, tiles: &[u8], at: usize, pos: vec2) -> u32
+    requires { ⌜ (length (now world) ≡ worldCount) × T (isMap sides (now tiles)) × (at < seats) ⌝ }
+    ensures { λ r. ⌜ joinAtIn sides (now (tiles .entry)) (now (world .entry)) at pos ≡ record { number = r; world = now (world .exit) } ⌝ }
+{
+    let box_ = vec2::new(CHARACTER_SIZE, CHARACTER_SIZE);
+    if check_box(sides, tiles, pos, box_) {
+        return NOT_CLEAR;
     }
-    let stepped = step(decode(world), sides, tiles);
-    keep_step(stepped, world, records, removed, count)
+    let place = seat_place(at);
+    if is_set(world[place]) {
+        return PRESENT;
+    }
+    let row = present_numbers(Slot::joined(pos));
+    copy(world, place, &row);
+    0
 }

@@ -23,12 +23,19 @@ ghost use lib.Dec.{T};
 ghost use Prim.Native.Nat.{_<_};
 ghost use Rattle.map_tiles.specs.Map.{isMap};
 ghost use Rattle.character.specs.Tick.{seats};
-ghost use Rattle.world.specs.Calls.{inReach, joinAt, join};
+ghost use Rattle.world.specs.Calls.{inReach, pointOf, joinAt, join};
 
-fn in_reach(z: i32) -> bool
+pub fn in_reach(z: i32) -> bool
     ensures { λ r. ⌜ r ≡ inReach z ⌝ }
 {
     -100000 <= z && z <= 100000
+}
+
+// Whole coordinates as a pair of floats.
+pub fn point_of(x: i32, y: i32) -> vec2
+    ensures { λ r. ⌜ r ≡ pointOf x y ⌝ }
+{
+    vec2::new(i32_to_f32(x), i32_to_f32(y))
 }
 
 pub fn join(world: World, sides: Sides, tiles: &[u8], id: i32, x: i32, y: i32) -> Answer
@@ -38,8 +45,7 @@ pub fn join(world: World, sides: Sides, tiles: &[u8], id: i32, x: i32, y: i32) -
         let at = place_of(SEATS, id);
         if at < SEATS {
             if in_reach(x) && in_reach(y) {
-                let pos = vec2::new(i32_to_f32(x), i32_to_f32(y));
-                return join_at(world, sides, tiles, at, pos);
+                return join_at(world, sides, tiles, at, point_of(x, y));
             }
             return refused(world, OUT_OF_REACH);
         }

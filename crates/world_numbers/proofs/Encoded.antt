@@ -37,7 +37,7 @@ pub record Kept (s : Slot) : Type 0 where
   pub nobody : s .present ≡ false → s ≡ emptySlot
 
 -- a representable character has a record, which is read as it is
-ticks-fit : (c : Character) → Representable c → tickOf (c .hook) ≤ mostTick
+pub ticks-fit : (c : Character) → Representable c → tickOf (c .hook) ≤ mostTick
 unfolding quantize toNet
 ticks-fit c r = go (leb (tickOf (c .hook)) mostTick) refl
   where

@@ -5,7 +5,7 @@ use Rattle.character.specs.Tick.{seats}
 use borrow.Author.Tests.{lt-ltb, le-ltb}
 use mir.Facts.{toZ-ofZ}
 use mathlib.Core.Path.{_≡_, sym, ap, _∙_, subst}
-use Rattle.world.specs.Calls.{placeOf, inReach, pointOf, join}
+use Rattle.world.specs.Calls.{placeOf, inReach, join}
 use borrow.Author.Needs.{needs}
 use Rattle.world_calls.proofs.joins.join.Statement.{statement}
 use Rattle.world_calls.proofs.joins.join.Tie as tie
@@ -22,26 +22,20 @@ in-reach-requires c κs = search needs
 in-reach-requires-2 : tie.Need-in-reach-requires-2
 in-reach-requires-2 c κs = search needs
 
-i32-to-f32-requires : tie.Need-i32-to-f32-requires
-i32-to-f32-requires c κs = search needs
-
-i32-to-f32-requires-2 : tie.Need-i32-to-f32-requires-2
-i32-to-f32-requires-2 c κs = search needs
-
-new-requires : tie.Need-new-requires
-new-requires c κs = search needs
+point-of-requires : tie.Need-point-of-requires
+point-of-requires c κs = search needs
 
 join-at-requires : tie.Need-join-at-requires
-join-at-requires c κs = (subst T (sym (c .before .before .before .before .before .before .before .before .before .if1 .taken) ∙ c .before .before .before .before .before .before .before .before .before .before .is-map .ensures) tt, c .before .before .before .before .before .before .before .if2 .taken)
+join-at-requires c κs = (subst T (sym (c .before .before .before .before .before .before .before .if1 .taken) ∙ c .before .before .before .before .before .before .before .before .is-map .ensures) tt, c .before .before .before .before .before .if2 .taken)
 
 returns : tie.Need-returns
-unfolding join pointOf
+unfolding join
 returns c =
-    let a = c .before .before .before .before .before .before .before .before .before .before .before .before .before in
-    let p : c .before .before .before .before .before .before .before .before .before .place-of .result ≡ placeOf seats (a .args .id) = c .before .before .before .before .before .before .before .before .before .place-of .ensures ∙ ap (placeOf seats) (toZ-ofZ (a .fits .id)) in
-    let x : c .before .before .before .before .before .before .before .in-reach .result ≡ inReach (a .args .x) = c .before .before .before .before .before .before .before .in-reach .ensures ∙ ap inReach (toZ-ofZ (a .fits .x)) in
-    let y : c .before .before .before .before .before .in-reach2 .result ≡ inReach (a .args .y) = c .before .before .before .before .before .in-reach2 .ensures ∙ ap inReach (toZ-ofZ (a .fits .y)) in
-    simp (← c .before .before .before .before .before .before .before .before .before .before .before .is-map .ensures, c .before .before .before .before .before .before .before .before .before .before .if1 .taken, ← p, lt-ltb _ _ (c .before .before .before .before .before .before .before .before .if2 .taken), ← x, c .before .before .before .before .before .before .if3 .taken, ← y, c .before .before .before .before .if4 .taken, c .join-at .ensures, c .before .new .ensures, c .before .before .i32-to-f322 .ensures, c .before .before .before .i32-to-f32 .ensures, toZ-ofZ (a .fits .x), toZ-ofZ (a .fits .y))
+    let a = c .before .before .before .before .before .before .before .before .before .before .before in
+    let p : c .before .before .before .before .before .before .before .place-of .result ≡ placeOf seats (a .args .id) = c .before .before .before .before .before .before .before .place-of .ensures ∙ ap (placeOf seats) (toZ-ofZ (a .fits .id)) in
+    let x : c .before .before .before .before .before .in-reach .result ≡ inReach (a .args .x) = c .before .before .before .before .before .in-reach .ensures ∙ ap inReach (toZ-ofZ (a .fits .x)) in
+    let y : c .before .before .before .in-reach2 .result ≡ inReach (a .args .y) = c .before .before .before .in-reach2 .ensures ∙ ap inReach (toZ-ofZ (a .fits .y)) in
+    simp (← c .before .before .before .before .before .before .before .before .before .is-map .ensures, c .before .before .before .before .before .before .before .before .if1 .taken, ← p, lt-ltb _ _ (c .before .before .before .before .before .before .if2 .taken), ← x, c .before .before .before .before .if3 .taken, ← y, c .before .before .if4 .taken, c .join-at .ensures, c .before .point-of .ensures, toZ-ofZ (a .fits .x), toZ-ofZ (a .fits .y))
 
 refused-requires : tie.Need-refused-requires
 refused-requires c κs = search needs
@@ -72,7 +66,7 @@ refused-requires-3 : tie.Need-refused-requires-3
 refused-requires-3 c κs = search needs
 
 returns-4 : tie.Need-returns-4
-unfolding join pointOf
+unfolding join
 returns-4 c = simp (← c .before .before .is-map .ensures, c .before .if1 .left, ← c .refused3 .ensures)
 
 pub join-spec : {M : Type 1} → statement M
@@ -83,9 +77,7 @@ join-spec =
     place-of-requires
     in-reach-requires
     in-reach-requires-2
-    i32-to-f32-requires
-    i32-to-f32-requires-2
-    new-requires
+    point-of-requires
     join-at-requires
     returns
     refused-requires

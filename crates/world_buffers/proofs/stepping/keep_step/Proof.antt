@@ -1,11 +1,11 @@
--- `world_buffers::buffers::keep_step` meets its contract. Assumes nothing.
+-- `world_buffers::stepping::keep_step` meets its contract. Assumes nothing.
 use mathlib.Core.Path.{_∙_}
 use native.Mathlib.Omega.{arith}
 use borrow.Author.Needs.{needs}
 use Rattle.base_rows.proofs.Puts.{put-end}
-use Rattle.world_buffers.proofs.Answers.{accepted-step-kept, refused-step-kept, told-is}
-use Rattle.world_buffers.proofs.buffers.keep_step.Statement.{statement}
-use Rattle.world_buffers.proofs.buffers.keep_step.Tie as tie
+use Rattle.world_buffers.proofs.StepAnswers.{accepted-step-kept, refused-step-kept, told-is}
+use Rattle.world_buffers.proofs.stepping.keep_step.Statement.{statement}
+use Rattle.world_buffers.proofs.stepping.keep_step.Tie as tie
 
 encode-requires : tie.Need-encode-requires
 encode-requires c κs = c .before .before .before .before .before .before .before .pre .0

@@ -1,7 +1,7 @@
--- `world_buffers::buffers::step_in` meets its contract. Assumes nothing.
-use Rattle.world_buffers.proofs.Answers.{wrong-world, wrong-records, wrong-removed, right-lengths}
-use Rattle.world_buffers.proofs.buffers.step_in.Statement.{statement}
-use Rattle.world_buffers.proofs.buffers.step_in.Tie as tie
+-- `world_buffers::stepping::step_in` meets its contract. Assumes nothing.
+use Rattle.world_buffers.proofs.StepAnswers.{wrong-world, wrong-records, wrong-removed, right-lengths}
+use Rattle.world_buffers.proofs.stepping.step_in.Statement.{statement}
+use Rattle.world_buffers.proofs.stepping.step_in.Tie as tie
 
 returns : tie.Need-returns
 returns c = let a = c .before .before .args in wrong-world (a .sides) (a .tiles .now) (a .world .now) (record { records = a .records .now; removed = a .removed .now; count = a .count .now }) (c .if1 .taken)
