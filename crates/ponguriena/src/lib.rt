@@ -3,11 +3,11 @@ use game_records::PlayerInput;
 use map_tiles::Sides;
 ghost use mathlib.Core.Path.{_≡_};
 ghost use Rattle.character.specs.Tick.{seats};
-ghost use Rattle.world.specs.World.{fresh};
-ghost use Rattle.world.specs.Calls.{accepted, join, leave, input, tune};
 ghost use Rattle.world.specs.Run.{inputOf};
 ghost use Rattle.game_records.specs.Numbers.{coreCount, inputCount};
-ghost use Rattle.world_buffers.specs.Buffers.{callIn, stepIn};
+ghost use Rattle.world_buffers.specs.Buffers.{joinIn, leaveIn, inputIn, tuneIn};
+ghost use Rattle.world_buffers.specs.Buffers as buffers;
+ghost use Rattle.world_buffers.specs.Stepping.{stepIn};
 ghost use Rattle.world_buffers.specs.Readers.{readIn, recordOf, tuningIn, floorMarkIn};
 ghost use Rattle.world_buffers.specs.Readers as readers;
 ghost use Rattle.game_packed.specs.Lent.{packIn, unpackIn};
@@ -20,7 +20,7 @@ ghost use Rattle.send_buffers.specs.Screens.{receiveIn, shownIn};
 
 #[no_mangle]
 pub extern "C" fn ponguriena_fresh(world: &mut [i32]) -> u32
-    ensures { λ r. ⌜ callIn (λ _. accepted (fresh seats)) (now (world .entry)) ≡ record { number = r; world = now (world .exit) } ⌝ }
+    ensures { λ r. ⌜ buffers.freshIn (now (world .entry)) ≡ record { number = r; world = now (world .exit) } ⌝ }
 {
     world_buffers::fresh_in(world)
 }
@@ -35,14 +35,14 @@ pub extern "C" fn ponguriena_join(
     x: i32,
     y: i32,
 ) -> u32
-    ensures { λ r. ⌜ callIn (λ w. join seats w (sidesOf width height) (now (tiles .entry)) id x y) (now (world .entry)) ≡ record { number = r; world = now (world .exit) } ⌝ }
+    ensures { λ r. ⌜ joinIn (sidesOf width height) (now (tiles .entry)) (now (world .entry)) id x y ≡ record { number = r; world = now (world .exit) } ⌝ }
 {
     world_buffers::join_in(world, Sides { width, height }, tiles, id, x, y)
 }
 
 #[no_mangle]
 pub extern "C" fn ponguriena_leave(world: &mut [i32], id: i32) -> u32
-    ensures { λ r. ⌜ callIn (λ w. leave seats w id) (now (world .entry)) ≡ record { number = r; world = now (world .exit) } ⌝ }
+    ensures { λ r. ⌜ leaveIn (now (world .entry)) id ≡ record { number = r; world = now (world .exit) } ⌝ }
 {
     world_buffers::leave_in(world, id)
 }
@@ -57,7 +57,7 @@ pub extern "C" fn ponguriena_input(
     jump: i32,
     hook: i32,
 ) -> u32
-    ensures { λ r. ⌜ callIn (λ w. input seats w id (inputOf direction «target_x» «target_y» jump hook)) (now (world .entry)) ≡ record { number = r; world = now (world .exit) } ⌝ }
+    ensures { λ r. ⌜ inputIn (now (world .entry)) id (inputOf direction «target_x» «target_y» jump hook) ≡ record { number = r; world = now (world .exit) } ⌝ }
 {
     let values = PlayerInput {
         direction,
@@ -71,7 +71,7 @@ pub extern "C" fn ponguriena_input(
 
 #[no_mangle]
 pub extern "C" fn ponguriena_tune(world: &mut [i32], index: i32, value: i32) -> u32
-    ensures { λ r. ⌜ callIn (λ w. tune w index value) (now (world .entry)) ≡ record { number = r; world = now (world .exit) } ⌝ }
+    ensures { λ r. ⌜ tuneIn (now (world .entry)) index value ≡ record { number = r; world = now (world .exit) } ⌝ }
 {
     world_buffers::tune_in(world, index, value)
 }
@@ -162,7 +162,7 @@ pub extern "C" fn ponguriena_send_leave(
     passed: &mut [i32],
     count: &mut usize,
 ) -> u32
-    ensures { λ r. ⌜ sendIn (call.Leave id) (now (world .entry)) (record { sender = now (sender .entry); passed = now (passed .entry); count = now (count .entry) }) ≡ record { left = record { number = r; world = now (world .exit) }; sent = record { sender = now (sender .exit); passed = now (passed .exit); count = now (count .exit) } } ⌝ }
+    ensures { λ r. ⌜ sendIn (call.Leave id) (leaveIn (now (world .entry)) id) (now (world .entry)) (record { sender = now (sender .entry); passed = now (passed .entry); count = now (count .entry) }) ≡ record { left = record { number = r; world = now (world .exit) }; sent = record { sender = now (sender .exit); passed = now (passed .exit); count = now (count .exit) } } ⌝ }
 {
     send_buffers::send_leave_in(world, sender, id, passed, count)
 }
@@ -176,7 +176,7 @@ pub extern "C" fn ponguriena_send_tune(
     passed: &mut [i32],
     count: &mut usize,
 ) -> u32
-    ensures { λ r. ⌜ sendIn (call.Tune index value) (now (world .entry)) (record { sender = now (sender .entry); passed = now (passed .entry); count = now (count .entry) }) ≡ record { left = record { number = r; world = now (world .exit) }; sent = record { sender = now (sender .exit); passed = now (passed .exit); count = now (count .exit) } } ⌝ }
+    ensures { λ r. ⌜ sendIn (call.Tune index value) (tuneIn (now (world .entry)) index value) (now (world .entry)) (record { sender = now (sender .entry); passed = now (passed .entry); count = now (count .entry) }) ≡ record { left = record { number = r; world = now (world .exit) }; sent = record { sender = now (sender .exit); passed = now (passed .exit); count = now (count .exit) } } ⌝ }
 {
     send_buffers::send_tune_in(world, sender, index, value, passed, count)
 }

@@ -1,5 +1,6 @@
 -- What the calls of a sender leave in their buffers, by the tests that decide it. Assumes nothing.
 use Prim.Native.Nat.{ℕ, _-_, _≤_}
+use mathlib.Core.Bool.{Bool, true, false, cond}
 use mathlib.Core.List.{List, [], map}
 use mathlib.Core.Path.{_≡_, sym, ap, ap₂, _∙_}
 use native.Mathlib.Omega.{arith}
@@ -24,8 +25,10 @@ use Rattle.world_numbers.specs.Encoding.{worldCount, recordsCount}
 use Rattle.world_numbers.specs.Decoding.{decoding}
 use Rattle.send_numbers.specs.Copies.{senderCount, copiesEncoding, copiesDecoding}
 use Rattle.send_numbers.specs.Passing.{passedCount, allNumbers}
-use Rattle.world_buffers.specs.Buffers.{Left, StepBuffers, LeftByStep, keepStep}
-use Rattle.send_buffers.specs.Sends.{freshIn, SenderBuffers, keepSent, keepRan, sendIn, sendStepIn}
+use Rattle.world_buffers.specs.Buffers.{Left, refusedIn}
+use Rattle.world_buffers.specs.Stepping.{StepBuffers, LeftByStep, keepStep, stepIn}
+use Rattle.world_buffers.proofs.StepAnswers.{right-lengths}
+use Rattle.send_buffers.specs.Sends.{freshIn, SenderBuffers, keepSent, passes, passedIn, sendIn, sendStepIn}
 
 -- ---- before any call
 module _ (n : ℕ) (new l : List ℤ) where
@@ -56,25 +59,38 @@ count-fits m x e h =
     omega (arith, length-append (map item (m .passed)) (replicate (mostPassed seats - length (m .passed)) (item passed.Mark)), length-map (m .passed) item, length-replicate (mostPassed seats - length (m .passed)) (item passed.Mark))
 
 -- ---- a call that needs no map
+module _ (l : List ℤ) (b : SenderBuffers) where
+  pub no-world : (length l ≡ worldCount → ⊥) → false ≡ passes l b
+  no-world h = rw (ne-eqb (length l) worldCount h)
+
+  pub no-sender : length l ≡ worldCount → (length (b .sender) ≡ senderCount → ⊥) → false ≡ passes l b
+  no-sender h g = rw (eq-eqb (length l) worldCount h, ne-eqb (length (b .sender)) senderCount g)
+
+  pub no-room : length l ≡ worldCount → length (b .sender) ≡ senderCount → (length (b .passed) ≡ passedCount → ⊥) → false ≡ passes l b
+  no-room h g f = rw (eq-eqb (length l) worldCount h, eq-eqb (length (b .sender)) senderCount g, ne-eqb (length (b .passed)) passedCount f)
+
+  pub all-room : length l ≡ worldCount → length (b .sender) ≡ senderCount → length (b .passed) ≡ passedCount → true ≡ passes l b
+  all-room h g f = rw (eq-eqb (length l) worldCount h, eq-eqb (length (b .sender)) senderCount g, eq-eqb (length (b .passed)) passedCount f)
+
 module _ (c : Call) (l : List ℤ) (b : SenderBuffers) where
-  pub send-wrong-world : (length l ≡ worldCount → ⊥) → sendIn c l b ≡ record { left = record { number = badLength; world = l }; sent = b }
-  unfolding sendIn
-  send-wrong-world h = rw (ne-eqb (length l) worldCount h)
+  pub none-passed : false ≡ passes l b → passedIn c l b ≡ b
+  unfolding passedIn
+  none-passed e = rw (← e)
 
-  pub send-wrong-sender : length l ≡ worldCount → (length (b .sender) ≡ senderCount → ⊥) → sendIn c l b ≡ record { left = record { number = badLength; world = l }; sent = b }
-  unfolding sendIn
-  send-wrong-sender h g = rw (eq-eqb (length l) worldCount h, ne-eqb (length (b .sender)) senderCount g)
-
-  pub send-wrong-passed : length l ≡ worldCount → length (b .sender) ≡ senderCount → (length (b .passed) ≡ passedCount → ⊥) → sendIn c l b ≡ record { left = record { number = badLength; world = l }; sent = b }
-  unfolding sendIn
-  send-wrong-passed h g f = rw (eq-eqb (length l) worldCount h, eq-eqb (length (b .sender)) senderCount g, ne-eqb (length (b .passed)) passedCount f)
-
-  pub send-right : (a : Stepped) (x : Sending) (e : Left) (d : SenderBuffers) → length l ≡ worldCount → length (b .sender) ≡ senderCount → length (b .passed) ≡ passedCount → a ≡ ran seats (sidesOf 0 0) [] (decoding seats l) c → x ≡ sendingOf seats (send seats (sidesOf 0 0) [] (decoding seats l) (copiesDecoding seats (b .sender)) c) → keepRan l a ≡ e → keepSent b (a .number) (sentIn x) ≡ d → sendIn c l b ≡ record { left = e; sent = d }
-  unfolding sendIn
-  send-right a x e d h g f q p k t =
+  pub all-passed : (a : Stepped) (x : Sending) (d : SenderBuffers) → true ≡ passes l b → a ≡ ran seats (sidesOf 0 0) [] (decoding seats l) c → x ≡ sendingOf seats (send seats (sidesOf 0 0) [] (decoding seats l) (copiesDecoding seats (b .sender)) c) → keepSent b (a .number) (sentIn x) ≡ d → passedIn c l b ≡ d
+  unfolding passedIn
+  all-passed a x d e q p t =
       let m : Sent = send seats (sidesOf 0 0) [] (decoding seats l) (copiesDecoding seats (b .sender)) c in
-      rw (eq-eqb (length l) worldCount h, eq-eqb (length (b .sender)) senderCount g, eq-eqb (length (b .passed)) passedCount f)
-      (ap₂ (λ (u : Left) (v : SenderBuffers). record { left = u; sent = v }) (ap (keepRan l) (sym q) ∙ k) (ap₂ (keepSent b) (ap (λ (y : Stepped). y .number) (sym q)) (sym (sent-back m x p)) ∙ t))
+      rw (← e) (ap₂ (keepSent b) (ap (λ (y : Stepped). y .number) (sym q)) (sym (sent-back m x p)) ∙ t)
+
+  module _ (left : Left) (r : Bool) (d : SenderBuffers) (e : r ≡ passes l b) (p : passedIn c l b ≡ d) where
+    pub made : (a : Left) → r ≡ true → left ≡ a → sendIn c left l b ≡ record { left = a; sent = d }
+    unfolding sendIn
+    made a t q = ap₂ (λ (u : Left) (v : SenderBuffers). record { left = u; sent = v }) (ap (λ (z : Bool). cond z left (refusedIn l badLength)) (sym e ∙ t) ∙ q) p
+
+    pub not-made : r ≡ false → sendIn c left l b ≡ record { left = refusedIn l badLength; sent = d }
+    unfolding sendIn
+    not-made t = ap₂ (λ (u : Left) (v : SenderBuffers). record { left = u; sent = v }) (ap (λ (z : Bool). cond z left (refusedIn l badLength)) (sym e ∙ t)) p
 
 -- ---- step
 module _ (s : Sides) (ts : List ℕ) (l : List ℤ) (r : StepBuffers) (b : SenderBuffers) where
@@ -105,4 +121,4 @@ module _ (s : Sides) (ts : List ℕ) (l : List ℤ) (r : StepBuffers) (b : Sende
       step-right a x e d u v q p k t =
           let m : Sent = send seats s ts (decoding seats l) (copiesDecoding seats (b .sender)) Step in
           rw (eq-eqb (length l) worldCount h, eq-eqb (length (r .records)) recordsCount g, eq-eqb (length (r .removed)) seats f, eq-eqb (length (b .sender)) senderCount u, eq-eqb (length (b .passed)) passedCount v)
-          (ap₂ (λ (y : LeftByStep) (z : SenderBuffers). record { left = y; sent = z }) (ap (keepStep l r) (sym q) ∙ k) (ap₂ (keepSent b) (ap (λ (y : Stepped). y .number) (sym q)) (sym (sent-back m x p)) ∙ t))
+          (ap₂ (λ (y : LeftByStep) (z : SenderBuffers). record { left = y; sent = z }) (right-lengths s ts l r a e h g f q k) (ap₂ (keepSent b) (ap (λ (y : Stepped). y .number) (sym q)) (sym (sent-back m x p)) ∙ t))

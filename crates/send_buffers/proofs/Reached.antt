@@ -15,7 +15,6 @@ use Rattle.world.specs.Settled.{Settled}
 use Rattle.world.specs.declared.call.Call.{Call}
 use Rattle.world.specs.declared.call.Call.the-variants.{Join, Leave, Input, Step, Tune}
 use Rattle.world.specs.declared.World.{World}
-use Rattle.world.proofs.Demand1.{demand1}
 use Rattle.send_rule.specs.Send.{Sent, sendNothing, send, receiveAll}
 use Rattle.send_rule.specs.Link.{Link, freshLink, called}
 use Rattle.send_rule.specs.declared.Copy.{Copy}
@@ -26,11 +25,12 @@ use Rattle.world_numbers.proofs.Encoded.{decoding-encoding}
 use Rattle.send_numbers.specs.Copies.{copyCount, senderCount, copiesEncoding, copiesDecoding, screenEncoding}
 use Rattle.send_numbers.specs.Passing.{passedCount}
 use Rattle.send_numbers.proofs.CopiesBack.{copies-long, copies-come-back}
-use Rattle.world_buffers.specs.Buffers.{keep, keepStep}
-use Rattle.world_buffers.proofs.Follows.{left}
-use Rattle.world_buffers.proofs.Reached.{long, one}
-use Rattle.send_buffers.specs.Sends.{SenderBuffers, keepSent, keepRan, sendIn, sendStepIn}
-use Rattle.send_buffers.specs.Following.{LinkNumbers, linkNumbers, Lent, afterSend, afterStep, linkLeft, linkLeftAll, calledAll, LinkFollows}
+use Rattle.world_buffers.specs.Buffers.{Left, leaveIn, tuneIn}
+use Rattle.world_buffers.specs.Stepping.{stepIn}
+use Rattle.world_buffers.specs.Following.{leftBy}
+use Rattle.world_buffers.proofs.Reached.{encoding-proper, one, one-number}
+use Rattle.send_buffers.specs.Sends.{SenderBuffers, keepSent, passedIn, sendIn, sendStepIn}
+use Rattle.send_buffers.specs.Following.{arrived, LinkNumbers, linkNumbers, Lent, afterSend, afterStep, linkLeft, linkLeftAll, calledAll, LinkFollows}
 use Rattle.send_buffers.proofs.Fit.{Copied, Fit, received-fit, fresh-fit}
 use Rattle.send_buffers.proofs.KnownIds.{sent-known}
 use Rattle.send_buffers.proofs.Arrivals.{sender-follows, screen-follows}
@@ -57,13 +57,13 @@ module _ (s : Sides) (ts : List ℕ) (b : Lent) (k : length (b .told .records) �
 
   -- ---- on the numbers of a world and of copies
   module _ (w : World) (cs : List Copy) (h : Settled seats w) (g : Copied seats cs) where
-    send-is : (c : Call) → sendIn c (encoding w) (lent cs) ≡ record { left = keepRan (encoding w) (ran seats (sidesOf 0 0) [] w c); sent = keepSent (lent cs) (ran seats (sidesOf 0 0) [] w c .number) (send seats (sidesOf 0 0) [] w cs c) }
-    unfolding sendIn
-    send-is c = rw (eq-eqb (length (encoding w)) worldCount (long s ts (b .told) k m w h), eq-eqb (length (copiesEncoding cs)) senderCount (copied-long cs g), eq-eqb (length (b .passed)) passedCount f, decoding-encoding seats w h, copied-back cs g)
+    send-is : (c : Call) (a : Left) → sendIn c a (encoding w) (lent cs) ≡ record { left = a; sent = keepSent (lent cs) (ran seats (sidesOf 0 0) [] w c .number) (send seats (sidesOf 0 0) [] w cs c) }
+    unfolding sendIn passedIn
+    send-is c a = rw (eq-eqb (length (encoding w)) worldCount (encoding-proper w h .long), eq-eqb (length (copiesEncoding cs)) senderCount (copied-long cs g), eq-eqb (length (b .passed)) passedCount f, decoding-encoding seats w h, copied-back cs g)
 
-    step-is : sendStepIn s ts (encoding w) (b .told) (lent cs) ≡ record { left = keepStep (encoding w) (b .told) (ran seats s ts w Step); sent = keepSent (lent cs) (ran seats s ts w Step .number) (send seats s ts w cs Step) }
+    step-is : sendStepIn s ts (encoding w) (b .told) (lent cs) ≡ record { left = stepIn s ts (encoding w) (b .told); sent = keepSent (lent cs) (ran seats s ts w Step .number) (send seats s ts w cs Step) }
     unfolding sendStepIn
-    step-is = rw (eq-eqb (length (encoding w)) worldCount (long s ts (b .told) k m w h), eq-eqb (length (b .told .records)) recordsCount k, eq-eqb (length (b .told .removed)) seats m, eq-eqb (length (copiesEncoding cs)) senderCount (copied-long cs g), eq-eqb (length (b .passed)) passedCount f, decoding-encoding seats w h, copied-back cs g)
+    step-is = rw (eq-eqb (length (encoding w)) worldCount (encoding-proper w h .long), eq-eqb (length (b .told .records)) recordsCount k, eq-eqb (length (b .told .removed)) seats m, eq-eqb (length (copiesEncoding cs)) senderCount (copied-long cs g), eq-eqb (length (b .passed)) passedCount f, decoding-encoding seats w h, copied-back cs g)
 
   -- ---- a link
   record Held (l : Link) : Type 0 where
@@ -78,24 +78,23 @@ module _ (s : Sides) (ts : List ℕ) (b : Lent) (k : length (b .told .records) �
     sender-is : (c : Call) → keepSent (lent (l .copies)) (ran seats s ts (l .world) c .number) (send seats s ts (l .world) (l .copies) c) .sender ≡ linkNumbers (called seats s ts l c) .sender
     sender-is c = sender-follows s ts (b .used) (b .passed) (b .count) (l .screen) (l .copies) (ran seats s ts (l .world) c .number) (send seats s ts (l .world) (l .copies) c) (sent-refused seats s ts l c)
 
-    abbrev screenLeft : Call → List ℤ
-    screenLeft c = afterSend s ts b (linkNumbers l) (record { left = keepRan (encoding (l .world)) (ran seats s ts (l .world) c); sent = keepSent (lent (l .copies)) (ran seats s ts (l .world) c .number) (send seats s ts (l .world) (l .copies) c) }) .screen
+    abbrev sentFor : Call → SenderBuffers
+    sentFor c = keepSent (lent (l .copies)) (ran seats s ts (l .world) c .number) (send seats s ts (l .world) (l .copies) c)
 
-    screen-is : (c : Call) → screenLeft c ≡ linkNumbers (called seats s ts l c) .screen
-    unfolding keep
-    screen-is c = screen-follows s ts (b .used) (b .passed) (b .count) (l .screen) (l .copies) (ran seats s ts (l .world) c .number) (send seats s ts (l .world) (l .copies) c) (sent-refused seats s ts l c) (h .fit) (sent-known s ts (l .world) (l .copies) c)
+    screen-is : (c : Call) → arrived s ts (b .used) (leftBy s ts (b .told) (encoding (l .world)) c .number) (sentFor c) (screenEncoding (l .screen)) ≡ linkNumbers (called seats s ts l c) .screen
+    screen-is c =
+        ap (λ (number : ℕ). arrived s ts (b .used) number (sentFor c) (screenEncoding (l .screen))) (one-number s ts (b .told) k m (l .world) c (h .linked .settled))
+        ∙ screen-follows s ts (b .used) (b .passed) (b .count) (l .screen) (l .copies) (ran seats s ts (l .world) c .number) (send seats s ts (l .world) (l .copies) c) (sent-refused seats s ts l c) (h .fit) (sent-known s ts (l .world) (l .copies) c)
 
-    world-is : (c : Call) → keepRan (encoding (l .world)) (ran seats s ts (l .world) c) .world ≡ encoding (ran seats s ts (l .world) c .world)
-    unfolding keep
-    world-is c = left (ran seats s ts (l .world) c .number) (ran seats s ts (l .world) c .world) (l .world) (demand1 seats s ts (l .world) c)
+    world-is : (c : Call) → leftBy s ts (b .told) (encoding (l .world)) c .world ≡ encoding (ran seats s ts (l .world) c .world)
+    world-is c = one s ts (b .told) k m (l .world) c (h .linked .settled)
 
     -- after one call
     each-call : (c : Call) → linkLeft s ts b (linkNumbers l) c ≡ linkNumbers (called seats s ts l c)
-    unfolding keep keepStep
-    each-call (Join id u v) = let e = either-same (eqb (ran seats s ts (l .world) (Join id u v) .number) 0) (sendNothing (l .copies)) in numbers-same (one s ts (b .told) k m (l .world) (Join id u v) (h .linked .settled)) (ap (λ (x : Sent). copiesEncoding (x .copies)) e) (ap (λ (x : Sent). screenEncoding (receiveAll seats s ts (l .screen) (x .passed))) e)
-    each-call (Leave id) = ap (afterSend s ts b (linkNumbers l)) (send-is (l .world) (l .copies) (h .linked .settled) (copied l h) (Leave id)) ∙ numbers-same (world-is (Leave id)) (sender-is (Leave id)) (screen-is (Leave id))
-    each-call (Input id d u v j i) = let e = either-same (eqb (ran seats s ts (l .world) (Input id d u v j i) .number) 0) (sendNothing (l .copies)) in numbers-same (one s ts (b .told) k m (l .world) (Input id d u v j i) (h .linked .settled)) (ap (λ (x : Sent). copiesEncoding (x .copies)) e) (ap (λ (x : Sent). screenEncoding (receiveAll seats s ts (l .screen) (x .passed))) e)
-    each-call (Tune index z) = ap (afterSend s ts b (linkNumbers l)) (send-is (l .world) (l .copies) (h .linked .settled) (copied l h) (Tune index z)) ∙ numbers-same (world-is (Tune index z)) (sender-is (Tune index z)) (screen-is (Tune index z))
+    each-call (Join id u v) = let e = either-same (eqb (ran seats s ts (l .world) (Join id u v) .number) 0) (sendNothing (l .copies)) in numbers-same (world-is (Join id u v)) (ap (λ (x : Sent). copiesEncoding (x .copies)) e) (ap (λ (x : Sent). screenEncoding (receiveAll seats s ts (l .screen) (x .passed))) e)
+    each-call (Leave id) = ap (afterSend s ts b (linkNumbers l)) (send-is (l .world) (l .copies) (h .linked .settled) (copied l h) (Leave id) (leaveIn (encoding (l .world)) id)) ∙ numbers-same (world-is (Leave id)) (sender-is (Leave id)) (screen-is (Leave id))
+    each-call (Input id d u v j i) = let e = either-same (eqb (ran seats s ts (l .world) (Input id d u v j i) .number) 0) (sendNothing (l .copies)) in numbers-same (world-is (Input id d u v j i)) (ap (λ (x : Sent). copiesEncoding (x .copies)) e) (ap (λ (x : Sent). screenEncoding (receiveAll seats s ts (l .screen) (x .passed))) e)
+    each-call (Tune index z) = ap (afterSend s ts b (linkNumbers l)) (send-is (l .world) (l .copies) (h .linked .settled) (copied l h) (Tune index z) (tuneIn (encoding (l .world)) index z)) ∙ numbers-same (world-is (Tune index z)) (sender-is (Tune index z)) (screen-is (Tune index z))
     each-call Step = ap (afterStep s ts b (linkNumbers l)) (step-is (l .world) (l .copies) (h .linked .settled) (copied l h)) ∙ numbers-same (world-is Step) (sender-is Step) (screen-is Step)
 
     next-held : (c : Call) → Held (called seats s ts l c)

@@ -15,7 +15,8 @@ use Rattle.send_rule.specs.Link.{Link, freshLink, called}
 use Rattle.world_numbers.specs.Encoding.{recordsCount, encoding}
 use Rattle.send_numbers.specs.Copies.{copiesEncoding, screenEncoding}
 use Rattle.send_numbers.specs.Passing.{passedCount}
-use Rattle.world_buffers.specs.Buffers.{StepBuffers}
+use Rattle.world_buffers.specs.Buffers.{leaveIn, tuneIn}
+use Rattle.world_buffers.specs.Stepping.{StepBuffers}
 use Rattle.world_buffers.specs.Following.{leftBy}
 use Rattle.send_buffers.specs.Sends.{SenderBuffers, LeftBySend, LeftBySendStep, sendIn, sendStepIn}
 use Rattle.send_buffers.specs.Screens.{LeftByReceive, receiveIn}
@@ -68,10 +69,10 @@ afterStep s ts b x r = record { world = r .left .world; sender = r .sent .sender
 
 -- after a call: joins and inputs are calls on the world alone
 abbrev pub linkLeft : Sides → List ℕ → Lent → LinkNumbers → Call → LinkNumbers
-linkLeft s ts b x (Join id u v) = record { world = leftBy s ts (b .told) (x .world) (Join id u v); sender = x .sender; screen = x .screen }
-linkLeft s ts b x (Leave id) = afterSend s ts b x (sendIn (Leave id) (x .world) (senderLent b x))
-linkLeft s ts b x (Input id d u v j h) = record { world = leftBy s ts (b .told) (x .world) (Input id d u v j h); sender = x .sender; screen = x .screen }
-linkLeft s ts b x (Tune index z) = afterSend s ts b x (sendIn (Tune index z) (x .world) (senderLent b x))
+linkLeft s ts b x (Join id u v) = record { world = leftBy s ts (b .told) (x .world) (Join id u v) .world; sender = x .sender; screen = x .screen }
+linkLeft s ts b x (Leave id) = afterSend s ts b x (sendIn (Leave id) (leaveIn (x .world) id) (x .world) (senderLent b x))
+linkLeft s ts b x (Input id d u v j h) = record { world = leftBy s ts (b .told) (x .world) (Input id d u v j h) .world; sender = x .sender; screen = x .screen }
+linkLeft s ts b x (Tune index z) = afterSend s ts b x (sendIn (Tune index z) (tuneIn (x .world) index z) (x .world) (senderLent b x))
 linkLeft s ts b x Step = afterStep s ts b x (sendStepIn s ts (x .world) (b .told) (senderLent b x))
 
 -- after all calls of a list

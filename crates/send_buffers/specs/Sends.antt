@@ -14,13 +14,13 @@ use Rattle.character.specs.Tick.{seats}
 use Rattle.world.specs.Run.{ran}
 use Rattle.world.specs.declared.call.Call.{Call}
 use Rattle.world.specs.declared.call.Call.the-variants.{Step}
-use Rattle.world.specs.declared.Stepped.{Stepped}
 use Rattle.send_rule.specs.Send.{Sent, send}
 use Rattle.world_numbers.specs.Encoding.{worldCount, recordsCount}
 use Rattle.world_numbers.specs.Decoding.{decoding}
 use Rattle.send_numbers.specs.Copies.{senderCount, copiesEncoding, copiesDecoding}
 use Rattle.send_numbers.specs.Passing.{passedCount, allNumbers}
-use Rattle.world_buffers.specs.Buffers.{has, Left, StepBuffers, LeftByStep, keep, keepStep}
+use Rattle.world_buffers.specs.Buffers.{has, Left, refusedIn}
+use Rattle.world_buffers.specs.Stepping.{StepBuffers, LeftByStep, stepIn}
 
 -- ---- before any call
 
@@ -55,20 +55,22 @@ sentFor s ts c l b = keepSent b (ran seats s ts (decoding seats l) c .number) (s
 
 -- ---- a call that needs no map: leave or tune
 
+-- whether the world and the sender's buffers have the lengths that they must
+abbrev pub passes : List ℤ → SenderBuffers → Bool
+passes l b = has worldCount l && hasRoom b
+
+-- what it leaves in the sender's buffers
+unfoldable pub passedIn : Call → List ℤ → SenderBuffers → SenderBuffers
+passedIn c l b = cond (passes l b) (sentFor (sidesOf 0 0) [] c l b) b
+
 -- its number and the numbers of the world that it leaves, and what it leaves in the sender's buffers
 pub record LeftBySend : Type 0 where
   pub left : Left
   pub sent : SenderBuffers
 
--- the answer of such a call, kept as `keep` does
-abbrev pub keepRan : List ℤ → Stepped → Left
-keepRan l a = keep l (record { number = a .number; world = a .world })
-
-unfoldable pub sendIn : Call → List ℤ → SenderBuffers → LeftBySend
-sendIn c l b =
-    cond (has worldCount l && hasRoom b)
-    (record { left = keepRan l (ran seats (sidesOf 0 0) [] (decoding seats l) c); sent = sentFor (sidesOf 0 0) [] c l b })
-    (record { left = record { number = badLength; world = l }; sent = b })
+-- the call c, which leaves `left` of the world's numbers l where it is made without a sender
+unfoldable pub sendIn : Call → Left → List ℤ → SenderBuffers → LeftBySend
+sendIn c left l b = record { left = cond (passes l b) left (refusedIn l badLength); sent = passedIn c l b }
 
 -- ---- step
 
@@ -76,9 +78,9 @@ pub record LeftBySendStep : Type 0 where
   pub left : LeftByStep
   pub sent : SenderBuffers
 
--- a step, which is told in t as `stepIn` does
+-- a step as `stepIn` makes it, told in t
 unfoldable pub sendStepIn : Sides → List ℕ → List ℤ → StepBuffers → SenderBuffers → LeftBySendStep
 sendStepIn s ts l t b =
     cond (has worldCount l && has recordsCount (t .records) && has seats (t .removed) && hasRoom b)
-    (record { left = keepStep l t (ran seats s ts (decoding seats l) Step); sent = sentFor s ts Step l b })
+    (record { left = stepIn s ts l t; sent = sentFor s ts Step l b })
     (record { left = record { number = badLength; world = l; told = t }; sent = b })

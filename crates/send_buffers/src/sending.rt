@@ -11,10 +11,10 @@ use send_numbers::decode_copies;
 use send_numbers::encode_copies;
 use send_numbers::encode_items;
 use send_rule::Sending;
-use world::Answer;
 use world::Call;
-use world_buffers::keep;
 use world_buffers::keep_step;
+use world_buffers::leave_in;
+use world_buffers::tune_in;
 use world_numbers::RECORDS;
 use world_numbers::WORLD;
 use world_numbers::decode;
@@ -25,9 +25,10 @@ ghost use Rattle.character.specs.Tick.{seats};
 ghost use Rattle.world.specs.declared.call.Call.the-variants as call;
 ghost use Rattle.send_rule.specs.Send.{noCopies, mostPassed};
 ghost use Rattle.send_calls.specs.Sending.{sentIn};
+ghost use Rattle.world_buffers.specs.Buffers.{leaveIn, tuneIn};
 ghost use Rattle.send_numbers.specs.Copies.{senderCount, copiesEncoding};
 ghost use Rattle.send_numbers.specs.Passing.{passedCount};
-ghost use Rattle.send_buffers.specs.Sends.{freshIn, keepSent, sendIn, sendStepIn};
+ghost use Rattle.send_buffers.specs.Sends.{freshIn, keepSent, passes, passedIn, sendIn, sendStepIn};
 
 pub fn sender_fresh_in(sender: &mut [i32]) -> u32
     ensures { λ r. ⌜ freshIn senderCount (copiesEncoding (noCopies seats)) (now (sender .entry)) ≡ record { number = r; numbers = now (sender .exit) } ⌝ }
@@ -58,24 +59,24 @@ fn keep_sent(
     }
 }
 
-// A call that needs no map.
-fn send_in(
-    world: &mut [i32],
+// What a call that needs no map passes along; false where a buffer has another length than it must.
+fn pass_in(
+    world: &[i32],
     sender: &mut [i32],
     call: Call,
     passed: &mut [i32],
     count: &mut usize,
-) -> u32
-    ensures { λ r. ⌜ sendIn call (now (world .entry)) (record { sender = now (sender .entry); passed = now (passed .entry); count = now (count .entry) }) ≡ record { left = record { number = r; world = now (world .exit) }; sent = record { sender = now (sender .exit); passed = now (passed .exit); count = now (count .exit) } } ⌝ }
+) -> bool
+    ensures { λ r. ⌜ (r ≡ passes (now (world .entry)) (record { sender = now (sender .entry); passed = now (passed .entry); count = now (count .entry) })) × (passedIn call (now (world .entry)) (record { sender = now (sender .entry); passed = now (passed .entry); count = now (count .entry) }) ≡ record { sender = now (sender .exit); passed = now (passed .exit); count = now (count .exit) }) ⌝ }
 {
     if world.len() != WORLD {
-        return BAD_LENGTH;
+        return false;
     }
     if sender.len() != SENDER {
-        return BAD_LENGTH;
+        return false;
     }
     if passed.len() != PASSED {
-        return BAD_LENGTH;
+        return false;
     }
     let none = Sides {
         width: 0,
@@ -83,16 +84,8 @@ fn send_in(
     };
     let called = send(decode(world), decode_copies(sender), none, b"", call);
     let stepped = called.stepped;
-    let number = stepped.number;
-    let next = stepped.world;
-    keep_sent(number, called.sending, sender, passed, count);
-    keep(
-        Answer {
-            number,
-            world: next,
-        },
-        world,
-    )
+    keep_sent(stepped.number, called.sending, sender, passed, count);
+    true
 }
 
 pub fn send_leave_in(
@@ -102,9 +95,12 @@ pub fn send_leave_in(
     passed: &mut [i32],
     count: &mut usize,
 ) -> u32
-    ensures { λ r. ⌜ sendIn (call.Leave id) (now (world .entry)) (record { sender = now (sender .entry); passed = now (passed .entry); count = now (count .entry) }) ≡ record { left = record { number = r; world = now (world .exit) }; sent = record { sender = now (sender .exit); passed = now (passed .exit); count = now (count .exit) } } ⌝ }
+    ensures { λ r. ⌜ sendIn (call.Leave id) (leaveIn (now (world .entry)) id) (now (world .entry)) (record { sender = now (sender .entry); passed = now (passed .entry); count = now (count .entry) }) ≡ record { left = record { number = r; world = now (world .exit) }; sent = record { sender = now (sender .exit); passed = now (passed .exit); count = now (count .exit) } } ⌝ }
 {
-    send_in(world, sender, Call::Leave { id }, passed, count)
+    if pass_in(world, sender, Call::Leave { id }, passed, count) {
+        return leave_in(world, id);
+    }
+    BAD_LENGTH
 }
 
 pub fn send_tune_in(
@@ -115,9 +111,18 @@ pub fn send_tune_in(
     passed: &mut [i32],
     count: &mut usize,
 ) -> u32
-    ensures { λ r. ⌜ sendIn (call.Tune index value) (now (world .entry)) (record { sender = now (sender .entry); passed = now (passed .entry); count = now (count .entry) }) ≡ record { left = record { number = r; world = now (world .exit) }; sent = record { sender = now (sender .exit); passed = now (passed .exit); count = now (count .exit) } } ⌝ }
+    ensures { λ r. ⌜ sendIn (call.Tune index value) (tuneIn (now (world .entry)) index value) (now (world .entry)) (record { sender = now (sender .entry); passed = now (passed .entry); count = now (count .entry) }) ≡ record { left = record { number = r; world = now (world .exit) }; sent = record { sender = now (sender .exit); passed = now (passed .exit); count = now (count .exit) } } ⌝ }
 {
-    send_in(world, sender, Call::Tune { index, value }, passed, count)
+    if pass_in(
+        world,
+        sender,
+        Call::Tune { index, value },
+        passed,
+        count,
+    ) {
+        return tune_in(world, index, value);
+    }
+    BAD_LENGTH
 }
 
 pub fn send_step_in(

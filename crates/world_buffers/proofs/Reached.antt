@@ -134,6 +134,11 @@ module _ (s : Sides) (ts : List ℕ) (b : StepBuffers) (k : length (b .records) 
       let r = left-proper l p s ts b q c in
       sym (own-encoding seats (leftBy s ts b l c .world) (r .long) (r .own)) ∙ ap encoding (stands s ts b l c (p .long) k m q .world ∙ ap (λ (v : World). ran seats s ts v c .world) e)
 
+  pub one-number : (w : World) (c : Call) → Settled seats w → leftBy s ts b (encoding w) c .number ≡ ran seats s ts w c .number
+  one-number w c h =
+      let e = decoding-encoding seats w h in
+      stands s ts b (encoding w) c (encoding-proper w h .long) k m (subst (Settled seats) (sym e) h) .number ∙ ap (λ (v : World). ran seats s ts v c .number) e
+
   all : (w : World) (cs : List Call) → Settled seats w → leftByAll s ts b (encoding w) cs ≡ encoding (after seats s ts w cs)
   all w [] h = refl
   all w (c ∷ cs) h = ap (λ (l : List ℤ). leftByAll s ts b l cs) (one w c h) ∙ all (ran seats s ts w c .world) cs (answer-settled seats s ts w c h)
