@@ -40,7 +40,7 @@ angle-back : (a : Angle) → OfI32 from256ths (a .radians) → angleFromNet (ang
 unfolding angleToNet angleFromNet
 angle-back a w = ap (λ (x : Float). record { radians = x }) (ap (λ (y : Float). from256ths (truncToI32 (mul binary32 y c256))) (w .is) ∙ i32-256ths 0 (w .number) (lit< tt) (w .in-i32) ∙ sym (w .is))
 
-direction-back : (d : MoveDirection) → fromInt (asInt d) ≡ d
+pub direction-back : (d : MoveDirection) → fromInt (asInt d) ≡ d
 unfolding fromInt asInt
 direction-back Left = refl
 direction-back None = refl
@@ -54,7 +54,7 @@ wholes-back p w = rw (whole-back (p .x) (w .0), whole-back (p .y) (w .1))
 256ths-pair-back p w = rw (256ths-back (p .x) (w .0), 256ths-back (p .y) (w .1))
 
 -- ---- the jump
-used-back : (c : Character) → usedAirjumpFromNet (netJumped c) ≡ c .«used_airjump»
+pub used-back : (c : Character) → usedAirjumpFromNet (netJumped c) ≡ c .«used_airjump»
 unfolding usedAirjumpFromNet netJumped castUnsigned
 used-back c = go (c .«used_airjump») (c .«jumped_already»)
   where
@@ -64,7 +64,7 @@ used-back c = go (c .«used_airjump») (c .«jumped_already»)
     go false true = refl
     go false false = refl
 
-already-back : (c : Character) → jumpedAlreadyFromNet (netJumped c) ≡ c .«jumped_already»
+pub already-back : (c : Character) → jumpedAlreadyFromNet (netJumped c) ≡ c .«jumped_already»
 unfolding jumpedAlreadyFromNet netJumped castUnsigned
 already-back c = go (c .«used_airjump») (c .«jumped_already»)
   where

@@ -11,3 +11,6 @@ pub mod Held
 pub mod Moved
 pub mod FitsTick
 pub mod FitsMove
+pub mod FitsHook
+pub mod FitsWalk
+pub mod Again

@@ -41,20 +41,20 @@ at-end false z e = top e
 beyond : (q i : ℕ) → 0 < q → 180 < i → 2 ^ 31 * 2 ^ 149 ≤ q * 2 ^ i
 beyond q i p h = le-trans (lit≤ {m = 2 ^ 31 * 2 ^ 149} {n = 2 ^ 180} tt) (le-trans (pow-mono (le-of-lt h)) (le-trans (le-of-eq (sym (one-mul (2 ^ i)))) (mul-le-mul-right (2 ^ i) p)))
 
-rounded-units : (s : Bool) (q i : ℕ) (z : ℤ) → q < 2 ^ 24 → (0 < q) ⊎ (i ≡ 0) → z ≡ signed 31 s (cut 1 (q * 2 ^ i) (2 ^ 149)) → Rounded z
-rounded-units s q i z h l e = go (decLe i 180) (decLe (2 ^ 31) (cut 1 (q * 2 ^ i) (2 ^ 149))) l
+rounded-units : (u : ℕ) (s : Bool) (q i : ℕ) (z : ℤ) → u < 2 → q < 2 ^ 24 → (0 < q) ⊎ (i ≡ 0) → z ≡ signed 31 s (cut u (q * 2 ^ i) (2 ^ 149)) → Rounded z
+rounded-units u s q i z U h l e = go (decLe i 180) (decLe (2 ^ 31) (cut u (q * 2 ^ i) (2 ^ 149))) l
   where
-    go : Dec (i ≤ 180) → Dec (2 ^ 31 ≤ cut 1 (q * 2 ^ i) (2 ^ 149)) → (0 < q) ⊎ (i ≡ 0) → Rounded z
-    go d (yes b) l = at-end s z (e ∙ signed-out s (cut 1 (q * 2 ^ i) (2 ^ 149)) b)
-    go (yes a) (no b) l = in-range s (cut 1 (q * 2 ^ i) (2 ^ 149)) z (e ∙ signed-in s (cut 1 (q * 2 ^ i) (2 ^ 149)) (lt-of-not-le b)) (rounded-digits q i h a) (lt-of-not-le b)
-    go (no a) (no b) (inl p) = absurd (b (far 1 (q * 2 ^ i) (2 ^ 149) (pow-pos 149) (beyond q i p (lt-of-not-le a))))
+    go : Dec (i ≤ 180) → Dec (2 ^ 31 ≤ cut u (q * 2 ^ i) (2 ^ 149)) → (0 < q) ⊎ (i ≡ 0) → Rounded z
+    go d (yes b) l = at-end s z (e ∙ signed-out s (cut u (q * 2 ^ i) (2 ^ 149)) b)
+    go (yes a) (no b) l = in-range s (cut u (q * 2 ^ i) (2 ^ 149)) z (e ∙ signed-in s (cut u (q * 2 ^ i) (2 ^ 149)) (lt-of-not-le b)) (rounded-digits u q i U h a) (lt-of-not-le b)
+    go (no a) (no b) (inl p) = absurd (b (far u (q * 2 ^ i) (2 ^ 149) (pow-pos 149) (beyond q i p (lt-of-not-le a))))
     go (no a) (no b) (inr z) = absurd (a (le-trans (le-of-eq z) zero-le))
 
-pub rounded : (x : Float) → T (fits binary32 x) → Rounded (roundToI32 x)
+pub rounded : (u : ℕ) (x : Float) → u < 2 → T (fits binary32 x) → Rounded (wholeOf 31 u x)
 unfolding wholeOf
-rounded nan t = digits (few-digits 0 zero-le) (lit< tt)
-rounded (inf s) t = at-end s (cond s (negℤ (pos (2 ^ 31))) (pos (2 ^ 31 - 1))) refl
-rounded (fin s m g) t = let y = on-grid s m g t in rounded-units s (y .q) (y .i) (wholeOf 31 1 (fin s m g)) (y .small) (y .lead) (at-value 1 (fin s m g) s (y .q * 2 ^ (y .i)) (y .value))
+rounded u nan U t = digits (few-digits 0 zero-le) (lit< tt)
+rounded u (inf s) U t = at-end s (cond s (negℤ (pos (2 ^ 31))) (pos (2 ^ 31 - 1))) refl
+rounded u (fin s m g) U t = let y = on-grid s m g t in rounded-units u s (y .q) (y .i) (wholeOf 31 u (fin s m g)) U (y .small) (y .lead) (at-value u (fin s m g) s (y .q * 2 ^ (y .i)) (y .value))
 
 -- ---- whole numbers
 pub rounded-back : (u : ℕ) (z : ℤ) → u < 2 → Rounded z → wholeOf 31 u (i32ToF32 z) ≡ z
@@ -63,7 +63,7 @@ rounded-back u z U (top e) = subst (λ (k : ℤ). wholeOf 31 u (i32ToF32 k) ≡ 
 rounded-back u z U (bottom e) = subst (λ (k : ℤ). wholeOf 31 u (i32ToF32 k) ≡ k) (sym e) (bottom-back u U)
 
 pub round-again : (x : Float) → T (fits binary32 x) → roundToI32 (i32ToF32 (roundToI32 x)) ≡ roundToI32 x
-round-again x t = rounded-back 1 (roundToI32 x) (lit< tt) (rounded x t)
+round-again x t = rounded-back 1 (roundToI32 x) (lit< tt) (rounded 1 x (lit< tt) t)
 
 pub quantize-again : (x : Float) → T (fits binary32 x) → quantize (quantize x) ≡ quantize x
 unfolding quantize
@@ -87,13 +87,13 @@ rounded-256ths-back u z U (digits d h) = from256ths-back z d h u U
 rounded-256ths-back u z U (top e) = subst (λ (k : ℤ). wholeOf 31 u (mul binary32 (from256ths k) c256) ≡ k) (sym e) (top-256ths u U)
 rounded-256ths-back u z U (bottom e) = subst (λ (k : ℤ). wholeOf 31 u (mul binary32 (from256ths k) c256) ≡ k) (sym e) (bottom-256ths u U)
 
-rounded-256ths : (v : Float) → Rounded (to256ths v)
-unfolding to256ths
-rounded-256ths v = rounded (mul binary32 v c256) (mul-fits binary32 v c256)
+-- either way
+pub whole-256ths-again : (u : ℕ) (v : Float) → u < 2 → let z = wholeOf 31 u (mul binary32 v c256) in wholeOf 31 u (mul binary32 (from256ths z) c256) ≡ z
+whole-256ths-again u v U = rounded-256ths-back u (wholeOf 31 u (mul binary32 v c256)) U (rounded u (mul binary32 v c256) U (mul-fits binary32 v c256))
 
 pub 256ths-again : (v : Float) → to256ths (from256ths (to256ths v)) ≡ to256ths v
 unfolding to256ths
-256ths-again v = rounded-256ths-back 1 (to256ths v) (lit< tt) (rounded-256ths v)
+256ths-again v = whole-256ths-again 1 v (lit< tt)
 
 pub quantize256ths-again : (v : Float) → quantize256ths (quantize256ths v) ≡ quantize256ths v
 unfolding quantize256ths

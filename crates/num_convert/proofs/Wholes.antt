@@ -2,7 +2,7 @@
 use mathlib.Core.Path.{_≡_, refl, sym, ap, _∙_}
 use mathlib.Core.Bool.{Bool, true, false}
 use Prim.Native.Nat.{ℕ, zero, suc, _+_, _-_, _*_, _^_, _≤_, _<_, zero-le}
-use native.Mathlib.Nat.{le-trans, le-of-lt, lt-of-lt-of-le, lt-of-le-of-lt, lt-of-not-le, mul-pos, mul-assoc, mul-one, mul-le-mul-left, mul-lt-mul-of-pos-right, div-lt-iff-lt-mul, eq-or-lt-of-le}
+use native.Mathlib.Nat.{le-trans, le-of-lt, le-of-suc-le-suc, lt-of-lt-of-le, lt-of-le-of-lt, lt-of-not-le, mul-pos, mul-assoc, mul-one, mul-le-mul-left, mul-le-mul-right, mul-lt-mul-of-pos-right, div-lt-iff-lt-mul, eq-or-lt-of-le}
 use native.Mathlib.Omega.{arith}
 use native.Mathlib.Decide.{decLe}
 use mathlib.Core.Logic.{inl, inr, _⊎_}
@@ -34,22 +34,22 @@ few-digits z h = go (eq-or-lt-of-le h)
     go (inl e) = record { q = 1; j = 24; small = lit< tt; least = lit≤ tt; is = e }
     go (inr l) = record { q = z; j = 0; small = l; least = zero-le; is = sym (mul-one z) }
 
--- and so is what a value of the format is rounded to
+-- and so is what a value of the format is rounded or cut to
 below-half : (q i : ℕ) → q < 2 ^ 24 → i < 149 → q * 2 ^ i < 2 ^ 23 * 2 ^ 149
 below-half q i h l = lt-of-lt-of-le (mul-lt-mul-of-pos-right h (pow-pos i)) (le-trans (mul-le-mul-left (2 ^ 24) (pow-mono {j = 148} (omega arith))) (lit≤ tt))
 
-cut-small : (n l : ℕ) → 0 < l → n < 2 ^ 23 * l → cut 1 n l < 2 ^ 24
-cut-small n l L h = div-lt-iff-lt-mul (mul-pos L (lit< tt)) .1 (omega arith)
+cut-small : (u n l : ℕ) → u < 2 → 0 < l → n < 2 ^ 23 * l → cut u n l < 2 ^ 24
+cut-small u n l U L h = let m = mul-le-mul-right l (le-of-suc-le-suc U) in div-lt-iff-lt-mul (mul-pos L (lit< tt)) .1 (omega (arith, m))
 
-pub rounded-digits : (q i : ℕ) → q < 2 ^ 24 → i ≤ 180 → Digits (cut 1 (q * 2 ^ i) (2 ^ 149))
-rounded-digits q i h k = go (decLe 149 i)
+pub rounded-digits : (u q i : ℕ) → u < 2 → q < 2 ^ 24 → i ≤ 180 → Digits (cut u (q * 2 ^ i) (2 ^ 149))
+rounded-digits u q i U h k = go (decLe 149 i)
   where
-    go : Dec (149 ≤ i) → Digits (cut 1 (q * 2 ^ i) (2 ^ 149))
+    go : Dec (149 ≤ i) → Digits (cut u (q * 2 ^ i) (2 ^ 149))
     go (yes l) =
         let e : i ≡ i - 149 + 149 = omega arith in
         let p : q * 2 ^ i ≡ q * 2 ^ (i - 149) * 2 ^ 149 = ap (λ (x : ℕ). q * 2 ^ x) e ∙ ap (λ (x : ℕ). q * x) (pow-add 2 (i - 149) 149) ∙ sym (mul-assoc q (2 ^ (i - 149)) (2 ^ 149)) in
-        record { q = q; j = i - 149; small = h; least = omega arith; is = ap (λ (x : ℕ). cut 1 x (2 ^ 149)) p ∙ cut-whole 1 (q * 2 ^ (i - 149)) (2 ^ 149) (lit< tt) (pow-pos 149) }
-    go (no l) = few-digits (cut 1 (q * 2 ^ i) (2 ^ 149)) (le-of-lt (cut-small (q * 2 ^ i) (2 ^ 149) (pow-pos 149) (below-half q i h (lt-of-not-le l))))
+        record { q = q; j = i - 149; small = h; least = omega arith; is = ap (λ (x : ℕ). cut u x (2 ^ 149)) p ∙ cut-whole u (q * 2 ^ (i - 149)) (2 ^ 149) U (pow-pos 149) }
+    go (no l) = few-digits (cut u (q * 2 ^ i) (2 ^ 149)) (le-of-lt (cut-small u (q * 2 ^ i) (2 ^ 149) U (pow-pos 149) (below-half q i h (lt-of-not-le l))))
 
 -- ---- to a float
 abbrev pub sgn : ℤ → Bool

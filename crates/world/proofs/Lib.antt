@@ -15,3 +15,4 @@ pub mod Deadly
 pub mod Numbers
 pub mod Demand1
 pub mod Demand3
+pub mod TakenRecords

@@ -29,7 +29,7 @@ use Rattle.world.specs.Step.{afterTick, tickTurn, tickAll}
 use Rattle.world.proofs.Seats.{by-test}
 
 -- ---- values of the format
-i32-fits : (z : ℤ) → T (fits binary32 (i32ToF32 z))
+pub i32-fits : (z : ℤ) → T (fits binary32 (i32ToF32 z))
 unfolding i32ToF32
 i32-fits z = ofInt-fits binary32 z
 
@@ -37,7 +37,7 @@ i32-fits z = ofInt-fits binary32 z
 unfolding from256ths
 256ths-fits z = div-fits binary32 (i32ToF32 z) c256
 
-pair-fits : (f : ℤ → Float) → ((z : ℤ) → T (fits binary32 (f z))) → (v : vec2) → Pair f v → FitsPair v
+pub pair-fits : (f : ℤ → Float) → ((z : ℤ) → T (fits binary32 (f z))) → (v : vec2) → Pair f v → FitsPair v
 pair-fits f h v p = (subst (λ (x : Float). T (fits binary32 x)) (sym (p .0 .is)) (h (p .0 .number)), subst (λ (x : Float). T (fits binary32 x)) (sym (p .1 .is)) (h (p .1 .number)))
 
 pub representable-fits : (c : Character) → Representable c → FitsPair (c .pos) × FitsPair (c .vel)
