@@ -1,8 +1,11 @@
 pub mod Answers
 pub mod StepAnswers
 pub mod Readings
+pub mod Listed
 pub mod SeatTurns
 pub mod Released
+pub mod Gone
+pub mod StepSeats
 pub mod Stands
 pub mod Refusals
 pub mod Reached

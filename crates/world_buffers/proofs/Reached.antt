@@ -8,7 +8,7 @@ use lib.Dec.{eqb, ltb}
 use lib.IntN.{ℤ}
 use lib.ListN.{length, set, drop, length-set}
 use lib.Seq.{drop-set-lt}
-use borrow.Author.Tests.{ltb-true, eq-eqb}
+use borrow.Author.Tests.{ltb-true, eqb-true}
 use Rattle.base_rows.specs.Put.{put}
 use Rattle.map_tiles.specs.Map.{isMap}
 use Rattle.map_tiles.specs.declared.tiles.Sides.{Sides}
@@ -38,10 +38,11 @@ use Rattle.world_numbers.proofs.Rows.{encoding-long}
 use Rattle.world_numbers.proofs.Written.{rowAt, row-long, put-written, OwnRow, Own, own-encoding, encoding-own}
 use Rattle.world_buffers.specs.Buffers.{Left, has, isThere, tuneIn, atSeat, inputIn, leaveIn, joinAtIn, joinIn}
 use Rattle.world_buffers.specs.Leaving.{vacateIn}
-use Rattle.world_buffers.specs.Stepping.{StepBuffers, LeftByStep, keepStep, stepIn}
+use Rattle.world_buffers.specs.Stepping.{StepBuffers, LeftByStep, leftByStep, stepIn}
 use Rattle.world_buffers.specs.Following.{leftBy, leftByAll, BufferFollows}
 use Rattle.world_buffers.proofs.Released.{first-in, present-is, vacate-long, vacate-own}
 use Rattle.world_buffers.proofs.SeatTurns.{put-own, seat-written, seat-own}
+use Rattle.world_buffers.proofs.StepSeats.{step-long, step-own}
 use Rattle.world_buffers.proofs.Stands.{joined-kept, stands}
 
 -- as many numbers as a world has, and every seat's as the library writes them
@@ -111,8 +112,12 @@ module _ (l : List ℤ) (h : Proper l) where
 
   -- step
   stepped : (s : Sides) (ts : List ℕ) (b : StepBuffers) → Settled seats (decoding seats l) → Proper (stepIn s ts l b .world)
-  unfolding stepIn keepStep
-  stepped s ts b q = by-test (λ (r : LeftByStep). Proper (r .world)) (has worldCount l && has recordsCount (b .records) && has seats (b .removed)) (λ e. by-test Proper (eqb (step seats (decoding seats l) s ts .number) 0) (λ f. encoding-proper _ (answer-settled seats s ts (decoding seats l) Step q)) (λ f. h)) (λ e. h)
+  unfolding stepIn leftByStep
+  stepped s ts b q =
+      let a = step seats (decoding seats l) s ts in
+      by-test (λ (r : LeftByStep). Proper (r .world)) (has worldCount l && has recordsCount (b .records) && has seats (b .removed))
+      (λ e. by-test (λ (r : LeftByStep). Proper (r .world)) (eqb (a .number) 0) (λ f. let z = eqb-true (a .number) 0 f in record { long = step-long l (h .long) s ts q z; own = step-own l (h .long) s ts q z (h .own) }) (λ f. h))
+      (λ e. h)
 
   pub left-proper : (s : Sides) (ts : List ℕ) (b : StepBuffers) → Settled seats (decoding seats l) → (c : Call) → Fine (leftBy s ts b l c)
   unfolding inputIn leaveIn

@@ -6,7 +6,6 @@ use mathlib.Core.Path.{_≡_, refl}
 use lib.Dec.{eqb, ltb}
 use lib.IntN.{ℤ}
 use lib.ListN.{length}
-use borrow.Author.Tests.{ne-eqb}
 use Rattle.base_rows.specs.Put.{put}
 use Rattle.map_tiles.specs.Map.{isMap}
 use Rattle.map_tiles.specs.declared.tiles.Sides.{Sides}
@@ -25,7 +24,7 @@ use Rattle.world_numbers.specs.Encoding.{recordCount, worldCount, recordsCount,
 use Rattle.world_numbers.specs.Decoding.{decoding}
 use Rattle.world_buffers.specs.Buffers.{Left, has, ofWorld, isThere, atSeat, tuneIn, inputIn, leaveIn, joinAtIn, joinIn}
 use Rattle.world_buffers.specs.Leaving.{vacateIn}
-use Rattle.world_buffers.specs.Stepping.{StepBuffers, LeftByStep, keepStep, stepIn}
+use Rattle.world_buffers.specs.Stepping.{StepBuffers, LeftByStep, leftByStep, stepIn}
 use Rattle.world_buffers.specs.Following.{RefusalsLeave}
 
 module _ (l : List ℤ) where
@@ -63,9 +62,9 @@ module _ (l : List ℤ) (b : StepBuffers) where
   abbrev LeavesAll : LeftByStep → Type 0
   LeavesAll r = (r .number ≡ 0 → ⊥) → (r .world ≡ l) × (r .told ≡ b)
 
-  kept : (a : Stepped) → LeavesAll (keepStep l b a)
-  unfolding keepStep
-  kept a z = rw (ne-eqb (a .number) 0 z) (refl, refl)
+  kept : (a : Stepped) → LeavesAll (leftByStep l b a)
+  unfolding leftByStep
+  kept a = by-test LeavesAll (eqb (a .number) 0) (λ e z. absurd (z refl)) (λ e z. (refl, refl))
 
   stepping : (s : Sides) (ts : List ℕ) → LeavesAll (stepIn s ts l b)
   unfolding stepIn

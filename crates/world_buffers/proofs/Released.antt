@@ -213,4 +213,4 @@ module _ (k : ℕ) (s : k < seats) where
 
     pub vacate-own : Own seats l → Own seats (vacateIn l k)
     unfolding vacateIn releaseIn seatNumbers
-    vacate-own o = seat-own seats (releaseIn l k) release-long k emptySlot s empty-kept (turned-own seats (releaseAt k) (λ j x. releasedSlot x k) release-written release-own l long o)
+    vacate-own o = seat-own seats (releaseIn l k) release-long k emptySlot s empty-kept (turned-own seats (releaseAt k) (λ j x. releasedSlot x k) release-written l (λ j m h q e. release-own j m h q) long o)

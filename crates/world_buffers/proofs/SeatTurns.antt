@@ -48,14 +48,17 @@ module _ (n : ℕ) (g : ℕ → List ℤ → List ℤ) (f : ℕ → Slot → Slo
   pub turned : (l : List ℤ) → length l ≡ seatPlace n → Turned 0 l (fold g n 0 l)
   turned l h = turned-from n 0 l (omega arith) h
 
-  -- where each turn leaves such numbers, all leave them
-  turns-own : ((j : ℕ) (l : List ℤ) → j < n → length l ≡ seatPlace n → Own n l → Own n (g j l)) → (m i : ℕ) (l : List ℤ) → i + m ≡ n → length l ≡ seatPlace n → Own n l → Own n (fold g m i l)
-  unfolding fold
-  turns-own t zero i l e h o = o
-  turns-own t (suc m) i l e h o = turns-own t m (suc i) (g i l) (omega arith) (turn i l (omega arith) h .size ∙ h) (t i l (omega arith) h o)
+  -- where each turn leaves such numbers, its own seat being as it was at the start, all leave them
+  module _ (l : List ℤ) (keeps : (j : ℕ) (m : List ℤ) → j < n → length m ≡ seatPlace n → seatOf (rowAt m j) ≡ seatOf (rowAt l j) → Own n m → Own n (g j m)) where
+    turns-own : (k i : ℕ) (m : List ℤ) → i + k ≡ n → length m ≡ seatPlace n → ((q : ℕ) → i ≤ q → q < n → seatOf (rowAt m q) ≡ seatOf (rowAt l q)) → Own n m → Own n (fold g k i m)
+    unfolding fold
+    turns-own zero i m e h s o = o
+    turns-own (suc k) i m e h s o =
+        let w = turn i m (omega arith) h in
+        turns-own k (suc i) (g i m) (omega arith) (w .size ∙ h) (λ q a b. others-read n i _ m (g i m) w q b (λ z. omega arith) ∙ s q (omega arith) b) (keeps i m (omega arith) h (s i (omega arith) (omega arith)) o)
 
-  pub turned-own : ((j : ℕ) (l : List ℤ) → j < n → length l ≡ seatPlace n → Own n l → Own n (g j l)) → (l : List ℤ) → length l ≡ seatPlace n → Own n l → Own n (fold g n 0 l)
-  turned-own t l h o = turns-own t n 0 l (omega arith) h o
+    pub turned-own : length l ≡ seatPlace n → Own n l → Own n (fold g n 0 l)
+    turned-own h o = turns-own n 0 l (omega arith) h (λ q a b. refl) o
 
 -- ---- a row within a seat
 -- it makes the numbers of x of those of the seat

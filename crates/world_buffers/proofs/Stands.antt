@@ -7,7 +7,7 @@ use native.Mathlib.Omega.{arith}
 use lib.Dec.{eqb, ltb}
 use lib.IntN.{ℤ}
 use lib.ListN.{length, set}
-use borrow.Author.Tests.{ltb-true, eqb-false, eq-eqb}
+use borrow.Author.Tests.{ltb-true, eqb-true, eqb-false, eq-eqb}
 use Rattle.base_rows.specs.Put.{put}
 use Rattle.num_vec2.specs.declared.vec2.{vec2}
 use Rattle.map_tiles.specs.Map.{isMap}
@@ -24,6 +24,7 @@ use Rattle.character_laws.proofs.FromNet.{spawn-representable}
 use Rattle.world.specs.World.{withSlot, withTuning}
 use Rattle.world.specs.Calls.{refused, accepted, placeOf, inReach, pointOf, joinAt, join, ifPresent, vacate, leave, input, tune}
 use Rattle.world.specs.Run.{inputOf}
+use Rattle.world.specs.Removal.{idsIn}
 use Rattle.world.specs.Settled.{Settled}
 use Rattle.world.specs.Step.{step}
 use Rattle.world.specs.declared.Answer.{Answer}
@@ -33,21 +34,21 @@ use Rattle.world.specs.declared.call.Call.{Call}
 use Rattle.world.specs.declared.call.Call.the-variants.{Join, Leave, Input, Step, Tune}
 use Rattle.world.proofs.Demand1.{demand1}
 use Rattle.world.proofs.Outcomes.{reach-i32}
-use Rattle.world.proofs.Settled.{answer-settled}
-use Rattle.world_numbers.specs.Encoding.{recordCount, worldCount, recordsCount, seatPlace, presentNumbers, seatNumbers, encoding}
+use Rattle.world_numbers.specs.Encoding.{recordCount, worldCount, recordsCount, seatPlace, presentNumbers, seatNumbers}
 use Rattle.world_numbers.specs.Decoding.{isSet, decoding}
 use Rattle.world_numbers.proofs.Any.{decoding-settled}
-use Rattle.world_numbers.proofs.Encoded.{Kept, decoding-encoding}
+use Rattle.world_numbers.proofs.Encoded.{Kept}
 use Rattle.world_numbers.proofs.Parts.{input-put}
 use Rattle.world_numbers.proofs.Seats.{seat-is}
 use Rattle.world_numbers.proofs.Written.{rowAt, row-long, tuning-set, Written, put-written, written-decoding}
 use Rattle.world_buffers.specs.Buffers.{Left, refusedIn, acceptedIn, tuneIn, isThere, atSeat, inputIn, leaveIn, joinAtIn, joinIn}
-use Rattle.world_buffers.specs.Leaving.{vacateIn}
-use Rattle.world_buffers.specs.Stepping.{StepBuffers, keepStep, stepIn}
+use Rattle.world_buffers.specs.Leaving.{vacateIn, removeIn}
+use Rattle.world_buffers.specs.Stepping.{StepBuffers, toldIn, stepSeats, leftByStep, stepIn}
 use Rattle.world_buffers.specs.Following.{leftOf, Stands, CallsStand}
 use Rattle.world_buffers.proofs.Answers.{a-world}
 use Rattle.world_buffers.proofs.Released.{first-in, present-is, vacate-decoding}
 use Rattle.world_buffers.proofs.SeatTurns.{seat-written}
+use Rattle.world_buffers.proofs.StepSeats.{step-decoding}
 
 -- a call on numbers answers as one by value
 record Agrees (a : Left) (b : Answer) : Type 0 where
@@ -136,12 +137,15 @@ module _ (l : List ℤ) (long : length l ≡ worldCount) where
 
     -- ---- step
     step-agrees : (b : StepBuffers) → length (b .records) ≡ recordsCount → length (b .removed) ≡ seats → Settled seats w → let a = step seats w s ts in Agrees (leftOf (stepIn s ts l b)) (record { number = a .number; world = a .world })
-    unfolding stepIn keepStep
-    step-agrees b r m h = rw (eq-eqb (length l) worldCount long, eq-eqb (length (b .records)) recordsCount r, eq-eqb (length (b .removed)) seats m) (record { number = refl; world = go (eqb (step seats w s ts .number) 0) refl })
+    unfolding stepIn leftByStep
+    step-agrees b r m h = rw (eq-eqb (length l) worldCount long, eq-eqb (length (b .records)) recordsCount r, eq-eqb (length (b .removed)) seats m) (go (eqb (step seats w s ts .number) 0) refl)
       where
-        go : (c : Bool) → eqb (step seats w s ts .number) 0 ≡ c → decoding seats (cond c (encoding (step seats w s ts .world)) l) ≡ step seats w s ts .world
-        go true e = decoding-encoding seats (step seats w s ts .world) (answer-settled seats s ts w Step h)
-        go false e = sym (demand1 seats s ts w Step (eqb-false (step seats w s ts .number) 0 e))
+        a : Stepped
+        a = step seats w s ts
+
+        go : (c : Bool) → eqb (a .number) 0 ≡ c → Agrees (leftOf (cond c (record { number = 0; world = removeIn (stepSeats a l) (idsIn (a .removed)); told = toldIn a }) (record { number = a .number; world = l; told = b }))) (record { number = a .number; world = a .world })
+        go true e = let z = eqb-true (a .number) 0 e in record { number = sym z; world = step-decoding l long s ts h z }
+        go false e = record { number = refl; world = sym (demand1 seats s ts w Step (eqb-false (a .number) 0 e)) }
 
 -- every call, where what the numbers stand for is settled
 pub stands : (s : Sides) (ts : List ℕ) (b : StepBuffers) (l : List ℤ) (c : Call) → length l ≡ worldCount → length (b .records) ≡ recordsCount → length (b .removed) ≡ seats → Settled seats (decoding seats l) → Stands s ts b l c

@@ -1,30 +1,40 @@
 -- What a step leaves in its buffers, by the tests that decide it. Assumes nothing.
-use Prim.Native.Nat.{ℕ}
+use Prim.Native.Nat.{ℕ, _+_}
+use mathlib.Core.Bool.{Bool, true, false}
 use mathlib.Core.List.{List}
 use mathlib.Core.Path.{_≡_, sym, ap, _∙_}
+use native.Mathlib.Omega.{arith}
 use lib.IntN.{ℤ}
-use lib.ListN.{length}
+use lib.ListN.{length, set, take, drop}
+use lib.Seq.{take-all}
 use borrow.Author.Tests.{eq-eqb, ne-eqb}
+use Rattle.base_rows.specs.Put.{put}
+use Rattle.game_records.specs.Numbers.{coreCount, coreNumbers}
+use Rattle.game_records.proofs.Back.{core-long}
 use Rattle.game_refusals.specs.Refusals.{badLength}
 use Rattle.map_tiles.specs.declared.tiles.Sides.{Sides}
 use Rattle.character.specs.Tick.{seats}
+use Rattle.world.specs.Removal.{idsIn}
 use Rattle.world.specs.Step.{step}
+use Rattle.world.specs.declared.Published.{Published}
 use Rattle.world.specs.declared.Stepped.{Stepped}
-use Rattle.world_numbers.specs.Encoding.{worldCount, recordsCount, encoding, recordsEncoding}
+use Rattle.world_numbers.specs.Encoding.{markPlace, worldCount, recordsCount, seatPlace, flag, recordNumbers, recordsEncoding}
 use Rattle.world_numbers.specs.Decoding.{decoding}
-use Rattle.world_buffers.specs.Stepping.{StepBuffers, LeftByStep, toldIn, keepStep, stepIn}
+use Rattle.world_buffers.specs.Buffers.{isThere}
+use Rattle.world_buffers.specs.Leaving.{removeIn}
+use Rattle.world_buffers.specs.Stepping.{StepBuffers, LeftByStep, toldIn, seatWritten, stepSeats, leftByStep, stepIn}
 
 pub told-is : (a : Stepped) (rs is : List ℤ) → rs ≡ recordsEncoding (a .records) → is ≡ a .removed .ids → record { records = rs; removed = is; count = a .removed .count } ≡ toldIn a
 told-is a rs is e f = rw (e, f)
 
 module _ (l : List ℤ) (b : StepBuffers) (a : Stepped) where
-  pub accepted-step-kept : (m : List ℤ) (d : StepBuffers) → a .number ≡ 0 → m ≡ encoding (a .world) → d ≡ toldIn a → keepStep l b a ≡ record { number = 0; world = m; told = d }
-  unfolding keepStep
-  accepted-step-kept m d z e f = rw (z, e, f)
+  pub step-accepted : (m : List ℤ) (d : StepBuffers) → a .number ≡ 0 → m ≡ removeIn (stepSeats a l) (idsIn (a .removed)) → d ≡ toldIn a → leftByStep l b a ≡ record { number = 0; world = m; told = d }
+  unfolding leftByStep
+  step-accepted m d z e f = rw (eq-eqb (a .number) 0 z, e, f)
 
-  pub refused-step-kept : (a .number ≡ 0 → ⊥) → keepStep l b a ≡ record { number = a .number; world = l; told = b }
-  unfolding keepStep
-  refused-step-kept z = rw (ne-eqb (a .number) 0 z)
+  pub step-refused : (a .number ≡ 0 → ⊥) → leftByStep l b a ≡ record { number = a .number; world = l; told = b }
+  unfolding leftByStep
+  step-refused z = rw (ne-eqb (a .number) 0 z)
 
 module _ (s : Sides) (ts : List ℕ) (l : List ℤ) (b : StepBuffers) where
   pub wrong-world : (length l ≡ worldCount → ⊥) → stepIn s ts l b ≡ record { number = badLength; world = l; told = b }
@@ -39,6 +49,21 @@ module _ (s : Sides) (ts : List ℕ) (l : List ℤ) (b : StepBuffers) where
   unfolding stepIn
   wrong-removed h g f = rw (eq-eqb (length l) worldCount h, eq-eqb (length (b .records)) recordsCount g, ne-eqb (length (b .removed)) seats f)
 
-  pub right-lengths : (a : Stepped) (e : LeftByStep) → length l ≡ worldCount → length (b .records) ≡ recordsCount → length (b .removed) ≡ seats → a ≡ step seats (decoding seats l) s ts → keepStep l b a ≡ e → stepIn s ts l b ≡ e
+  pub right-lengths : (a : Stepped) (e : LeftByStep) → length l ≡ worldCount → length (b .records) ≡ recordsCount → length (b .removed) ≡ seats → a ≡ step seats (decoding seats l) s ts → leftByStep l b a ≡ e → stepIn s ts l b ≡ e
   unfolding stepIn
-  right-lengths a e h g f q k = rw (eq-eqb (length l) worldCount h, eq-eqb (length (b .records)) recordsCount g, eq-eqb (length (b .removed)) seats f) (ap (keepStep l b) (sym q) ∙ k)
+  right-lengths a e h g f q k = rw (eq-eqb (length l) worldCount h, eq-eqb (length (b .records)) recordsCount g, eq-eqb (length (b .removed)) seats f) (ap (leftByStep l b) (sym q) ∙ k)
+
+-- ---- one seat
+module _ (l : List ℤ) (j : ℕ) (core : List ℤ) (g : Bool) where
+  pub seat-there : isThere l j ≡ true → set (put l (seatPlace j + 1) core) (seatPlace j + markPlace) (flag g) ≡ seatWritten l j core g
+  unfolding seatWritten
+  seat-there e = rw e
+
+  pub seat-empty : isThere l j ≡ false → l ≡ seatWritten l j core g
+  unfolding seatWritten
+  seat-empty e = rw e
+
+-- the record's own numbers behind its presence
+pub core-part : (p : Published) (row : List ℤ) → row ≡ recordNumbers p → take coreCount (drop 1 row) ≡ coreNumbers (p .core)
+unfolding recordNumbers
+core-part p row e = ap (λ (r : List ℤ). take coreCount (drop 1 r)) e ∙ take-all coreCount (coreNumbers (p .core)) (omega (arith, core-long (p .core)))

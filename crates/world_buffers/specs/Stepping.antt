@@ -1,17 +1,24 @@
 -- Step on a world that is kept as the numbers of a buffer: what it answers, and what it leaves in the buffers. Definitions only.
-use Prim.Native.Nat.{ℕ}
-use mathlib.Core.Bool.{cond, _&&_}
+use Prim.Native.Nat.{ℕ, _+_}
+use mathlib.Core.Bool.{Bool, cond, _&&_}
 use mathlib.Core.List.{List}
 use lib.Dec.{eqb}
 use lib.IntN.{ℤ}
+use lib.ListN.{set}
+use Rattle.base_rows.specs.Put.{put}
+use Rattle.base_turns.specs.Turns.{fold}
 use Rattle.game_refusals.specs.Refusals.{badLength}
+use Rattle.game_records.specs.Numbers.{coreNumbers}
 use Rattle.map_tiles.specs.declared.tiles.Sides.{Sides}
-use Rattle.character.specs.Tick.{seats}
+use Rattle.character.specs.Tick.{seats, slotAt}
+use Rattle.world.specs.Demand3.{recordAt}
+use Rattle.world.specs.Removal.{idsIn}
 use Rattle.world.specs.Step.{step}
 use Rattle.world.specs.declared.Stepped.{Stepped}
-use Rattle.world_numbers.specs.Encoding.{worldCount, recordsCount, encoding, recordsEncoding}
+use Rattle.world_numbers.specs.Encoding.{markPlace, worldCount, recordsCount, seatPlace, flag, recordsEncoding}
 use Rattle.world_numbers.specs.Decoding.{decoding}
-use Rattle.world_buffers.specs.Buffers.{has}
+use Rattle.world_buffers.specs.Buffers.{has, isThere}
+use Rattle.world_buffers.specs.Leaving.{removeIn}
 
 -- what a step is lent to tell: a buffer for the records, one for the ids of who is removed, and a place for their count
 pub record StepBuffers : Type 0 where
@@ -29,10 +36,22 @@ pub record LeftByStep : Type 0 where
 abbrev pub toldIn : Stepped → StepBuffers
 toldIn a = record { records = recordsEncoding (a .records); removed = a .removed .ids; count = a .removed .count }
 
--- an accepted step leaves the next world and what it tells, a refused one everything as it was
-unfoldable pub keepStep : List ℤ → StepBuffers → Stepped → LeftByStep
-keepStep l b a = record { number = a .number; world = cond (eqb (a .number) 0) (encoding (a .world)) l; told = cond (eqb (a .number) 0) (toldIn a) b }
+-- the seat j with the numbers of a record and a floor mark, where somebody is there
+unfoldable pub seatWritten : List ℤ → ℕ → List ℤ → Bool → List ℤ
+seatWritten l j core g = cond (isThere l j) (set (put l (seatPlace j + 1) core) (seatPlace j + markPlace) (flag g)) l
+
+-- the record that the step a took of it, and the floor mark that it left
+abbrev pub stepSeat : Stepped → ℕ → List ℤ → List ℤ
+stepSeat a j l = seatWritten l j (coreNumbers (recordAt (a .records) j .core)) (slotAt (a .world .slots) j .grounded)
+
+-- every seat
+unfoldable pub stepSeats : Stepped → List ℤ → List ℤ
+stepSeats a l = fold (stepSeat a) seats 0 l
+
+-- an accepted step leaves these, without who is removed, and what it tells; a refused one everything as it was
+unfoldable pub leftByStep : List ℤ → StepBuffers → Stepped → LeftByStep
+leftByStep l b a = cond (eqb (a .number) 0) (record { number = 0; world = removeIn (stepSeats a l) (idsIn (a .removed)); told = toldIn a }) (record { number = a .number; world = l; told = b })
 
 -- a step of the world that the numbers l stand for, which is told in b
 unfoldable pub stepIn : Sides → List ℕ → List ℤ → StepBuffers → LeftByStep
-stepIn s ts l b = cond (has worldCount l && has recordsCount (b .records) && has seats (b .removed)) (keepStep l b (step seats (decoding seats l) s ts)) (record { number = badLength; world = l; told = b })
+stepIn s ts l b = cond (has worldCount l && has recordsCount (b .records) && has seats (b .removed)) (leftByStep l b (step seats (decoding seats l) s ts)) (record { number = badLength; world = l; told = b })

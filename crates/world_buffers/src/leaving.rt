@@ -4,6 +4,8 @@ use character::SEATS;
 use character_hook::HOOK_ATTACHED_GRABBED;
 use character_hook::HOOK_RETRACTED;
 use num_convert::cast_unsigned;
+use world::Removed;
+use world_calls::place_of;
 use world_numbers::HOOK;
 use world_numbers::SEAT;
 use world_numbers::STATE;
@@ -13,8 +15,9 @@ ghost use mathlib.Core.Path.{_≡_};
 ghost use Prim.Native.Nat.{_<_};
 ghost use lib.ListN.{length};
 ghost use Rattle.character.specs.Tick.{seats};
+ghost use Rattle.world.specs.Removal.{idsIn};
 ghost use Rattle.world_numbers.specs.Encoding.{worldCount};
-ghost use Rattle.world_buffers.specs.Leaving.{isAttached, holdsIn, releaseIn, vacateIn};
+ghost use Rattle.world_buffers.specs.Leaving.{isAttached, holdsIn, releaseIn, vacateIn, ListsSeats, removeIn};
 
 fn is_attached(state: i32) -> bool
     ensures { λ r. ⌜ r ≡ isAttached state ⌝ }
@@ -55,4 +58,16 @@ pub fn vacate_in(world: &mut [i32], id: usize)
     release_in(world, id);
     let zeros = [0i32; SEAT];
     copy(world, seat_place(id), &zeros);
+}
+
+// Those who are listed go, one after another.
+pub fn remove_in(world: &mut [i32], gone: Removed)
+    requires { ⌜ (length (now world) ≡ worldCount) × ListsSeats gone ⌝ }
+    ensures { λ _. ⌜ now (world .exit) ≡ removeIn (now (world .entry)) (idsIn gone) ⌝ }
+{
+    let count = gone.count;
+    let ids = gone.ids;
+    for i in 0..count {
+        vacate_in(world, place_of(SEATS, ids[i]));
+    }
 }

@@ -13,5 +13,5 @@ pub use readers::floor_mark_in;
 pub use readers::player_input_in;
 pub use readers::record_in;
 pub use readers::tuning_in;
-pub use stepping::keep_step;
 pub use stepping::step_in;
+pub use stepping::write_step;

@@ -10,7 +10,7 @@ use lib.IntN.{ℤ, pos, negsuc}
 use lib.ListN.{length, take, drop, length-drop}
 use lib.Seq.{getD-take, getD-drop}
 use Rattle.base_rows.specs.Put.{put}
-use Rattle.base_rows.proofs.Puts.{length-put, drop-put, drop-put-add, part-else, put-else}
+use Rattle.base_rows.proofs.Puts.{drop-put, drop-put-add, part-else, put-else}
 use Rattle.game_records.specs.Numbers.{coreCount, inputCount, numberAt, coreNumbers, inputNumbers, coreIn, inputIn}
 use Rattle.game_records.specs.declared.CharacterCore.{CharacterCore}
 use Rattle.game_records.specs.declared.PlayerInput.{PlayerInput}
@@ -22,9 +22,9 @@ use Rattle.character.specs.Slot.{emptySlot, joinedSlot, withCharacter, withInpu
 use Rattle.character.specs.Records.{fromNet}
 use Rattle.character.specs.declared.Character.{Character}
 use Rattle.character.specs.declared.Slot.{Slot}
-use Rattle.world_numbers.specs.Encoding.{recordCount, markPlace, seatCount, seatNumbers, hookPlace, retractedNumbers}
+use Rattle.world_numbers.specs.Encoding.{recordCount, markPlace, seatCount, flag, seatNumbers, hookPlace, retractedNumbers}
 use Rattle.world_numbers.specs.Decoding.{isSet, readable, seatOf}
-use Rattle.world_numbers.proofs.Encoded.{Kept, seat-back}
+use Rattle.world_numbers.proofs.Encoded.{Kept, flag-back, seat-back}
 
 -- the same first n numbers
 abbrev pub Alike : ℕ → List ℤ → List ℤ → Type 0
@@ -120,18 +120,30 @@ module _ (m : List ℤ) (long : seatCount ≤ length m) where
   pub seat-put : (s : Slot) → Kept s → seatOf (put m 0 (seatNumbers s)) ≡ s
   seat-put s k = ap seatOf (drop-put m 0 (seatNumbers s) (omega arith)) ∙ seat-back s (drop (0 + length (seatNumbers s)) m) k
 
-  -- the record that a step took, and its floor mark
-  pub step-put : (n : CharacterCore) (g : Bool) (e : ℤ) → isSet (numberAt m 0) ≡ true → isSet e ≡ g → seatOf (put (put m 1 (coreNumbers n)) markPlace (e ∷ [])) ≡ slotFrom true n (inputIn (drop recordCount m)) g
-  step-put n g e p q =
+  -- another record
+  pub core-put : (n : CharacterCore) → isSet (numberAt m 0) ≡ true → seatOf (put m 1 (coreNumbers n)) ≡ withCharacter (seatOf m) (fromNet (readable n))
+  unfolding seatOf
+  core-put n e =
       let w = coreNumbers n in
       let k = core-long n in
-      let r = put m 1 w in
-      let z = length-put m 1 w (omega arith) in
-      parts (put r markPlace (e ∷ [])) true n (inputIn (drop recordCount m)) g
-      (ap isSet (put-else r markPlace (e ∷ []) 0 (pos 0) (omega arith) (inl (omega arith)) ∙ put-else m 1 w 0 (pos 0) (omega arith) (inl (omega arith))) ∙ p)
-      (core-same _ (drop 1 r) (untouched r markPlace (e ∷ []) 1 coreCount (omega arith) (inl (omega arith))) ∙ ap coreIn (drop-put m 1 w (omega arith)) ∙ core-back n (drop (1 + length w) m))
-      (input-same _ (drop recordCount r) (untouched r markPlace (e ∷ []) recordCount inputCount (omega arith) (inl (omega arith))) ∙ input-same (drop recordCount r) (drop recordCount m) (untouched m 1 w recordCount inputCount (omega arith) (inr (omega arith))))
-      (ap isSet (sym (getD-drop markPlace (put r markPlace (e ∷ [])) 0 (pos 0)) ∙ ap (λ (l : List ℤ). numberAt l 0) (drop-put r markPlace (e ∷ []) (omega arith))) ∙ q)
+      parts (put m 1 w) true n (inputIn (drop recordCount m)) (isSet (numberAt m markPlace))
+      (ap isSet (put-else m 1 w 0 (pos 0) (omega arith) (inl (omega arith))) ∙ e)
+      (ap coreIn (drop-put m 1 w (omega arith)) ∙ core-back n (drop (1 + length w) m))
+      (input-same _ _ (untouched m 1 w recordCount inputCount (omega arith) (inr (omega arith))))
+      (ap isSet (put-else m 1 w markPlace (pos 0) (omega arith) (inr (omega arith))))
+      ∙ rw e refl
+
+  -- another floor mark
+  pub mark-put : (g : Bool) → isSet (numberAt m 0) ≡ true → seatOf (put m markPlace (flag g ∷ [])) ≡ withGrounded (seatOf m) g
+  unfolding seatOf
+  mark-put g e =
+      let w = flag g ∷ [] in
+      parts (put m markPlace w) true (coreIn (drop 1 m)) (inputIn (drop recordCount m)) g
+      (ap isSet (put-else m markPlace w 0 (pos 0) (omega arith) (inl (omega arith))) ∙ e)
+      (core-same _ _ (untouched m markPlace w 1 coreCount (omega arith) (inl (omega arith))))
+      (input-same _ _ (untouched m markPlace w recordCount inputCount (omega arith) (inl (omega arith))))
+      (ap isSet (sym (getD-drop markPlace (put m markPlace w) 0 (pos 0)) ∙ ap (λ (l : List ℤ). numberAt l 0) (drop-put m markPlace w (omega arith))) ∙ flag-back g)
+      ∙ rw e refl
 
   -- a hook that is Retracted
   pub release-put : isSet (numberAt m 0) ≡ true → seatOf (put m hookPlace retractedNumbers) ≡ withCharacter (seatOf m) (withHook (seatOf m .character) Retracted)
