@@ -26,7 +26,7 @@ use Rattle.world_numbers.specs.Decoding.{decoding}
 use Rattle.send_numbers.specs.Copies.{senderCount, copiesEncoding, copiesDecoding}
 use Rattle.send_numbers.specs.Passing.{passedCount, allNumbers}
 use Rattle.world_buffers.specs.Buffers.{Left, refusedIn}
-use Rattle.world_buffers.specs.Stepping.{StepBuffers, LeftByStep, keepStep, stepIn}
+use Rattle.world_buffers.specs.Stepping.{StepBuffers, LeftByStep, leftByStep}
 use Rattle.world_buffers.proofs.StepAnswers.{right-lengths}
 use Rattle.send_buffers.specs.Sends.{freshIn, SenderBuffers, keepSent, passes, passedIn, sendIn, sendStepIn}
 
@@ -116,7 +116,7 @@ module _ (s : Sides) (ts : List ℕ) (l : List ℤ) (r : StepBuffers) (b : Sende
       unfolding sendStepIn
       step-wrong-passed u v = rw (eq-eqb (length l) worldCount h, eq-eqb (length (r .records)) recordsCount g, eq-eqb (length (r .removed)) seats f, eq-eqb (length (b .sender)) senderCount u, ne-eqb (length (b .passed)) passedCount v)
 
-      pub step-right : (a : Stepped) (x : Sending) (e : LeftByStep) (d : SenderBuffers) → length (b .sender) ≡ senderCount → length (b .passed) ≡ passedCount → a ≡ ran seats s ts (decoding seats l) Step → x ≡ sendingOf seats (send seats s ts (decoding seats l) (copiesDecoding seats (b .sender)) Step) → keepStep l r a ≡ e → keepSent b (a .number) (sentIn x) ≡ d → sendStepIn s ts l r b ≡ record { left = e; sent = d }
+      pub step-right : (a : Stepped) (x : Sending) (e : LeftByStep) (d : SenderBuffers) → length (b .sender) ≡ senderCount → length (b .passed) ≡ passedCount → a ≡ ran seats s ts (decoding seats l) Step → x ≡ sendingOf seats (send seats s ts (decoding seats l) (copiesDecoding seats (b .sender)) Step) → leftByStep l r a ≡ e → keepSent b (a .number) (sentIn x) ≡ d → sendStepIn s ts l r b ≡ record { left = e; sent = d }
       unfolding sendStepIn
       step-right a x e d u v q p k t =
           let m : Sent = send seats s ts (decoding seats l) (copiesDecoding seats (b .sender)) Step in

@@ -12,9 +12,9 @@ use send_numbers::encode_copies;
 use send_numbers::encode_items;
 use send_rule::Sending;
 use world::Call;
-use world_buffers::keep_step;
 use world_buffers::leave_in;
 use world_buffers::tune_in;
+use world_buffers::write_step;
 use world_numbers::RECORDS;
 use world_numbers::WORLD;
 use world_numbers::decode;
@@ -162,5 +162,5 @@ pub fn send_step_in(
     );
     let stepped = called.stepped;
     keep_sent(stepped.number, called.sending, sender, passed, count);
-    keep_step(stepped, world, records, removed, removed_count)
+    write_step(stepped, world, records, removed, removed_count)
 }

@@ -1,6 +1,10 @@
 -- `send_buffers::sending::send_step_in` meets its contract. Assumes nothing.
+use mathlib.Core.Path.{sym, subst}
 use lib.ListN.{length-map}
 use borrow.Author.Needs.{needs}
+use Rattle.world.specs.declared.Stepped.{Stepped}
+use Rattle.world_buffers.specs.Leaving.{ListsSeats}
+use Rattle.world_buffers.proofs.Listed.{step-lists}
 use Rattle.send_buffers.proofs.Kept.{count-fits, step-wrong-world, step-wrong-records, step-wrong-removed, step-wrong-sender, step-wrong-passed, step-right}
 use Rattle.send_buffers.proofs.sending.send_step_in.Statement.{statement}
 use Rattle.send_buffers.proofs.sending.send_step_in.Tie as tie
@@ -35,8 +39,8 @@ keep-sent-requires c κs =
     let b = s .before .before .before .before .before in
     (b .before .if4 .left, b .if5 .left, count-fits _ (s .send .result .sending) (s .send .ensures .1) (simp length-map at (s .send .ok .1 .1 .1 .0 .1 .1 .1 .1 .0 .1 .0 .1)))
 
-keep-step-requires : tie.Need-keep-step-requires
-keep-step-requires c κs = search needs
+write-step-requires : tie.Need-write-step-requires
+write-step-requires c κs = (c .before .before .before .before .before .before .before .before .before .before .before .before .before .before .before .before .before .before .before .before .if1 .left, c .before .before .before .before .before .before .before .before .before .before .before .before .before .before .before .before .before .before .before .if2 .left, c .before .before .before .before .before .before .before .before .before .before .before .before .before .before .before .before .before .before .if3 .left, subst (λ (a : Stepped). ListsSeats (a .removed)) (sym (c .before .before .before .before .before .before .before .before .before .before .before .send .ensures .0)) (step-lists _ _ _))
 
 same-length : tie.Need-same-length
 same-length c = search needs
@@ -55,7 +59,7 @@ same-length-5 c = search needs
 
 returns-6 : tie.Need-returns-6
 returns-6 c =
-    let k = c .before .before .before .keep-step in
+    let k = c .before .before .before .write-step in
     let t = c .before .before .before .before .before .before .before .before .before .before .keep-sent in
     let s = c .before .before .before .before .before .before .before .before .before .before .before .before .before .before .before in
     let b = s .before .before .before .before .before in
@@ -76,7 +80,7 @@ send-step-in-spec =
     decode-copies-requires
     send-requires
     keep-sent-requires
-    keep-step-requires
+    write-step-requires
     same-length
     same-length-2
     same-length-3
