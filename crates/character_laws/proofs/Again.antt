@@ -2,17 +2,15 @@
 use mathlib.Core.Path.{_≡_, refl, sym, ap, _∙_}
 use Prim.Native.Nat.{ℕ, _-_, _^_, _≤_, _<_}
 use native.Mathlib.Omega.{arith}
-use lib.Dec.{T, lit<}
-use lib.Ieee.{Float, binary32, fits, mul}
-use lib.IntN.{ℤ, pos}
+use lib.Dec.{lit<}
+use lib.IntN.{pos}
 use Rattle.num_convert.proofs.Again.{round-again, 256ths-again, whole-256ths-again}
 use Rattle.num_convert.proofs.Back.{cast-back}
 use Rattle.num_convert.specs.Casts.{castUnsigned}
-use Rattle.num_convert.specs.Convert.{c256, i32ToF32, to256ths, from256ths}
+use Rattle.num_convert.specs.Convert.{i32ToF32, to256ths, from256ths}
 use Rattle.num_convert.specs.Whole.{roundToI32}
 use Rattle.num_vec2.specs.Vec2.{vnew}
-use Rattle.num_vec2.specs.declared.vec2.{vec2}
-use Rattle.game_input.specs.Direction.{asInt, angleToNet, angleFromNet}
+use Rattle.game_input.specs.Direction.{angleToNet, angleFromNet}
 use Rattle.game_input.specs.declared.direction.Angle.{Angle}
 use Rattle.game_records.specs.declared.CharacterCore.{CharacterCore}
 use Rattle.character_hook.proofs.States.{held-somebody}

@@ -8,7 +8,7 @@ use Rattle.base_turns.specs.Turns.{Turn, more, stop, run}
 use Rattle.base_turns.proofs.Kept.{Ends, run-kept}
 use Rattle.num_convert.specs.Convert.{i32ToF32}
 use Rattle.num_convert.specs.Number.{c0}
-use Rattle.num_vec2.specs.Vec2.{vadd, vmul, vsub, vmix, vdistance}
+use Rattle.num_vec2.specs.Vec2.{vmul, vsub, vmix, vdistance}
 use Rattle.num_vec2.specs.declared.vec2.{vec2}
 use Rattle.game_constants.specs.Constants.{maxHookGrabTime}
 use Rattle.game_records.specs.declared.PlayerInput.{PlayerInput}

@@ -113,13 +113,7 @@ pub fn send_tune_in(
 ) -> u32
     ensures { λ r. ⌜ sendIn (call.Tune index value) (tuneIn (now (world .entry)) index value) (now (world .entry)) (record { sender = now (sender .entry); passed = now (passed .entry); count = now (count .entry) }) ≡ record { left = record { number = r; world = now (world .exit) }; sent = record { sender = now (sender .exit); passed = now (passed .exit); count = now (count .exit) } } ⌝ }
 {
-    if pass_in(
-        world,
-        sender,
-        Call::Tune { index, value },
-        passed,
-        count,
-    ) {
+    if pass_in(world, sender, Call::Tune { index, value }, passed, count) {
         return tune_in(world, index, value);
     }
     BAD_LENGTH

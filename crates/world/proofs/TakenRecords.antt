@@ -1,15 +1,15 @@
 -- What an accepted step records: whoever is there becomes what its record reads as, with the input that it had, and that record is the record of it. Assumes nothing.
-use Prim.Native.Nat.{ℕ, zero, suc, _+_, _-_, _^_, _≤_, _<_}
+use Prim.Native.Nat.{ℕ, zero, suc, _+_, _^_, _≤_, _<_}
 use native.Mathlib.Omega.{arith}
 use mathlib.Core.Bool.{Bool, true, false, cond, true≢false}
 use mathlib.Core.List.{List, [], _∷_}
 use mathlib.Core.Logic.{⊎-elim}
 use mathlib.Core.Path.{_≡_, refl, sym, ap, _∙_, subst}
-use lib.Dec.{T, leb, ltb}
-use lib.Ieee.{Float, binary32, fits}
+use lib.Dec.{leb, ltb}
+use lib.Ieee.{binary32}
 use lib.Ieee.Bits.{ofBits-fits}
 use lib.Ieee.Fits.{nan-fits}
-use lib.ListN.{length, set, replicate, length-set, length-replicate}
+use lib.ListN.{length, set, length-set, length-replicate}
 use lib.Seq.{getD-set-same}
 use borrow.Author.Tests.{leb-true, ltb-true, ltb-false}
 use Rattle.base_turns.specs.Turns.{Turn, more, stop, next, run}
@@ -36,7 +36,7 @@ use Rattle.character.specs.declared.tick.TickedAt.{TickedAt}
 use Rattle.character.specs.declared.tick.TickedAt.the-variants as ticked
 use Rattle.character.specs.declared.walk.MovedAt.{MovedAt}
 use Rattle.character.specs.declared.walk.MovedAt.the-variants as moved
-use Rattle.character_laws.specs.Representable.{OfI32, Pair, RepresentableHook, Representable}
+use Rattle.character_laws.specs.Representable.{Pair, RepresentableHook, Representable}
 use Rattle.character_laws.proofs.Again.{Small, net-again}
 use Rattle.character_laws.proofs.FitsHook.{FitsPlace, tick-place}
 use Rattle.character_laws.proofs.FitsTick.{FitsPair}
@@ -48,7 +48,6 @@ use Rattle.world.specs.Demand3.{recordAt}
 use Rattle.world.specs.Removal.{dying, removeAll, listed, isIn}
 use Rattle.world.specs.Settled.{Settled}
 use Rattle.world.specs.Step.{Moving, unpublished, afterTick, tickTurn, tickAll, ofNet, recordOf, publish, moveIn, moveTurn, movingFrom, moveAll, stepAnswer, stepOn, step}
-use Rattle.world.specs.declared.Published.{Published}
 use Rattle.world.specs.declared.Stepped.{Stepped}
 use Rattle.world.specs.declared.World.{World}
 use Rattle.world.proofs.Removal.{dying-within}

@@ -1,9 +1,8 @@
 -- What removals leave of a slot, and that the floor mark of who is not removed decides it. Assumes nothing.
 use Prim.Native.Nat.{ℕ, _<_}
-use mathlib.Core.Bool.{Bool, true, false, cond, _||_}
+use mathlib.Core.Bool.{Bool, true, false, cond}
 use mathlib.Core.List.{List, [], _∷_}
 use mathlib.Core.Path.{_≡_, refl, sym, ap, _∙_, subst}
-use native.Mathlib.Omega.{arith}
 use lib.Dec.{eqb}
 use lib.ListN.{length}
 use borrow.Author.Tests.{eqb-true, eqb-false}
@@ -11,7 +10,7 @@ use Rattle.character.specs.Slot.{emptySlot, withGrounded}
 use Rattle.character.specs.Tick.{slotAt}
 use Rattle.character.specs.declared.Slot.{Slot}
 use Rattle.world.specs.Calls.{releasedSlot, vacate}
-use Rattle.world.specs.Removal.{removeAll, isIn}
+use Rattle.world.specs.Removal.{removeAll}
 use Rattle.world.specs.declared.World.{World}
 use Rattle.world.proofs.Vacated.{vacated-at, vacated-others, vacated-length}
 

@@ -9,7 +9,7 @@ use lib.Dec.{eqb, ltb}
 use lib.IntN.{ℤ, pos, negsuc, natAbs}
 use lib.ListN.{length, take, drop, replicate}
 use lib.Seq.{drop-cons, drop-length, getD-take, length-take-le}
-use borrow.Author.Tests.{eq-eqb, lt-ltb, ltb-true}
+use borrow.Author.Tests.{eq-eqb, lt-ltb}
 use Rattle.base_turns.specs.Turns.{Turn, more, stop, next}
 use Rattle.map_tiles.specs.Map.{isMap}
 use Rattle.map_tiles.specs.declared.tiles.Sides.{Sides}
@@ -27,18 +27,18 @@ use Rattle.world_step.proofs.Listed.{ids-fit}
 use Rattle.world_buffers.specs.Leaving.{vacateIn, ListsSeats, removeIn}
 
 -- ---- what a step lists
-either-in : (b c : Bool) → c ≡ true → (b || c) ≡ true
+pub either-in : (b c : Bool) → c ≡ true → (b || c) ≡ true
 either-in true c e = refl
 either-in false c e = e
 
-first-in : (b c : Bool) → b ≡ true → (b || c) ≡ true
-first-in true c e = refl
-first-in false c e = absurd (true≢false (sym e))
+pub first-of : (b c : Bool) → b ≡ true → (b || c) ≡ true
+first-of true c e = refl
+first-of false c e = absurd (true≢false (sym e))
 
 all-named : (ks : List ℕ) (rest : List ℤ) → ((k : ℕ) → isIn k ks ≡ true → k < seats) → (i : ℕ) → i < length ks → placeOf seats (numberAt (map pos ks ++ rest) i) < seats
 unfolding placeOf
 all-named [] rest h i l = absurd (omega arith)
-all-named (k ∷ ks) rest h zero l = let q = h k (first-in (eqb k k) (isIn k ks) (eq-eqb k k refl)) in rw (lt-ltb k seats q) q
+all-named (k ∷ ks) rest h zero l = let q = h k (first-of (eqb k k) (isIn k ks) (eq-eqb k k refl)) in rw (lt-ltb k seats q) q
 all-named (k ∷ ks) rest h (suc i) l = all-named ks rest (λ j e. h j (either-in (eqb k j) (isIn j ks) e)) i (omega arith)
 
 lists : (ks : List ℕ) → ((k : ℕ) → isIn k ks ≡ true → k < seats) → length ks ≤ seats → ListsSeats (listed seats ks)

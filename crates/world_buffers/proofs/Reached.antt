@@ -6,7 +6,7 @@ use mathlib.Core.Path.{_≡_, refl, sym, ap, ap₂, _∙_, subst}
 use native.Mathlib.Omega.{arith}
 use lib.Dec.{eqb, ltb}
 use lib.IntN.{ℤ}
-use lib.ListN.{length, set, drop, length-set}
+use lib.ListN.{length, set, length-set}
 use lib.Seq.{drop-set-lt}
 use borrow.Author.Tests.{ltb-true, eqb-true}
 use Rattle.base_rows.specs.Put.{put}
@@ -32,7 +32,7 @@ use Rattle.world.proofs.Seats.{by-test}
 use Rattle.world.proofs.Settled.{answer-settled, after-settled}
 use Rattle.world_numbers.specs.Encoding.{recordCount, seatCount, worldCount, recordsCount, seatPlace, recordNumbers, presentNumbers, seatNumbers, encoding}
 use Rattle.world_numbers.specs.Decoding.{isSet, decoding, seatOf}
-use Rattle.world_numbers.proofs.Encoded.{Kept, decoding-encoding}
+use Rattle.world_numbers.proofs.Encoded.{decoding-encoding}
 use Rattle.world_numbers.proofs.Parts.{input-put}
 use Rattle.world_numbers.proofs.Rows.{encoding-long}
 use Rattle.world_numbers.proofs.Written.{rowAt, row-long, put-written, OwnRow, Own, own-encoding, encoding-own}

@@ -1,11 +1,10 @@
 -- A refused call leaves every number of every buffer as it was. Assumes nothing.
 use Prim.Native.Nat.{ℕ, _+_}
-use mathlib.Core.Bool.{cond, _&&_}
+use mathlib.Core.Bool.{_&&_}
 use mathlib.Core.List.{List}
 use mathlib.Core.Path.{_≡_, refl}
 use lib.Dec.{eqb, ltb}
 use lib.IntN.{ℤ}
-use lib.ListN.{length}
 use Rattle.base_rows.specs.Put.{put}
 use Rattle.map_tiles.specs.Map.{isMap}
 use Rattle.map_tiles.specs.declared.tiles.Sides.{Sides}
@@ -17,7 +16,6 @@ use Rattle.world.specs.Calls.{placeOf, inReach, pointOf}
 use Rattle.world.specs.Run.{inputOf}
 use Rattle.world.specs.Step.{step}
 use Rattle.world.specs.declared.Stepped.{Stepped}
-use Rattle.world.specs.declared.call.Call.{Call}
 use Rattle.world.specs.declared.call.Call.the-variants.{Join, Leave, Input, Step, Tune}
 use Rattle.world.proofs.Seats.{by-test}
 use Rattle.world_numbers.specs.Encoding.{recordCount, worldCount, recordsCount, seatPlace}

@@ -10,8 +10,7 @@ use lib.IntN.{ℤ, pos, negsuc}
 use lib.Ieee.{ofBits, mul}
 use lib.ListN.{length, take, drop, replicate}
 use lib.Seq.{getD-drop}
-use borrow.Author.Tests.{eq-eqb, ne-eqb, eqb-true}
-use Rattle.base_turns.specs.Turns.{fold}
+use borrow.Author.Tests.{ne-eqb, eqb-true}
 use Rattle.base_rows.specs.Put.{put}
 use Rattle.base_rows.proofs.Puts.{put-append}
 use Rattle.num_convert.specs.Casts.{castUnsigned}
@@ -26,10 +25,10 @@ use Rattle.game_records.proofs.Back.{core-long}
 use Rattle.game_tuning.specs.Tuning.{tuningCount}
 use Rattle.character_hook.specs.Hook.{nobody, holds, netState, netPos, netDir, tickOf, netHookedPlayer, attachedOrGrabbed, hookFromNet}
 use Rattle.character_hook.specs.declared.hook.Hook.{Hook}
-use Rattle.character_hook.specs.declared.hook.Hook.the-variants.{Retracted, Idle, Flying, Grabbed, Attached, Retracting0, Retracting1, Retracting2}
+use Rattle.character_hook.specs.declared.hook.Hook.the-variants.{Retracted}
 use Rattle.character.specs.Character.{spawn, withHook}
 use Rattle.character.specs.Slot.{emptySlot, withCharacter}
-use Rattle.character.specs.Tick.{seats, slotAt}
+use Rattle.character.specs.Tick.{seats}
 use Rattle.character.specs.Records.{netJumped, coreOf, mostTick, fromNet}
 use Rattle.character.specs.declared.Character.{Character}
 use Rattle.character.specs.declared.records.Net.{Net}
@@ -37,19 +36,18 @@ use Rattle.character.specs.declared.Slot.{Slot}
 use Rattle.character_laws.specs.Representable.{Representable}
 use Rattle.character_laws.proofs.Back.{to-core}
 use Rattle.world.specs.World.{withSlot}
-use Rattle.world.specs.Calls.{released, releasedSlot, release, vacate}
-use Rattle.world.specs.Removal.{removeAll}
+use Rattle.world.specs.Calls.{releasedSlot, release, vacate}
 use Rattle.world.specs.declared.World.{World}
 use Rattle.world.proofs.Seats.{by-test}
 use Rattle.world.proofs.Vacated.{held-released, other-released, release-at, release-length}
 use Rattle.world_numbers.specs.Encoding.{seatCount, worldCount, seatPlace, hookPlace, statePlace, retractedNumbers, flag, netCore, recordNumbers, presentNumbers, seatNumbers}
 use Rattle.world_numbers.specs.Decoding.{isSet, readable, seatOf, decoding}
 use Rattle.world_numbers.proofs.Encoded.{Kept, ticks-fit}
-use Rattle.world_numbers.proofs.Parts.{seat-put, release-put}
+use Rattle.world_numbers.proofs.Parts.{release-put}
 use Rattle.world_numbers.proofs.RowsIn.{rows-long}
 use Rattle.world_numbers.proofs.Seats.{seat-is}
 use Rattle.world_numbers.proofs.Written.{rowAt, row-long, world-is, Written, put-written, written-decoding, Own}
-use Rattle.world_buffers.specs.Leaving.{isAttached, holdsIn, releaseAt, releaseIn, vacateIn, removeIn}
+use Rattle.world_buffers.specs.Leaving.{isAttached, holdsIn, releaseAt, releaseIn, vacateIn}
 use Rattle.world_buffers.proofs.SeatTurns.{Turned, turned, turned-own, put-own, seat-written, seat-own}
 
 -- ---- whom a hook holds, by its numbers

@@ -6,7 +6,7 @@ use native.Mathlib.Decide.{ℕ-discrete}
 use native.Mathlib.Nat.{add-zero}
 use native.Mathlib.Omega.{arith}
 use lib.IntN.{ℤ}
-use lib.ListN.{length, take, drop}
+use lib.ListN.{length, take}
 use Rattle.base_turns.specs.Turns.{fold}
 use Rattle.base_rows.specs.Put.{put}
 use Rattle.base_rows.proofs.Puts.{drop-put-add, put-end}

@@ -13,7 +13,7 @@ use Rattle.num_vec2.specs.declared.vec2.{vec2}
 use Rattle.map_tiles.specs.Map.{isMap}
 use Rattle.map_tiles.specs.declared.tiles.Sides.{Sides}
 use Rattle.map_tiles.specs.Box.{checkBox, characterBox}
-use Rattle.game_records.specs.Numbers.{numberAt, inputNumbers}
+use Rattle.game_records.specs.Numbers.{inputNumbers}
 use Rattle.game_records.specs.declared.PlayerInput.{PlayerInput}
 use Rattle.game_records.proofs.Back.{input-long}
 use Rattle.game_tuning.specs.Tuning.{tuningCount}
@@ -40,7 +40,7 @@ use Rattle.world_numbers.proofs.Any.{decoding-settled}
 use Rattle.world_numbers.proofs.Encoded.{Kept}
 use Rattle.world_numbers.proofs.Parts.{input-put}
 use Rattle.world_numbers.proofs.Seats.{seat-is}
-use Rattle.world_numbers.proofs.Written.{rowAt, row-long, tuning-set, Written, put-written, written-decoding}
+use Rattle.world_numbers.proofs.Written.{rowAt, row-long, tuning-set, put-written, written-decoding}
 use Rattle.world_buffers.specs.Buffers.{Left, refusedIn, acceptedIn, tuneIn, isThere, atSeat, inputIn, leaveIn, joinAtIn, joinIn}
 use Rattle.world_buffers.specs.Leaving.{vacateIn, removeIn}
 use Rattle.world_buffers.specs.Stepping.{StepBuffers, toldIn, stepSeats, leftByStep, stepIn}

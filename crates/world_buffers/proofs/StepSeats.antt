@@ -1,23 +1,22 @@
 -- What an accepted step leaves of a world's numbers stands for the next world, and a world's own numbers it leaves its own. Assumes nothing.
-use Prim.Native.Nat.{ℕ, _+_, _≤_, _<_}
-use mathlib.Core.Bool.{Bool, true, false, cond, _||_, true≢false}
+use Prim.Native.Nat.{ℕ, _+_, _<_}
+use mathlib.Core.Bool.{Bool, true, false, cond, true≢false}
 use mathlib.Core.List.{List, [], _∷_, _++_}
 use mathlib.Core.Path.{_≡_, refl, sym, ap, ap₂, _∙_, subst}
 use native.Mathlib.Omega.{arith}
 use lib.Dec.{eqb}
 use lib.IntN.{ℤ, pos}
-use lib.ListN.{length, take, drop, set, replicate}
+use lib.ListN.{length, drop, set, replicate}
 use lib.Seq.{ext-getD}
 use borrow.Author.Tests.{eq-eqb}
-use Rattle.base_turns.specs.Turns.{fold}
 use Rattle.base_rows.specs.Put.{put}
-use Rattle.base_rows.proofs.Puts.{put-one, drop-put-add}
+use Rattle.base_rows.proofs.Puts.{put-one}
 use Rattle.map_tiles.specs.declared.tiles.Sides.{Sides}
 use Rattle.game_records.specs.Numbers.{numberAt, coreNumbers, inputNumbers}
 use Rattle.game_records.specs.declared.CharacterCore.{CharacterCore}
 use Rattle.game_records.proofs.Back.{core-long}
 use Rattle.game_tuning.specs.Tuning.{tuningCount}
-use Rattle.character.specs.Slot.{emptySlot, withCharacter, withGrounded}
+use Rattle.character.specs.Slot.{withCharacter, withGrounded}
 use Rattle.character.specs.Tick.{seats, slotAt, nowhere}
 use Rattle.character.specs.Records.{coreOf, toNet, fromNet, back, quantize}
 use Rattle.character.specs.declared.Character.{Character}
@@ -32,8 +31,7 @@ use Rattle.world.specs.Settled.{Settled}
 use Rattle.world.specs.Step.{step}
 use Rattle.world.specs.declared.Stepped.{Stepped}
 use Rattle.world.specs.declared.World.{World}
-use Rattle.world.specs.Calls.{vacate}
-use Rattle.world.proofs.TakenRecords.{Taken, Recorded, step-recorded}
+use Rattle.world.proofs.TakenRecords.{Recorded, step-recorded}
 use Rattle.world.proofs.Removal.{listed-ids}
 use Rattle.world.proofs.Seats.{by-test}
 use Rattle.world_numbers.specs.Encoding.{markPlace, seatCount, worldCount, seatPlace, flag, netCore, recordNumbers, presentNumbers, seatNumbers}
@@ -42,11 +40,12 @@ use Rattle.world_numbers.proofs.Encoded.{Kept}
 use Rattle.world_numbers.proofs.Parts.{core-put, mark-put}
 use Rattle.world_numbers.proofs.RowsIn.{rows-long}
 use Rattle.world_numbers.proofs.Seats.{seat-is}
-use Rattle.world_numbers.proofs.Written.{rowAt, row-long, world-is, Written, put-written, Own}
+use Rattle.world_numbers.proofs.Written.{rowAt, row-long, Written, put-written, Own}
 use Rattle.world_buffers.specs.Buffers.{isThere}
 use Rattle.world_buffers.specs.Leaving.{vacateIn, removeIn}
 use Rattle.world_buffers.specs.Stepping.{seatWritten, stepSeat, stepSeats}
 use Rattle.world_buffers.proofs.Gone.{goneSlot, gone-at, gone-tunings, gone-length, gone-marked}
+use Rattle.world_buffers.proofs.Listed.{first-of, either-in}
 use Rattle.world_buffers.proofs.Released.{first-in, present-is, vacate-long, vacate-decoding, vacate-own}
 use Rattle.world_buffers.proofs.SeatTurns.{Turned, turned, turned-own, put-own}
 
@@ -133,19 +132,11 @@ module _ (n : CharacterCore) (g : Bool) (j : ℕ) (l : List ℤ) (h : j < seats)
   seat-turn = by-test (Written seats j (stepSlot n g old) l) (isThere l j) both-written (λ e. record { size = refl; tunings = refl; own = sym (ap (λ (b : Bool). cond b (withGrounded (withCharacter old (fromNet (readable n))) g) old) (present-is (rowAt l j) false (ap isSet (sym (first-in l j)) ∙ e))); others = λ i q d. refl })
 
 -- ---- who is removed
-later-listed : (b c : Bool) → c ≡ true → (b || c) ≡ true
-later-listed true c e = refl
-later-listed false c e = e
-
-first-listed : (b c : Bool) → b ≡ true → (b || c) ≡ true
-first-listed true c e = refl
-first-listed false c e = absurd (true≢false (sym e))
-
 all-gone : (ids : List ℕ) (l : List ℤ) → length l ≡ worldCount → ((k : ℕ) → isIn k ids ≡ true → k < seats) → (length (removeIn l ids) ≡ worldCount) × (decoding seats (removeIn l ids) ≡ removeAll (decoding seats l) ids) × (Own seats l → Own seats (removeIn l ids))
 all-gone [] l long h = (long, refl, λ o. o)
 all-gone (k ∷ ks) l long h =
-    let q = h k (first-listed (eqb k k) (isIn k ks) (eq-eqb k k refl)) in
-    let f = all-gone ks (vacateIn l k) (vacate-long k q l long) (λ j e. h j (later-listed (eqb k j) (isIn j ks) e)) in
+    let q = h k (first-of (eqb k k) (isIn k ks) (eq-eqb k k refl)) in
+    let f = all-gone ks (vacateIn l k) (vacate-long k q l long) (λ j e. h j (either-in (eqb k j) (isIn j ks) e)) in
     (f .0, f .1 ∙ ap (λ (v : World). removeAll v ks) (vacate-decoding k q l long), λ o. f .2 (vacate-own k q l long o))
 
 -- ---- an accepted step

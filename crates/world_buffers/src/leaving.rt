@@ -43,7 +43,8 @@ fn release_in(world: &mut [i32], id: usize)
     requires { ⌜ length (now world) ≡ worldCount ⌝ }
     ensures { λ _. ⌜ now (world .exit) ≡ releaseIn (now (world .entry)) id ⌝ }
 {
-    let retracted = [HOOK_RETRACTED, HOOK_RETRACTED, 0, 0, 0, 0, 0];
+    // Nobody is held, the state, and zeros.
+    let retracted = [-1, HOOK_RETRACTED, 0, 0, 0, 0, 0];
     for j in 0..SEATS {
         if holds_in(world, j, id) {
             copy(world, seat_place(j) + HOOK, &retracted);

@@ -6,12 +6,11 @@ use mathlib.Core.Path.{_≡_, refl, sym, ap, ap₂, _∙_, subst}
 use native.Mathlib.Decide.{ℕ-discrete, decLt}
 use native.Mathlib.Nat.{mul-suc, add-comm}
 use native.Mathlib.Omega.{arith}
-use lib.Dec.{lit<}
 use lib.IntN.{ℤ}
 use lib.ListN.{length, take, drop, set, getD, length-set, length-drop, take-append-drop}
 use lib.Seq.{take-at, drop-at, drop-drop, take-set-lt, drop-set-lt, ext-getD, getD-set-same, getD-set-other, length-take-le}
 use Rattle.base_rows.specs.Put.{put}
-use Rattle.base_rows.proofs.Puts.{length-put, drop-put-add, part-else, take-before, put-append, put-end}
+use Rattle.base_rows.proofs.Puts.{length-put, drop-put-add, part-else, take-before, put-append}
 use Rattle.game_tuning.specs.Tuning.{tuningCount}
 use Rattle.character.specs.Tick.{slotAt, nowhere}
 use Rattle.character.specs.declared.Slot.{Slot}
@@ -153,8 +152,8 @@ each-row f c x long (y ∷ ys) (suc k) h =
 pub encoding-own : (n : ℕ) (w : World) → Settled n w → Own n (encoding w)
 unfolding encoding
 encoding-own n w h = λ k q.
-  let s : seatOf (rowAt (encoding w) k) ≡ slotAt (w .slots) k = sym (seat-is n k (encoding w) q) ∙ ap (λ (v : World). slotAt (v .slots) k) (decoding-encoding n w h) in
-  let r : take seatCount (rowAt (encoding w) k) ≡ seatNumbers (slotAt (w .slots) k) =
+    let s : seatOf (rowAt (encoding w) k) ≡ slotAt (w .slots) k = sym (seat-is n k (encoding w) q) ∙ ap (λ (v : World). slotAt (v .slots) k) (decoding-encoding n w h) in
+    let r : take seatCount (rowAt (encoding w) k) ≡ seatNumbers (slotAt (w .slots) k) =
     ap (take seatCount) (sym (drop-drop (seatCount * k) tuningCount (encoding w)) ∙ ap (drop (seatCount * k)) (drop-at (w .tunings) (each seatNumbers (w .slots)) tuningCount (h .tunings)))
     ∙ each-row seatNumbers seatCount nowhere seat-long (w .slots) k (omega (arith, h .seats)) in
-  record { numbers = r ∙ ap seatNumbers (sym s); kept = subst Kept (sym s) (record { somebody = h .representable k q; nobody = h .empty k q }) }
+    record { numbers = r ∙ ap seatNumbers (sym s); kept = subst Kept (sym s) (record { somebody = h .representable k q; nobody = h .empty k q }) }

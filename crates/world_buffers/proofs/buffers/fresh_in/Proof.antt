@@ -1,9 +1,7 @@
 -- `world_buffers::buffers::fresh_in` meets its contract. Assumes nothing.
 use mathlib.Core.Path.{ap, _∙_, sym}
-use mathlib.Core.List.{List}
-use lib.IntN.{ℤ}
 use Rattle.world_numbers.specs.Encoding.{encoding}
-use Rattle.world_buffers.specs.Buffers.{Left, acceptedIn, freshIn}
+use Rattle.world_buffers.specs.Buffers.{acceptedIn, freshIn}
 use Rattle.world_buffers.proofs.Answers.{no-world, a-world}
 use Rattle.world_buffers.proofs.buffers.fresh_in.Statement.{statement}
 use Rattle.world_buffers.proofs.buffers.fresh_in.Tie as tie

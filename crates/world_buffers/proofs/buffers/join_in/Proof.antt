@@ -3,7 +3,6 @@ use mathlib.Core.Logic.{⊎-elim}
 use mathlib.Core.Path.{_≡_, sym, ap, ap₂, _∙_, subst}
 use lib.Dec.{T}
 use mir.Facts.{toZ-ofZ}
-use Rattle.num_vec2.specs.declared.vec2.{vec2}
 use Rattle.character.specs.Tick.{seats}
 use Rattle.world.specs.Calls.{placeOf, inReach, pointOf}
 use Rattle.world_buffers.specs.Buffers.{joinAtIn, joinIn}

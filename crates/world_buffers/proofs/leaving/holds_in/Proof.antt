@@ -1,5 +1,5 @@
 -- `world_buffers::leaving::holds_in` meets its contract. Assumes nothing.
-use mathlib.Core.Path.{_≡_, sym, ap, _∙_}
+use mathlib.Core.Path.{_≡_, ap, _∙_}
 use Prim.Native.Nat.{ℕ, _+_}
 use Rattle.num_convert.specs.Casts.{castUnsigned}
 use Rattle.game_records.specs.Numbers.{numberAt}
