@@ -65,7 +65,7 @@ abbrev ShortAfter : AfterTick → Type 0
 ShortAfter a = tickOf (a .me .hook) ≤ maxHookGrabTime
 
 -- a tick that is not refused goes on with such a hook
-tick-short : (n : ℕ) (c : Character) (id : ℕ) (ss : List Slot) (s : Sides) (ts : List ℕ) (i : PlayerInput) (t : Tuning) → Then ShortAfter (tickAt n c id ss s ts i t)
+pub tick-short : (n : ℕ) (c : Character) (id : ℕ) (ss : List Slot) (s : Sides) (ts : List ℕ) (i : PlayerInput) (t : Tuning) → Then ShortAfter (tickAt n c id ss s ts i t)
 unfolding tickAt hooked
 tick-short n c id ss s ts i t = let d = steer c (grounded s ts (c .pos)) i t in go d (flight n (d .hook) (c .pos) id ss s ts t)
   where

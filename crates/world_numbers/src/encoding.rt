@@ -50,7 +50,7 @@ pub fn flag(set: bool) -> i32
     if set { 1 } else { 0 }
 }
 
-fn net_core(net: Net) -> CharacterCore
+pub fn net_core(net: Net) -> CharacterCore
     ensures { λ r. ⌜ r ≡ netCore net ⌝ }
 {
     match net {

@@ -16,6 +16,7 @@ pub use encoding::WORLD;
 pub use encoding::encode;
 pub use encoding::encode_records;
 pub use encoding::flag;
+pub use encoding::net_core;
 pub use encoding::present_numbers;
 pub use encoding::record_numbers;
 pub use encoding::seat_place;

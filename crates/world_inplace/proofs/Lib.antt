@@ -1,0 +1,5 @@
+pub mod Read
+pub mod Rows
+pub mod Speeds
+pub mod Ticked
+pub mod Moved
