@@ -5,7 +5,8 @@ use crate::differs::{Differs, same, same_numbers};
 use crate::receives;
 use crate::sequences;
 use harness::draw::any_call;
-use harness::encoding::{RECORDS_NUMBERS, decoded, encoded, encoded_records, encoded_removed};
+use harness::encoding::{RECORDS_NUMBERS, decoded, encoded_records, encoded_removed};
+use harness::rewriting::rewritten;
 use harness::sending::{
     Link, MESSAGE_NUMBERS, SENDER_NUMBERS, Sent, all_numbers, decoded_sender, encoded_screen,
     encoded_sender,
@@ -155,7 +156,7 @@ fn left_by_original(before: Left, map: &Map, call: Call) -> Left {
     match sender.call(&mut world, map, call) {
         Ok(sent) => {
             let mut left = with_sent(before, call, &sent);
-            left.world = encoded(&world);
+            left.world = rewritten(left.world, call, &world, &sent.published);
             if !matches!(call, Call::Join { .. } | Call::Input { .. }) {
                 left.sender = encoded_sender(&sender);
             }

@@ -4,7 +4,8 @@ use crate::any_numbers::{self, Numbers};
 use crate::differs::{Differs, same, same_numbers};
 use crate::sequences;
 use harness::draw::any_call;
-use harness::encoding::{RECORDS_NUMBERS, decoded, encoded, encoded_records, encoded_removed};
+use harness::encoding::{RECORDS_NUMBERS, decoded, encoded_records, encoded_removed};
+use harness::rewriting::rewritten;
 use harness::{Call, Refusal, SEATS};
 use port_calls::{call_on, lent, number};
 use reference::Xorshift;
@@ -101,7 +102,7 @@ fn left_by_original(before: Numbers, map: &Map, call: Call) -> Left {
     };
     Left {
         answer: answer.map_or_else(Refusal::number, |_| 0),
-        world: answer.map_or(before, |_| encoded(&world)),
+        world: answer.map_or(before, |told| rewritten(before, call, &world, &told)),
         records,
         removed,
         count,

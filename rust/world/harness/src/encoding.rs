@@ -11,7 +11,7 @@ use original::{
     CORE_NUMBERS, Character, INPUT_NUMBERS, core_numbers, core_of, input_numbers, input_of,
 };
 
-const SEAT_NUMBERS: usize = 1 + CORE_NUMBERS + INPUT_NUMBERS + 1;
+pub const SEAT_NUMBERS: usize = 1 + CORE_NUMBERS + INPUT_NUMBERS + 1;
 const PUBLISHED_NUMBERS: usize = 1 + CORE_NUMBERS;
 
 pub const WORLD_NUMBERS: usize = TUNINGS + SEATS * SEAT_NUMBERS;
@@ -19,16 +19,18 @@ pub const RECORDS_NUMBERS: usize = SEATS * PUBLISHED_NUMBERS;
 
 pub fn encoded(world: &World) -> [i32; WORLD_NUMBERS] {
     let mut numbers = world.tunings.to_vec();
-    for slot in world.slots {
-        if slot.present {
-            numbers.push(1);
-            numbers.extend(core_numbers(slot.character.to_net()));
-            numbers.extend(input_numbers(slot.input));
-            numbers.push(i32::from(slot.grounded));
-        } else {
-            numbers.extend([0; SEAT_NUMBERS]);
-        }
+    numbers.extend(world.slots.iter().flat_map(seat_numbers));
+    numbers.try_into().expect("as many numbers")
+}
+
+pub fn seat_numbers(slot: &Slot) -> [i32; SEAT_NUMBERS] {
+    if !slot.present {
+        return [0; SEAT_NUMBERS];
     }
+    let mut numbers = vec![1];
+    numbers.extend(core_numbers(slot.character.to_net()));
+    numbers.extend(input_numbers(slot.input));
+    numbers.push(i32::from(slot.grounded));
     numbers.try_into().expect("as many numbers")
 }
 

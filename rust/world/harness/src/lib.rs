@@ -7,6 +7,7 @@ mod others;
 mod physics;
 mod published;
 mod refusal;
+pub mod rewriting;
 pub mod sending;
 mod slot;
 #[cfg(test)]

@@ -1,5 +1,6 @@
 //! The example of document 01, the order among refusals, and that a refused call changes nothing.
 
+mod rewriting;
 mod screens;
 mod seats;
 mod sending;
