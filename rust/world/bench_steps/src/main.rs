@@ -24,6 +24,7 @@ fn main() {
     print_steps(&games);
     print_steps(&scenes::by_players(&mut random));
     print_steps(&scenes::by_speed(&mut random));
+    print_steps(&scenes::by_map(&mut random));
     calls::print_calls(&scenes::crowds(&mut random));
     println!();
     sending::print_sending(&games);

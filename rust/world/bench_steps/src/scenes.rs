@@ -16,6 +16,9 @@ use tile_map::walled::{hall, walled};
 const WIDTH: usize = 256;
 const HEIGHT: usize = 128;
 
+/// Up to the largest that a map may be.
+const MAPS: [(usize, usize); 3] = [(64, 32), (WIDTH, HEIGHT), (1024, 1024)];
+
 const PLAYERS: [usize; 7] = [1, 2, 4, 8, 16, 32, SEATS];
 
 /// In units a step.
@@ -53,6 +56,16 @@ pub fn by_players(random: &mut Xorshift) -> Vec<Scene> {
         Scene::drawn(&name, &ordinary(map, players), random)
     };
     PLAYERS.iter().map(scene).collect()
+}
+
+/// Growth with the map.
+pub fn by_map(random: &mut Xorshift) -> Vec<Scene> {
+    let scene = |&(width, height): &(usize, usize)| {
+        let map = walled(width, height, random).without_spikes();
+        let name = format!("map: {width} by {height}");
+        Scene::drawn(&name, &ordinary(&map, SEATS), random)
+    };
+    MAPS.iter().map(scene).collect()
 }
 
 /// For the calls that are not steps.
