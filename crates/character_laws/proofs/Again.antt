@@ -22,7 +22,7 @@ use Rattle.character.specs.declared.Character.{Character}
 use Rattle.character.specs.declared.records.Net.the-variants as net
 use Rattle.character_laws.proofs.Back.{used-back, already-back, direction-back, to-core}
 use Rattle.character_laws.proofs.FitsHook.{FitsPlace}
-use Rattle.character_laws.proofs.FitsTick.{FitsPair}
+use Rattle.num_order.proofs.Vectors.{FitsPair}
 use Rattle.character_laws.proofs.Held.{Only}
 
 -- no player that would read as nobody

@@ -39,7 +39,8 @@ use Rattle.character.specs.declared.Slot.{Slot}
 use Rattle.character.specs.declared.tick.HookFlight.{HookFlight}
 use Rattle.character.specs.declared.tick.HookFlight.the-variants as reach
 use Rattle.character_laws.proofs.Choices.{either}
-use Rattle.character_laws.proofs.FitsTick.{FitsPair, add-pair}
+use Rattle.num_order.proofs.Vectors.{FitsPair}
+use Rattle.character_laws.proofs.FitsTick.{add-pair}
 use Rattle.character_laws.proofs.Others.{Then}
 use mathlib.Core.Bool.{Bool}
 use lib.Dec.{leb}

@@ -29,7 +29,8 @@ use Rattle.character.specs.declared.walk.PlayerWalk.{PlayerWalk}
 use Rattle.character.specs.declared.walk.PlayerWalk.the-variants as among
 use Rattle.character_laws.proofs.Choices.{either}
 use Rattle.character_laws.proofs.FitsHook.{mix-pair}
-use Rattle.character_laws.proofs.FitsTick.{FitsPair, add-pair}
+use Rattle.num_order.proofs.Vectors.{FitsPair}
+use Rattle.character_laws.proofs.FitsTick.{add-pair}
 use Rattle.character_laws.proofs.Held.{Rests}
 
 -- ---- the box

@@ -39,7 +39,7 @@ use Rattle.character.specs.declared.walk.MovedAt.the-variants as moved
 use Rattle.character_laws.specs.Representable.{Pair, RepresentableHook, Representable}
 use Rattle.character_laws.proofs.Again.{Small, net-again}
 use Rattle.character_laws.proofs.FitsHook.{FitsPlace, tick-place}
-use Rattle.character_laws.proofs.FitsTick.{FitsPair}
+use Rattle.num_order.proofs.Vectors.{FitsPair}
 use Rattle.character_laws.proofs.FitsWalk.{move-place}
 use Rattle.character_laws.proofs.Held.{Only, tick-only, Rests, move-hook}
 use Rattle.character_laws.proofs.Others.{Then, pulled-others, pulled-length}
