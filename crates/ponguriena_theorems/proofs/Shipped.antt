@@ -14,6 +14,8 @@ use Rattle.send_rule.proofs.Foreseen.{copy-foresees, copy-stays}
 use Rattle.send_alone.proofs.Copies.{copies-alone}
 use Rattle.world_numbers.proofs.Encoded.{comes-back}
 use Rattle.world_numbers.proofs.Any.{any-comes-back}
+use Rattle.world_buffers.proofs.Stands.{calls-stand}
+use Rattle.world_buffers.proofs.Refusals.{refusals-leave}
 use Rattle.world_buffers.proofs.Reached.{buffer-follows}
 use Rattle.send_buffers.proofs.Reached.{link-follows}
 use Rattle.session_laws.proofs.Whole.{whole-output}
@@ -41,4 +43,4 @@ all-theorems n = record {
 }
 
 pub shipped : Shipped
-shipped = record { theorems = all-theorems seats; buffers = buffer-follows; links = link-follows }
+shipped = record { theorems = all-theorems seats; stand = calls-stand; refusals = refusals-leave; buffers = buffer-follows; links = link-follows }

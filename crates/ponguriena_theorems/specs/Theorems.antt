@@ -13,7 +13,7 @@ use Rattle.send_rule.specs.Along.{Along}
 use Rattle.send_rule.specs.Foreseen.{Foreseen, Stays}
 use Rattle.send_alone.specs.Alone.{CopiesAlone}
 use Rattle.world_numbers.specs.Decoding.{ComesBack, AnyComesBack}
-use Rattle.world_buffers.specs.Following.{BufferFollows}
+use Rattle.world_buffers.specs.Following.{CallsStand, RefusalsLeave, BufferFollows}
 use Rattle.send_buffers.specs.Following.{LinkFollows}
 use Rattle.session_laws.specs.Played.{WholeOutput, PlayEnds}
 
@@ -47,5 +47,9 @@ pub record Theorems (n : ℕ) : Type 0 where
 -- at the seats that there are; and that the numbers which C programs hold are those of the worlds and links that the theorems speak of
 pub record Shipped : Type 0 where
   pub theorems : Theorems seats
+  -- on any numbers a call is the one by value on the world that they stand for, and a refused one leaves every number
+  pub stand : CallsStand
+  pub refusals : RefusalsLeave
+  -- after every list of calls from a fresh world, and from a fresh link
   pub buffers : BufferFollows
   pub links : LinkFollows
