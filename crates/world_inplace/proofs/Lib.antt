@@ -3,3 +3,4 @@ pub mod Rows
 pub mod Speeds
 pub mod Ticked
 pub mod Moved
+pub mod Advanced

@@ -36,12 +36,13 @@ use Rattle.character.specs.declared.walk.MovedAt.the-variants as moved
 use Rattle.character.specs.declared.walk.PlayerWalk.{PlayerWalk}
 use Rattle.character.specs.declared.walk.PlayerWalk.the-variants as among
 use Rattle.character_laws.proofs.Back.{to-core}
+use Rattle.world.specs.Demand3.{recordAt}
 use Rattle.world.specs.Step.{unpublished, putBack, Moving, recordOf, moveIn, moveTurn, movingFrom}
 use Rattle.world.specs.declared.Published.{Published}
 use Rattle.world.specs.declared.Recorded.the-variants.{Refused, Core}
 use Rattle.world_numbers.specs.Encoding.{recordCount, recordNumbers}
 use Rattle.world_inplace.specs.Bodies.{Bodies, BodiesOf, rowOf, bodyPlace, bodyNumbers, RowFor}
-use Rattle.world_inplace.specs.Moves.{Ready, recordAt, MovesOf, MovesWent, MovesDone, MoveOf}
+use Rattle.world_inplace.specs.Moves.{Ready, MovesOf, MovesWent, MovesDone, MoveOf}
 use Rattle.world_inplace.proofs.Rows.{no-row, row-part, row-else}
 
 -- ---- a move asks nothing of a character but its place and velocity
@@ -72,8 +73,8 @@ none-moved ss b rows marks h = record {
   size = h .size;
   sized = h .sized;
   places = λ j l. h .bodies j l .placed;
-  marked = λ j l q. h .ticked j l q .1;
-  waits = λ j z l q. (h .ticked j l q .0, h .bodies j l .moves q);
+  marked = h .marked;
+  waits = λ j z l q. (h .ticked j l q, h .bodies j l .moves q);
   absent = λ j l q. h .absent j l q ∙ no-row ∙ ap recordNumbers (sym (getD-replicate seats j unpublished unpublished l));
   told = λ j z. absurd (omega arith);
 }
@@ -168,12 +169,12 @@ module _ (s : Sides) (ts : List ℕ) (t : Tuning) (j : ℕ) (l : j < seats) (m :
         };
       }
         where
-          marked : (i : ℕ) → i < seats → slotAt (left .slots) i .present ≡ true → getD marks i false ≡ slotAt (left .slots) i .grounded
-          marked i r q = go (ℕ-discrete i j)
+          marked : (i : ℕ) → i < seats → getD marks i false ≡ slotAt (left .slots) i .grounded
+          marked i r = go (ℕ-discrete i j)
             where
               go : Dec (i ≡ j) → getD marks i false ≡ slotAt (left .slots) i .grounded
-              go (yes f) = rw (f, own-slot) (h .marked j l here)
-              go (no f) = h .marked i r (sym (ap (λ (u : Slot). u .present) (other-slot i f)) ∙ q) ∙ sym (ap (λ (u : Slot). u .grounded) (other-slot i f))
+              go (yes f) = rw (f, own-slot) (h .marked j l)
+              go (no f) = h .marked i r ∙ sym (ap (λ (u : Slot). u .grounded) (other-slot i f))
 
           waits : (i : ℕ) → j + 1 ≤ i → i < seats → slotAt (left .slots) i .present ≡ true → RowFor (rowOf rows-left i) (slotAt (left .slots) i .character) × (placeAt (b .vxs) (b .vys) i ≡ slotAt (left .slots) i .character .vel)
           waits i w r q = let f : (i ≡ j → ⊥) = λ g. omega arith in rw (other-slot i f, other-row i f) (h .waits i (omega arith) r (sym (ap (λ (u : Slot). u .present) (other-slot i f)) ∙ q))

@@ -17,11 +17,11 @@ use Rattle.character_hook.specs.Hook.{tickOf}
 use Rattle.character.specs.Records.{netJumped, coreOf, mostTick, toNet}
 use Rattle.character.specs.declared.Character.{Character}
 use Rattle.character_laws.proofs.Back.{to-core}
+use Rattle.world.specs.Demand3.{recordAt}
 use Rattle.world.specs.Step.{unpublished}
 use Rattle.world.specs.declared.Published.{Published}
 use Rattle.world_numbers.specs.Encoding.{recordCount, recordsCount, each, netCore, recordNumbers, recordsEncoding}
-use Rattle.world_inplace.specs.Bodies.{rowOf, Blank, bodyPlace, bodyNumbers, RowFor}
-use Rattle.world_inplace.specs.Moves.{recordAt}
+use Rattle.world_inplace.specs.Bodies.{rowOf, bodyPlace, bodyNumbers, RowFor}
 
 -- ---- one row
 -- of whoever has ticked
@@ -72,7 +72,7 @@ part-replicate a n m x h =
     ∙ ap (take n) (sym (replicate-append-replicate n (m - (a + n)) x))
     ∙ take-at (replicate n x) r n (length-replicate n x)
 
-pub blank-long : (rows : List ℤ) → Blank rows → length rows ≡ recordsCount
+pub blank-long : (rows : List ℤ) → rows ≡ replicate recordsCount (pos 0) → length rows ≡ recordsCount
 blank-long rows e = ap length e ∙ length-replicate recordsCount (pos 0)
 
 pub blank-row : (n j : ℕ) (rows : List ℤ) → rows ≡ replicate (recordCount * n) (pos 0) → j < n → rowOf rows j ≡ replicate recordCount (pos 0)

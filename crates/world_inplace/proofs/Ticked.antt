@@ -6,12 +6,13 @@ use mathlib.Core.Path.{_≡_, refl, sym, ap, _∙_, subst}
 use native.Mathlib.Decide.{ℕ-discrete}
 use native.Mathlib.Omega.{arith}
 use lib.IntN.{ℤ, pos}
-use lib.ListN.{length, getD, set, drop, replicate, length-set}
+use lib.ListN.{length, getD, set, drop, replicate, length-set, length-replicate, getD-replicate}
 use lib.Seq.{getD-set-same, getD-set-other}
 use Rattle.base_rows.specs.Put.{put}
 use Rattle.base_rows.proofs.Puts.{length-put}
 use Rattle.base_turns.specs.Turns.{Turn, more, stop}
 use Rattle.base_turns.proofs.Loop.{Left, turn-on, turn-off, turn-end}
+use Rattle.game_records.specs.Numbers.{numberAt}
 use Rattle.game_refusals.specs.Refusals.{tooFar}
 use Rattle.game_tuning.specs.Tuning.{tuningCount}
 use Rattle.game_tuning.specs.declared.Tuning.{Tuning}
@@ -36,7 +37,7 @@ use Rattle.world.proofs.Numbers.{tick-short}
 use Rattle.game_constants.specs.Constants.{maxHookGrabTime}
 use Rattle.world.specs.Step.{tickTurn}
 use Rattle.world_numbers.specs.Encoding.{recordCount, seatPlace, netCore, recordNumbers}
-use Rattle.world_numbers.specs.Decoding.{seatOf, seatsOf, decoding}
+use Rattle.world_numbers.specs.Decoding.{isSet, seatOf, seatsOf, decoding}
 use Rattle.world_numbers.proofs.Rows.{record-long}
 use Rattle.world_numbers.proofs.RowsIn.{rows-long}
 use Rattle.world_numbers.proofs.Seats.{seat-is}
@@ -49,18 +50,28 @@ use Rattle.world_inplace.proofs.Speeds.{withSpeedAt, speed-set, pulled-
 pub places-in : (n : ℕ) (ss : List Slot) (b : Bodies) → BodiesOf n ss b → PlacesOf n ss (b .present) (b .xs) (b .ys)
 places-in n ss b h j l = h j l .placed
 
+-- an absent seat has no floor mark
+unmarked : (r : List ℤ) → (seatOf r .present ≡ true → ⊥) → seatOf r .grounded ≡ false
+unfolding seatOf
+unmarked r = go (isSet (numberAt r 0)) refl
+  where
+    go : (q : Bool) → isSet (numberAt r 0) ≡ q → (seatOf r .present ≡ true → ⊥) → seatOf r .grounded ≡ false
+    go true e h = absurd (h (rw e refl))
+    go false e h = rw e refl
+
 -- nobody has ticked yet
-pub none-ticked : (l : List ℤ) (b : Bodies) (rows : List ℤ) (marks : List Bool) → Blank rows → length marks ≡ seats → Sized b → BodiesOf seats (seatsOf seats (drop tuningCount l)) b → TicksOf l 0 (seatsOf seats (drop tuningCount l)) b rows marks
+pub none-ticked : (l : List ℤ) (b : Bodies) (rows : List ℤ) (marks : List Bool) → Blank rows marks → Sized b → BodiesOf seats (seatsOf seats (drop tuningCount l)) b → TicksOf l 0 (seatsOf seats (drop tuningCount l)) b rows marks
 unfolding decoding
-none-ticked l b rows marks e g z h = record {
+none-ticked l b rows marks e z h = record {
   count = rows-long seatOf _ seats (drop tuningCount l);
-  size = blank-long rows e;
-  markers = g;
+  size = blank-long rows (e .zeros);
+  markers = ap length (e .unset) ∙ length-replicate seats false;
   sized = z;
   bodies = h;
   waits = λ j q m. same (seat-is seats j l m);
   ticked = λ j q. absurd (omega arith);
-  absent = λ j m q. blank-row seats j rows e m;
+  marked = λ j m q. ap (λ (ks : List Bool). getD ks j false) (e .unset) ∙ getD-replicate seats j false false m ∙ sym (ap (λ (s : Slot). s .grounded) (seat-is seats j l m) ∙ unmarked (drop (seatPlace j) l) (λ w. absurd (let n : j < 0 = q (ap (λ (s : Slot). s .present) (seat-is seats j l m) ∙ w) in omega arith)));
+  absent = λ j m q. blank-row seats j rows (e .zeros) m;
 }
   where
     same : {s o : Slot} → s ≡ o → s ≡ withSpeed o (s .character .vel)
@@ -165,6 +176,7 @@ module _ (l : List ℤ) (s : Sides) (ts : List ℕ) (t : Tuning) (j : ℕ) (m : 
           bodies = bodies;
           waits = waits;
           ticked = ticked;
+        marked = marked;
           absent = absent;
         };
       }
@@ -172,14 +184,24 @@ module _ (l : List ℤ) (s : Sides) (ts : List ℕ) (t : Tuning) (j : ℕ) (m : 
           waits : (i : ℕ) → j + 1 ≤ i → i < seats → slotAt left i ≡ withSpeed (seatOf (drop (seatPlace i) l)) (slotAt left i .character .vel)
           waits i q r = let d : (i ≡ j → ⊥) = λ f. omega arith in other-left i d ∙ ap (λ (v : Slot). withSpeed v (slotAt left i .character .vel)) (h .waits i (omega arith) r)
 
-          ticked : (i : ℕ) → i < j + 1 → i < seats → slotAt left i .present ≡ true → RowFor (rowOf rows-left i) (slotAt left i .character) × (getD (set marks j g) i false ≡ slotAt left i .grounded)
+          ticked : (i : ℕ) → i < j + 1 → i < seats → slotAt left i .present ≡ true → RowFor (rowOf rows-left i) (slotAt left i .character)
           ticked i q r w = go (ℕ-discrete i j)
             where
-              go : Dec (i ≡ j) → RowFor (rowOf rows-left i) (slotAt left i .character) × (getD (set marks j g) i false ≡ slotAt left i .grounded)
-              go (yes f) = rw (f, own-left) (subst (λ (u : List ℤ). RowFor u me) (sym (row-whole seats j rows (h .size) m row long)) (row-for me short), getD-set-same marks j g false (omega (arith, h .markers)))
+              go : Dec (i ≡ j) → RowFor (rowOf rows-left i) (slotAt left i .character)
+              go (yes f) = rw (f, own-left) (subst (λ (u : List ℤ). RowFor u me) (sym (row-whole seats j rows (h .size) m row long)) (row-for me short))
               go (no d) =
                   let old = h .ticked i (omega arith) r (sym (there i) ∙ w) in
-                  rw (other-left i d, other-row i d) (record { fits = old .0 .fits; moved = old .0 .moved }, getD-set-other marks j i g false d ∙ old .1)
+                  rw (other-left i d, other-row i d) (record { fits = old .fits; moved = old .moved })
+
+          marked : (i : ℕ) → i < seats → (slotAt left i .present ≡ true → i < j + 1) → getD (set marks j g) i false ≡ slotAt left i .grounded
+          marked i r w = go (ℕ-discrete i j)
+            where
+              go : Dec (i ≡ j) → getD (set marks j g) i false ≡ slotAt left i .grounded
+              go (yes f) = rw (f, own-left) (getD-set-same marks j g false (omega (arith, h .markers)))
+              go (no d) =
+                  getD-set-other marks j i g false d
+                  ∙ h .marked i r (λ z. let n : i < j + 1 = w (there i ∙ z) in omega arith)
+                  ∙ sym (ap (λ (x : Slot). x .grounded) (other-left i d))
 
           absent : (i : ℕ) → i < seats → slotAt left i .present ≡ false → rowOf rows-left i ≡ replicate recordCount (pos 0)
           absent i r w =
@@ -206,10 +228,13 @@ module _ (l : List ℤ) (s : Sides) (ts : List ℕ) (t : Tuning) (i : ℕ) (e : 
   tick-past m z =
       let gone = present-there m false z in
       let o = h .stand in
-      record { slots = h .slots; goes = turn-on (h .goes) m (simp gone); stand = record { count = o .count; size = o .size; markers = o .markers; sized = o .sized; bodies = o .bodies; waits = λ j q. o .waits j (omega arith); ticked = λ j q r w. o .ticked j (below j q (λ f. true≢false (sym w ∙ ap (λ (n : ℕ). slotAt (h .slots) n .present) f ∙ gone))) r w; absent = o .absent } }
+      record { slots = h .slots; goes = turn-on (h .goes) m (simp gone); stand = record { count = o .count; size = o .size; markers = o .markers; sized = o .sized; bodies = o .bodies; waits = λ j q. o .waits j (omega arith); ticked = λ j q r w. o .ticked j (below j q w) r w; marked = λ j r q. o .marked j r (λ w. below j (q w) w); absent = o .absent } }
     where
-      below : (j : ℕ) → j < i + 1 → (j ≡ i → ⊥) → j < i
-      below j q d = omega arith
+      less : (j : ℕ) → j < i + 1 → (j ≡ i → ⊥) → j < i
+      less j q d = omega arith
+
+      below : (j : ℕ) → j < i + 1 → slotAt (h .slots) j .present ≡ true → j < i
+      below j q w = less j q (λ f. true≢false (sym w ∙ ap (λ (n : ℕ). slotAt (h .slots) n .present) f ∙ present-there m false z))
 
   pub tick-off : i < seats → getD (b .present) i false ≡ true → (r : Bool) → r ≡ false → (c : Bodies) (us : List ℤ) (ks : List Bool) → TickOf r l i s ts t b rows marks c us ks → e ≡ stop tooFar
   tick-off m z r q c us ks f = turn-off (h .goes) m (subst (λ (r : Bool). TicksDone r l (i + 1) (tickTurn seats s ts t i (h .slots)) c us ks) q (f (h .slots) (present-there m true z) (h .stand)))

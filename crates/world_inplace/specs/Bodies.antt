@@ -70,9 +70,10 @@ speedsAfter b c own t =
 abbrev pub rowOf : List ℤ → ℕ → List ℤ
 rowOf rows j = take recordCount (drop (recordCount * j) rows)
 
--- nobody has a record yet
-abbrev pub Blank : List ℤ → Type 0
-Blank rows = rows ≡ replicate recordsCount (pos 0)
+-- nobody has a record or a floor mark yet
+pub record Blank (rows : List ℤ) (marks : List Bool) : Type 0 where
+  pub zeros : rows ≡ replicate recordsCount (pos 0)
+  pub unset : marks ≡ replicate seats false
 
 -- where the four numbers begin in a row that a move may change, and which they are
 abbrev pub bodyPlace : ℕ

@@ -12,8 +12,8 @@ use Rattle.map_tiles.specs.declared.tiles.Sides.{Sides}
 use Rattle.character.specs.Places.{placeAt, PlacesOf}
 use Rattle.character.specs.Tick.{seats, slotAt}
 use Rattle.character.specs.declared.Slot.{Slot}
-use Rattle.world.specs.Step.{unpublished, Moving, moveTurn, moveAll}
-use Rattle.world.specs.declared.Published.{Published}
+use Rattle.world.specs.Demand3.{recordAt}
+use Rattle.world.specs.Step.{Moving, moveTurn, moveAll}
 use Rattle.world_numbers.specs.Encoding.{recordCount, recordsCount, recordNumbers}
 use Rattle.world_inplace.specs.Bodies.{Bodies, Sized, BodiesOf, rowOf, RowFor}
 use Rattle.world_inplace.specs.Ticks.{Answered}
@@ -24,12 +24,9 @@ pub record Ready (ss : List Slot) (b : Bodies) (rows : List ℤ) (marks : List B
   pub size : length rows ≡ recordsCount
   pub sized : Sized b
   pub bodies : BodiesOf seats ss b
-  pub ticked : (j : ℕ) → j < seats → slotAt ss j .present ≡ true → RowFor (rowOf rows j) (slotAt ss j .character) × (getD marks j false ≡ slotAt ss j .grounded)
+  pub ticked : (j : ℕ) → j < seats → slotAt ss j .present ≡ true → RowFor (rowOf rows j) (slotAt ss j .character)
+  pub marked : (j : ℕ) → j < seats → getD marks j false ≡ slotAt ss j .grounded
   pub absent : (j : ℕ) → j < seats → slotAt ss j .present ≡ false → rowOf rows j ≡ replicate recordCount (pos 0)
-
--- the record j of those that are published
-abbrev pub recordAt : List Published → ℕ → Published
-recordAt rs j = getD rs j unpublished
 
 -- the ids below i have moved, which left the slots and records of m
 pub record MovesOf (i : ℕ) (m : Moving) (b : Bodies) (rows : List ℤ) (marks : List Bool) : Type 0 where
@@ -38,7 +35,7 @@ pub record MovesOf (i : ℕ) (m : Moving) (b : Bodies) (rows : List ℤ) (marks 
   pub size : length rows ≡ recordsCount
   pub sized : Sized b
   pub places : PlacesOf seats (m .slots) (b .present) (b .xs) (b .ys)
-  pub marked : (j : ℕ) → j < seats → slotAt (m .slots) j .present ≡ true → getD marks j false ≡ slotAt (m .slots) j .grounded
+  pub marked : (j : ℕ) → j < seats → getD marks j false ≡ slotAt (m .slots) j .grounded
   pub waits : (j : ℕ) → i ≤ j → j < seats → slotAt (m .slots) j .present ≡ true → RowFor (rowOf rows j) (slotAt (m .slots) j .character) × (placeAt (b .vxs) (b .vys) j ≡ slotAt (m .slots) j .character .vel)
   pub absent : (j : ℕ) → j < seats → slotAt (m .slots) j .present ≡ false → rowOf rows j ≡ recordNumbers (recordAt (m .records) j)
   pub told : (j : ℕ) → j < i → j < seats → slotAt (m .slots) j .present ≡ true → rowOf rows j ≡ recordNumbers (recordAt (m .records) j)

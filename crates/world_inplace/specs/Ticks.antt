@@ -36,7 +36,8 @@ pub record TicksOf (l : List ℤ) (i : ℕ) (ss : List Slot) (b : Bodies) (rows 
   pub sized : Sized b
   pub bodies : BodiesOf seats ss b
   pub waits : (j : ℕ) → i ≤ j → j < seats → slotAt ss j ≡ withSpeed (seatOf (drop (seatPlace j) l)) (slotAt ss j .character .vel)
-  pub ticked : (j : ℕ) → j < i → j < seats → slotAt ss j .present ≡ true → RowFor (rowOf rows j) (slotAt ss j .character) × (getD marks j false ≡ slotAt ss j .grounded)
+  pub ticked : (j : ℕ) → j < i → j < seats → slotAt ss j .present ≡ true → RowFor (rowOf rows j) (slotAt ss j .character)
+  pub marked : (j : ℕ) → j < seats → (slotAt ss j .present ≡ true → j < i) → getD marks j false ≡ slotAt ss j .grounded
   pub absent : (j : ℕ) → j < seats → slotAt ss j .present ≡ false → rowOf rows j ≡ replicate recordCount (pos 0)
 
 -- the ticks went on, to slots that these arrays stand for

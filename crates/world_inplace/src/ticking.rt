@@ -44,7 +44,7 @@ pub fn tick_seats(
     tiles: &[u8],
     tuning: Tuning,
 ) -> bool
-    requires { ⌜ T (isMap sides (now tiles)) × (length (now numbers) ≡ worldCount) × Blank (now rows) × (length (now marks) ≡ seats) × Sized (record { present = now present; xs = now xs; ys = now ys; vxs = now vxs; vys = now vys }) × BodiesOf seats (seatsOf seats (drop tuningCount (now numbers))) (record { present = now present; xs = now xs; ys = now ys; vxs = now vxs; vys = now vys }) ⌝ }
+    requires { ⌜ T (isMap sides (now tiles)) × (length (now numbers) ≡ worldCount) × Blank (now rows) (now marks) × Sized (record { present = now present; xs = now xs; ys = now ys; vxs = now vxs; vys = now vys }) × BodiesOf seats (seatsOf seats (drop tuningCount (now numbers))) (record { present = now present; xs = now xs; ys = now ys; vxs = now vxs; vys = now vys }) ⌝ }
     ensures { λ r. ⌜ TicksDone r (now (numbers .entry)) seats (tickAll seats (seatsOf seats (drop tuningCount (now (numbers .entry)))) sides (now (tiles .entry)) tuning) (record { present = now (present .entry); xs = now (xs .entry); ys = now (ys .entry); vxs = now (vxs .exit); vys = now (vys .exit) }) (now (rows .exit)) (now (marks .exit)) ⌝ }
 {
     for id in 0..SEATS {

@@ -1,15 +1,17 @@
--- The loop that removes: its list grows by the id of its turn, in the array and in the world. Assumes nothing.
+-- A loop that removes or lists who dies: its list grows by the id of its turn, in the array and in the world. Assumes nothing.
 use Prim.Native.Nat.{ℕ, zero, suc, _+_, _-_, _≤_, _<_}
 use native.Mathlib.Numerals.{add-one}
+use native.Mathlib.Nat.{sub-zero}
 use native.Mathlib.Omega.{arith}
 use mathlib.Core.Bool.{Bool, true, false, cond}
 use mathlib.Core.List.{List, [], _∷_, _++_, map, append-nil}
-use mathlib.Core.Path.{_≡_, refl, sym, ap, _∙_}
+use mathlib.Core.Path.{_≡_, refl, sym, ap, ap₂, _∙_, subst}
 use lib.IntN.{ℤ, pos}
 use lib.ListN.{length, set, replicate, length-append, length-map}
 use lib.Seq.{set-at, append-snoc}
 use Rattle.world.specs.Calls.{vacate}
 use Rattle.world.specs.Removal.{idsOf, removeAll, listed}
+use Rattle.world.specs.declared.Removed.{Removed}
 use Rattle.world.specs.declared.World.{World}
 
 module _ (f : ℕ → Bool) where
@@ -58,13 +60,51 @@ module _ (n : ℕ) (l : List ℕ) (k : ℕ) (h : length l < n) where
   longer : length (l ++ (k ∷ [])) ≡ suc (length l)
   longer = length-append l (k ∷ []) ∙ omega arith
 
-  pub count-last : length l + 1 ≡ length (l ++ (k ∷ []))
+  count-last : length l + 1 ≡ length (l ++ (k ∷ []))
   count-last = add-one (length l) ∙ sym longer
 
-  pub ids-set : set (listed n l .ids) (length l) (pos k) ≡ listed n (l ++ (k ∷ [])) .ids
+  ids-set : set (listed n l .ids) (length l) (pos k) ≡ listed n (l ++ (k ∷ [])) .ids
   ids-set =
       ap (λ (r : List ℤ). set (map pos l ++ r) (length l) (pos k)) room
       ∙ set-at (map pos l) (pos 0) (zeros (n - suc (length l))) (pos k) (length l) (length-map l pos)
       ∙ sym (append-snoc (map pos l) (pos k) (zeros (n - suc (length l))))
       ∙ ap (λ (m : List ℤ). m ++ zeros (n - suc (length l))) (sym (map-last l k))
       ∙ ap (λ (m : ℕ). map pos (l ++ (k ∷ [])) ++ zeros (n - m)) (sym longer)
+
+-- ---- the ids that are listed one after another
+
+-- after j of n turns the ids and their count are those of whom f is true
+pub record Listing (f : ℕ → Bool) (n j : ℕ) (ids : List ℤ) (count : ℕ) : Type 0 where
+  pub within : j ≤ n
+  pub ids-are : ids ≡ listed n (idsOf f j 0) .ids
+  pub count-is : count ≡ length (idsOf f j 0)
+
+pub none-listed : (f : ℕ → Bool) (n : ℕ) → Listing f n 0 (replicate n (pos 0)) 0
+none-listed f n = record { within = omega arith; ids-are = ap (λ (m : ℕ). replicate m (pos 0)) (sym (sub-zero n)); count-is = refl }
+
+module _ (f : ℕ → Bool) (n j : ℕ) (ids : List ℤ) (count : ℕ) (h : Listing f n j ids count) where
+  pub listed-now : _≡_ {A = Removed} (record { count = count; ids = ids }) (listed n (idsOf f j 0))
+  listed-now = ap₂ (λ (c : ℕ) (is : List ℤ). record { count = c; ids = is }) (h .count-is) (h .ids-are)
+
+  module _ (l : j < n) where
+    pub listing-fits : count < n
+    listing-fits = let q = ids-fit f j 0 in omega (arith, h .count-is, q)
+
+    pub listing-more : (is : List ℤ) (c : ℕ) → f j ≡ true → is ≡ set ids count (pos j) → c ≡ count + 1 → Listing f n (j + 1) is c
+    listing-more is c d g k =
+        let more = sym (ids-more f j d) in
+        let room : length (idsOf f j 0) < n = subst (λ (m : ℕ). m < n) (h .count-is) listing-fits in
+        record {
+          within = omega arith;
+          ids-are = g ∙ rw (h .ids-are, h .count-is) (ids-set n (idsOf f j 0) j room) ∙ ap (λ (m : List ℕ). listed n m .ids) more;
+          count-is = k ∙ ap (λ (m : ℕ). m + 1) (h .count-is) ∙ count-last n (idsOf f j 0) j room ∙ ap length more;
+        }
+
+    pub listing-same : (is : List ℤ) (c : ℕ) → f j ≡ false → is ≡ ids → c ≡ count → Listing f n (j + 1) is c
+    listing-same is c d g k =
+        let same = sym (ids-same f j d) in
+        record {
+          within = omega arith;
+          ids-are = g ∙ h .ids-are ∙ ap (λ (m : List ℕ). listed n m .ids) same;
+          count-is = k ∙ h .count-is ∙ ap length same;
+        }

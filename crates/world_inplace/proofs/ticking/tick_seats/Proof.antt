@@ -27,7 +27,7 @@ unfolding tickAll
 loop-holds c =
     let a = c .before .args in
     let p = c .before .pre in
-    record { slots = seatsOf seats (drop tuningCount (a .numbers .now)); goes = turn-first; stand = none-ticked (a .numbers .now) _ (a .rows .now) (a .marks .now) (p .2) (p .3) (p .4) (p .5) }
+    record { slots = seatsOf seats (drop tuningCount (a .numbers .now)); goes = turn-first; stand = none-ticked (a .numbers .now) _ (a .rows .now) (a .marks .now) (p .2) (p .3) (p .4) }
 
 element-copy-out-if1 : tie.Need-element-copy-out-if1 Inv-loop μ-loop
 element-copy-out-if1 c = search needs
@@ -36,7 +36,7 @@ tick-seat-requires : tie.Need-tick-seat-requires Inv-loop μ-loop
 tick-seat-requires c κs = let p = c .before .before .before .before .before .before .before .before .before .pre in (p .0, p .1, c .before .before .before .before .before .before .before .loop .inv .stand .size, c .before .before .before .before .before .before .loop-test .taken)
 
 same-length : tie.Need-same-length Inv-loop μ-loop
-same-length c = c .before .before .tick-seat .kept .1 .1 .1 .1 .1 .1 .1 .0 ∙ c .before .before .before .before .before .before .before .before .before .before .loop .inv .stand .size ∙ sym (blank-long _ (c .before .before .before .before .before .before .before .before .before .before .before .before .pre .2))
+same-length c = c .before .before .tick-seat .kept .1 .1 .1 .1 .1 .1 .1 .0 ∙ c .before .before .before .before .before .before .before .before .before .before .loop .inv .stand .size ∙ sym (blank-long _ (c .before .before .before .before .before .before .before .before .before .before .before .before .pre .2 .zeros))
 
 returns : tie.Need-returns Inv-loop μ-loop
 returns c =
@@ -62,7 +62,7 @@ loop-again c =
     (c .if1 .came)
 
 same-length-2 : tie.Need-same-length-2 Inv-loop μ-loop
-same-length-2 c = c .before .loop .inv .stand .size ∙ sym (blank-long _ (c .before .before .before .pre .2))
+same-length-2 c = c .before .loop .inv .stand .size ∙ sym (blank-long _ (c .before .before .before .pre .2 .zeros))
 
 returns-2 : tie.Need-returns-2 Inv-loop μ-loop
 returns-2 c =

@@ -2,13 +2,13 @@
 use mathlib.Core.Bool.{Bool, true, false}
 use mathlib.Core.List.{List}
 use mathlib.Core.Logic.{⊎-elim}
-use mathlib.Core.Path.{_≡_, refl, sym, ap, ap₂, _∙_, subst}
-use Prim.Native.Nat.{ℕ, _+_, _-_, _≤_, _<_}
+use mathlib.Core.Path.{_≡_, refl, sym, ap, _∙_}
+use Prim.Native.Nat.{ℕ, _+_, _-_, _<_}
 use native.Mathlib.Nat.{lt-of-lt-of-le}
 use native.Mathlib.Omega.{arith}
 use lib.Dec.{lit≤}
 use lib.IntN.{ℤ, pos}
-use lib.ListN.{length, set}
+use lib.ListN.{set}
 use mir.Facts.{toZ-pos}
 use mir.Syntax.{w32}
 use mir.Val.{toZ}
@@ -19,9 +19,8 @@ use Rattle.character.specs.Tick.{seats, slotAt}
 use Rattle.character.specs.declared.Slot.{Slot}
 use Rattle.world.specs.Calls.{vacate}
 use Rattle.world.specs.Removal.{idsOf, dies, dying, removeAll, listed}
-use Rattle.world.specs.declared.Removed.{Removed}
 use Rattle.world.specs.declared.World.{World}
-use Rattle.world_step.proofs.Listed.{ids-more, ids-same, ids-fit, removed-last, count-last, ids-set}
+use Rattle.world_step.proofs.Listed.{ids-more, ids-same, removed-last, Listing, none-listed, listed-now, listing-fits, listing-more, listing-same}
 use Rattle.world_step.proofs.removing.remove_dying.Statement.{statement}
 use Rattle.world_step.proofs.removing.remove_dying.Tie as tie
 
@@ -33,38 +32,21 @@ module _ (s : Sides) (ts : List ℕ) (ss : List Slot) (w : World) where
 
   -- after j turns
   record Removing (j : ℕ) (next : World) (ids : List ℤ) (count : ℕ) : Type 0 where
-    within : j ≤ seats
+    list : Listing (λ i. dies s ts (slotAt ss i)) seats j ids count
     world-is : next ≡ removeAll w (upTo j)
-    ids-are : ids ≡ listed seats (upTo j) .ids
-    count-is : count ≡ length (upTo j)
-
-  told : (j : ℕ) (next : World) (ids : List ℤ) (count : ℕ) → Removing j next ids count → _≡_ {A = Removed} (record { count = count; ids = ids }) (listed seats (upTo j))
-  told j next ids count h = ap₂ (λ (c : ℕ) (is : List ℤ). record { count = c; ids = is }) (h .count-is) (h .ids-are)
 
   module _ (j : ℕ) (next : World) (ids : List ℤ) (count : ℕ) (h : Removing j next ids count) (l : j < seats) where
-    fits : count < seats
-    fits = let f = ids-fit (λ i. dies s ts (slotAt ss i)) j 0 in omega (arith, h .count-is, f)
-
     dead : (v : World) (is : List ℤ) (c : ℕ) → dies s ts (slotAt ss j) ≡ true → v ≡ vacate next j → is ≡ set ids count (pos j) → c ≡ count + 1 → Removing (j + 1) v is c
-    dead v is c d e g k =
-        let more = sym (ids-more (λ i. dies s ts (slotAt ss i)) j d) in
-        let room : length (upTo j) < seats = subst (λ (m : ℕ). m < seats) (h .count-is) fits in
-        record {
-          within = omega arith;
-          world-is = e ∙ ap (λ (u : World). vacate u j) (h .world-is) ∙ sym (removed-last (upTo j) w j) ∙ ap (removeAll w) more;
-          ids-are = g ∙ rw (h .ids-are, h .count-is) (ids-set seats (upTo j) j room) ∙ ap (λ (m : List ℕ). listed seats m .ids) more;
-          count-is = k ∙ ap (λ (m : ℕ). m + 1) (h .count-is) ∙ count-last seats (upTo j) j room ∙ ap length more;
-        }
+    dead v is c d e g k = record {
+      list = listing-more (λ i. dies s ts (slotAt ss i)) seats j ids count (h .list) l is c d g k;
+      world-is = e ∙ ap (λ (u : World). vacate u j) (h .world-is) ∙ sym (removed-last (upTo j) w j) ∙ ap (removeAll w) (sym (ids-more (λ i. dies s ts (slotAt ss i)) j d));
+    }
 
     alive : (v : World) (is : List ℤ) (c : ℕ) → dies s ts (slotAt ss j) ≡ false → v ≡ next → is ≡ ids → c ≡ count → Removing (j + 1) v is c
-    alive v is c d e g k =
-        let same = sym (ids-same (λ i. dies s ts (slotAt ss i)) j d) in
-        record {
-          within = omega arith;
-          world-is = e ∙ h .world-is ∙ ap (removeAll w) same;
-          ids-are = g ∙ h .ids-are ∙ ap (λ (m : List ℕ). listed seats m .ids) same;
-          count-is = k ∙ h .count-is ∙ ap length same;
-        }
+    alive v is c d e g k = record {
+      list = listing-same (λ i. dies s ts (slotAt ss i)) seats j ids count (h .list) l is c d g k;
+      world-is = e ∙ h .world-is ∙ ap (removeAll w) (sym (ids-same (λ i. dies s ts (slotAt ss i)) j d));
+    }
 
     -- what the two tests decide
     on-spikes : (b d : Bool) → slotAt ss j .present ≡ true → d ≡ onDeadly s ts (slotAt ss j .character .pos) → d ≡ b → dies s ts (slotAt ss j) ≡ b
@@ -84,7 +66,7 @@ abbrev μ-loop : tie.MeasureT-loop
 μ-loop sides tiles slots next₀ ids₀ count₀ j₀ next ids count j = seats - j
 
 loop-holds : tie.Need-loop-holds Inv-loop μ-loop
-loop-holds c = record { within = omega arith; world-is = refl; ids-are = refl; count-is = refl }
+loop-holds c = record { list = none-listed _ seats; world-is = refl }
 
 mul-slot : tie.Need-mul-slot Inv-loop μ-loop
 mul-slot c = search needs
@@ -102,7 +84,7 @@ cast-ids : tie.Need-cast-ids Inv-loop μ-loop
 cast-ids c = search needs
 
 below : (c : tie.After-vacate Inv-loop μ-loop) → c .before .before .before .before .before .before .before .loop .count < seats
-below c = let l = c .before .before .before .before .before .before .before .loop in fits _ _ _ _ (l .j) (l .next) (l .ids) (l .count) (l .inv) (c .before .before .before .before .before .before .loop-test .taken)
+below c = let l = c .before .before .before .before .before .before .before .loop in listing-fits _ seats (l .j) (l .ids) (l .count) (l .inv .list) (c .before .before .before .before .before .before .loop-test .taken)
 
 mul-ids : tie.Need-mul-ids Inv-loop μ-loop
 mul-ids c = let b = below c in omega (arith, b)
@@ -136,9 +118,9 @@ returns : tie.Need-returns Inv-loop μ-loop
 unfolding dying
 returns c =
     let i = c .before .loop .inv in
-    let e : c .before .loop .j ≡ seats = (let h = c .loop-test .left in let g = i .within in omega arith) in
+    let e : c .before .loop .j ≡ seats = (let h = c .loop-test .left in let g = i .list .within in omega arith) in
     let s = c .before .before .before .before .args in
-    (i .world-is ∙ ap (λ (j : ℕ). removeAll (s .world) (upTo (s .sides) (s .tiles .now) (s .world .slots) (s .world) j)) e, told (s .sides) (s .tiles .now) (s .world .slots) (s .world) _ _ _ _ i ∙ ap (λ (j : ℕ). listed seats (upTo (s .sides) (s .tiles .now) (s .world .slots) (s .world) j)) e)
+    (i .world-is ∙ ap (λ (j : ℕ). removeAll (s .world) (upTo (s .sides) (s .tiles .now) (s .world .slots) (s .world) j)) e, listed-now _ seats _ _ _ (i .list) ∙ ap (λ (j : ℕ). listed seats (upTo (s .sides) (s .tiles .now) (s .world .slots) (s .world) j)) e)
 
 pub remove-dying-spec : {M : Type 1} → statement M
 remove-dying-spec =
