@@ -1,6 +1,6 @@
 -- What removals leave of a slot, and that the floor mark of who is not removed decides it. Assumes nothing.
 use Prim.Native.Nat.{ℕ, _<_}
-use mathlib.Core.Bool.{Bool, true, false, cond}
+use mathlib.Core.Bool.{Bool, true, false, cond, _||_}
 use mathlib.Core.List.{List, [], _∷_}
 use mathlib.Core.Path.{_≡_, refl, sym, ap, _∙_, subst}
 use lib.Dec.{eqb}
@@ -10,7 +10,7 @@ use Rattle.character.specs.Slot.{emptySlot, withGrounded}
 use Rattle.character.specs.Tick.{slotAt}
 use Rattle.character.specs.declared.Slot.{Slot}
 use Rattle.world.specs.Calls.{releasedSlot, vacate}
-use Rattle.world.specs.Removal.{removeAll}
+use Rattle.world.specs.Removal.{removeAll, isIn}
 use Rattle.world.specs.declared.World.{World}
 use Rattle.world.proofs.Vacated.{vacated-at, vacated-others, vacated-length}
 
@@ -43,3 +43,13 @@ gone-marked k (i ∷ is) x = go (eqb i k) (gone-marked k is (releasedSlot x i))
     go : (b : Bool) → goneSlot k is (withGrounded (releasedSlot x i) (goneSlot k is (releasedSlot x i) .grounded)) ≡ goneSlot k is (releasedSlot x i) → goneSlot k is (cond b emptySlot (releasedSlot (withGrounded x (goneSlot k is (cond b emptySlot (releasedSlot x i)) .grounded)) i)) ≡ goneSlot k is (cond b emptySlot (releasedSlot x i))
     go true h = refl
     go false h = h
+
+-- whoever is removed has no floor mark any more
+pub gone-grounded : (k : ℕ) (ids : List ℕ) (x : Slot) → goneSlot k ids x .grounded ≡ cond (isIn k ids) false (x .grounded)
+gone-grounded k [] x = refl
+gone-grounded k (i ∷ is) x = gone-grounded k is (cond (eqb i k) emptySlot (releasedSlot x i)) ∙ go (eqb i k) (isIn k is)
+  where
+    go : (b c : Bool) → cond c false (cond b emptySlot (releasedSlot x i) .grounded) ≡ cond (b || c) false (x .grounded)
+    go true true = refl
+    go true false = refl
+    go false c = refl

@@ -9,3 +9,5 @@ pub mod StepSeats
 pub mod Stands
 pub mod Refusals
 pub mod Reached
+pub mod InPlace
+pub mod Dying

@@ -16,6 +16,7 @@ use Rattle.map_tiles.specs.declared.tiles.Sides.{Sides}
 use Rattle.game_records.specs.Numbers.{numberAt}
 use Rattle.game_tuning.specs.Tuning.{tuningOf}
 use Rattle.character.specs.Tick.{seats, slotAt}
+use Rattle.character.specs.declared.Slot.{Slot}
 use Rattle.world.specs.Calls.{placeOf}
 use Rattle.world.specs.Removal.{dies, dying, listed, isIn}
 use Rattle.world.specs.Step.{Moving, tickAll, moveAll, stepAnswer, stepOn, step}
@@ -47,11 +48,14 @@ lists ks h f = record { few = f; seat = all-named ks (replicate (seats - length 
 none-listed : ListsSeats (listed seats [])
 none-listed = lists [] (λ k e. absurd (true≢false (sym e))) (omega arith)
 
+pub dying-lists : (s : Sides) (ts : List ℕ) (ss : List Slot) → ListsSeats (listed seats (dying seats s ts ss))
+unfolding dying
+dying-lists s ts ss = lists (dying seats s ts ss) (dying-within seats s ts ss) (ids-fit (λ i. dies s ts (slotAt ss i)) seats 0)
+
 module _ (w : World) (s : Sides) (ts : List ℕ) where
   moves-list : (a : Turn Moving ℕ) → ListsSeats (stepAnswer seats w s ts a .removed)
-  unfolding dying
   moves-list (stop r) = none-listed
-  moves-list (more m) = lists (dying seats s ts (m .slots)) (dying-within seats s ts (m .slots)) (ids-fit (λ i. dies s ts (slotAt (m .slots) i)) seats 0)
+  moves-list (more m) = dying-lists s ts (m .slots)
 
   pub step-lists : ListsSeats (step seats w s ts .removed)
   unfolding step stepOn

@@ -3,6 +3,7 @@ mod buffers;
 mod leaving;
 mod readers;
 mod stepping;
+mod telling;
 
 pub use buffers::fresh_in;
 pub use buffers::input_in;
@@ -14,4 +15,4 @@ pub use readers::player_input_in;
 pub use readers::record_in;
 pub use readers::tuning_in;
 pub use stepping::step_in;
-pub use stepping::write_step;
+pub use telling::write_step;

@@ -1,78 +1,88 @@
-// Step on a world that is kept as the numbers of a lent buffer. A refused one leaves every number of every buffer as it was.
-use crate::leaving::remove_in;
-use base_rows::copy;
+// Step on a world that is kept as the numbers of a lent buffer, over plain arrays: no slot is made but for the tick of whoever is there. A refused one leaves
+// every number of every buffer as it was.
+use crate::telling::tell_step;
 use character::SEATS;
 use game_refusals::BAD_LENGTH;
+use game_refusals::BAD_MAP;
+use game_refusals::TOO_FAR;
 use map_tiles::Sides;
-use world::Stepped;
-use world_numbers::MARK;
-use world_numbers::RECORD;
+use map_tiles::is_map;
+use map_tiles::on_deadly;
+use num_vec2::vec2;
+use world::Removed;
+use world_inplace::advance;
 use world_numbers::RECORDS;
 use world_numbers::WORLD;
-use world_numbers::decode;
-use world_numbers::flag;
-use world_numbers::is_set;
-use world_numbers::record_numbers;
-use world_numbers::seat_place;
-use world_step::step;
 ghost use mathlib.Core.Path.{_≡_};
-ghost use Prim.Native.Nat.{_<_};
+ghost use lib.Dec.{T};
 ghost use lib.ListN.{length};
-ghost use Rattle.game_records.specs.Numbers.{coreCount};
+ghost use Rattle.map_tiles.specs.Map.{isMap};
+ghost use Rattle.character.specs.Places.{Among};
 ghost use Rattle.character.specs.Tick.{seats};
-ghost use Rattle.world_numbers.specs.Encoding.{worldCount, recordsCount, recordsEncoding};
-ghost use Rattle.world_buffers.specs.Leaving.{ListsSeats};
-ghost use Rattle.world_buffers.specs.Stepping.{seatWritten, stepSeats, leftByStep, stepIn};
+ghost use Rattle.world.specs.Step.{stepOn};
+ghost use Rattle.world_numbers.specs.Encoding.{worldCount, recordsCount};
+ghost use Rattle.world_numbers.specs.Decoding.{decoding};
+ghost use Rattle.world_buffers.specs.Stepping.{DyingOf, leftByStep, stepIn};
 
-// Where somebody is at a seat, it takes the numbers of a record and a floor mark.
-fn write_seat(world: &mut [i32], seat: usize, core: &[i32], grounded: bool)
-    requires { ⌜ (length (now world) ≡ worldCount) × (seat < seats) × (length (now core) ≡ coreCount) ⌝ }
-    ensures { λ _. ⌜ now (world .exit) ≡ seatWritten (now (world .entry)) seat (now (core .entry)) grounded ⌝ }
+// Who has a corner on a deadly tile, by rising id; they lose their floor marks.
+fn list_dying(
+    present: &[bool; SEATS],
+    xs: &[f32; SEATS],
+    ys: &[f32; SEATS],
+    marks: &mut [bool; SEATS],
+    sides: Sides,
+    tiles: &[u8],
+) -> Removed
+    requires { ⌜ T (isMap sides (now tiles)) × (length (now marks) ≡ seats) ⌝ }
+    ensures { λ r. ⌜ Among seats (now (present .entry)) (now (xs .entry)) (now (ys .entry)) (λ ss. DyingOf sides (now (tiles .entry)) ss (now (marks .entry)) r (now (marks .exit))) ⌝ }
 {
-    let at = seat_place(seat);
-    if is_set(world[at]) {
-        copy(world, at + 1, core);
-        world[at + MARK] = flag(grounded);
-    }
-}
-
-// The records of a step go into their buffer, and into the seats where somebody is.
-fn write_seats(stepped: Stepped, world: &mut [i32], records: &mut [i32])
-    requires { ⌜ (length (now world) ≡ worldCount) × (length (now records) ≡ recordsCount) ⌝ }
-    ensures { λ _. ⌜ (now (world .exit) ≡ stepSeats stepped (now (world .entry))) × (now (records .exit) ≡ recordsEncoding (stepped .records)) ⌝ }
-{
-    let published = stepped.records;
-    let next = stepped.world;
-    let slots = next.slots;
+    let mut ids = [0i32; SEATS];
+    let mut count = 0usize;
     for j in 0..SEATS {
-        let row = record_numbers(published[j]);
-        let slot = slots[j];
-        copy(records, RECORD * j, &row);
-        write_seat(world, j, &row[1..RECORD], slot.grounded);
+        if present[j] {
+            let place = vec2::new(xs[j], ys[j]);
+            if on_deadly(sides, tiles, place) {
+                ids[count] = j as i32;
+                count += 1;
+                marks[j] = false;
+            }
+        }
     }
+    Removed { count, ids }
 }
 
-// Leaves the seats, without who is removed, and what is told in the buffers where the step was accepted.
-pub fn write_step(
-    stepped: Stepped,
+// On a map that is one.
+fn step_on_in(
     world: &mut [i32],
+    sides: Sides,
+    tiles: &[u8],
     records: &mut [i32],
     removed: &mut [i32],
     count: &mut usize,
 ) -> u32
-    requires { ⌜ (length (now world) ≡ worldCount) × (length (now records) ≡ recordsCount) × (length (now removed) ≡ seats) × ListsSeats (stepped .removed) ⌝ }
-    ensures { λ r. ⌜ leftByStep (now (world .entry)) (record { records = now (records .entry); removed = now (removed .entry); count = now (count .entry) }) stepped ≡ record { number = r; world = now (world .exit); told = record { records = now (records .exit); removed = now (removed .exit); count = now (count .exit) } } ⌝ }
+    requires { ⌜ T (isMap sides (now tiles)) × (length (now world) ≡ worldCount) × (length (now records) ≡ recordsCount) × (length (now removed) ≡ seats) ⌝ }
+    ensures { λ r. ⌜ leftByStep (now (world .entry)) (record { records = now (records .entry); removed = now (removed .entry); count = now (count .entry) }) (stepOn seats (decoding seats (now (world .entry))) sides (now (tiles .entry))) ≡ record { number = r; world = now (world .exit); told = record { records = now (records .exit); removed = now (removed .exit); count = now (count .exit) } } ⌝ }
 {
-    if stepped.number == 0 {
-        let gone = stepped.removed;
-        let ids = gone.ids;
-        write_seats(stepped, world, records);
-        remove_in(world, gone);
-        copy(removed, 0, &ids);
-        *count = gone.count;
+    let mut present = [false; SEATS];
+    let mut xs = [0.0f32; SEATS];
+    let mut ys = [0.0f32; SEATS];
+    let mut rows = [0i32; RECORDS];
+    let mut marks = [false; SEATS];
+    if advance(
+        world,
+        sides,
+        tiles,
+        &mut present,
+        &mut xs,
+        &mut ys,
+        &mut rows,
+        &mut marks,
+    ) {
+        let gone = list_dying(&present, &xs, &ys, &mut marks, sides, tiles);
+        tell_step(&rows, &marks, gone, world, records, removed, count);
         return 0;
     }
-    stepped.number
+    TOO_FAR
 }
 
 pub fn step_in(
@@ -94,6 +104,8 @@ pub fn step_in(
     if removed.len() != SEATS {
         return BAD_LENGTH;
     }
-    let stepped = step(decode(world), sides, tiles);
-    write_step(stepped, world, records, removed, count)
+    if is_map(sides, tiles) {
+        return step_on_in(world, sides, tiles, records, removed, count);
+    }
+    BAD_MAP
 }

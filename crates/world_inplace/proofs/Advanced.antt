@@ -3,6 +3,7 @@ use Prim.Native.Nat.{ℕ, _<_}
 use mathlib.Core.Bool.{Bool, true, false, true≢false}
 use mathlib.Core.List.{List}
 use mathlib.Core.Path.{_≡_, refl, sym}
+use lib.Ieee.{Float}
 use lib.IntN.{ℤ}
 use lib.ListN.{length}
 use Rattle.base_turns.specs.Turns.{Turn, stop, next}
@@ -63,3 +64,12 @@ module _ (l : List ℤ) (s : Sides) (ts : List ℕ) (t : Tuning) (e : Turn (List
   -- a tick is refused
   pub ticks-refused : e ≡ stop tooFar → next (λ ss. moveAll seats ss s ts t) e ≡ stop tooFar
   ticks-refused z = rw z
+
+-- by what both answered
+pub advance-done : {e : Turn Moving ℕ} {ps : List Bool} {xs ys : List Float} {rows : List ℤ} {marks : List Bool} (r : Bool) → r ≡ true → AdvanceDone r e ps xs ys rows marks → Advanced e ps xs ys rows marks
+advance-done true q h = h
+advance-done false q h = absurd (true≢false (sym q))
+
+pub advance-off : (ps : List Bool) (xs ys : List Float) (rows : List ℤ) (marks : List Bool) {e : Turn Moving ℕ} (r : Bool) → r ≡ false → AdvanceDone r e ps xs ys rows marks → e ≡ stop tooFar
+advance-off ps xs ys rows marks false q h = h
+advance-off ps xs ys rows marks true q h = absurd (true≢false q)

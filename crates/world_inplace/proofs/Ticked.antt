@@ -176,7 +176,7 @@ module _ (l : List ℤ) (s : Sides) (ts : List ℕ) (t : Tuning) (j : ℕ) (m : 
           bodies = bodies;
           waits = waits;
           ticked = ticked;
-        marked = marked;
+          marked = marked;
           absent = absent;
         };
       }

@@ -35,7 +35,17 @@ pub fn advance(
     read_bodies(numbers, present, xs, ys, &mut vxs, &mut vys);
     let tuning = tuning_of(tunings_of(numbers));
     if tick_seats(
-        numbers, present, xs, ys, &mut vxs, &mut vys, rows, marks, sides, tiles, tuning,
+        numbers,
+        present,
+        xs,
+        ys,
+        &mut vxs,
+        &mut vys,
+        rows,
+        marks,
+        sides,
+        tiles,
+        tuning,
     ) {
         return move_seats(present, xs, ys, &vxs, &vys, rows, sides, tiles, tuning);
     }

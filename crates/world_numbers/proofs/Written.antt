@@ -139,7 +139,7 @@ own-encoding n l e h =
     ∙ take-append-drop tuningCount l
 
 -- and every world's are such
-each-row : {A : Type 0} (f : A → List ℤ) (c : ℕ) (x : A) → ((y : A) → length (f y) ≡ c) → (xs : List A) (k : ℕ) → k < length xs → take c (drop (c * k) (each f xs)) ≡ f (getD xs k x)
+pub each-row : {A : Type 0} (f : A → List ℤ) (c : ℕ) (x : A) → ((y : A) → length (f y) ≡ c) → (xs : List A) (k : ℕ) → k < length xs → take c (drop (c * k) (each f xs)) ≡ f (getD xs k x)
 unfolding each
 each-row f c x long [] k h = absurd (omega arith)
 each-row f c x long (y ∷ ys) zero h = let e : c * 0 ≡ 0 = omega arith in ap (λ (i : ℕ). take c (drop i (f y ++ each f ys))) e ∙ take-at (f y) (each f ys) c (long y)

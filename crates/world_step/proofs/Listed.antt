@@ -1,18 +1,27 @@
 -- A loop that removes or lists who dies: its list grows by the id of its turn, in the array and in the world. Assumes nothing.
 use Prim.Native.Nat.{ℕ, zero, suc, _+_, _-_, _≤_, _<_}
 use native.Mathlib.Numerals.{add-one}
-use native.Mathlib.Nat.{sub-zero}
+use native.Mathlib.Nat.{sub-zero, lt-of-lt-of-le}
 use native.Mathlib.Omega.{arith}
 use mathlib.Core.Bool.{Bool, true, false, cond}
 use mathlib.Core.List.{List, [], _∷_, _++_, map, append-nil}
 use mathlib.Core.Path.{_≡_, refl, sym, ap, ap₂, _∙_, subst}
+use lib.Dec.{lit≤}
 use lib.IntN.{ℤ, pos}
 use lib.ListN.{length, set, replicate, length-append, length-map}
 use lib.Seq.{set-at, append-snoc}
+use mir.Facts.{toZ-pos}
+use mir.Syntax.{w32}
+use mir.Val.{toZ}
+use Rattle.character.specs.Tick.{seats}
 use Rattle.world.specs.Calls.{vacate}
 use Rattle.world.specs.Removal.{idsOf, removeAll, listed}
 use Rattle.world.specs.declared.Removed.{Removed}
 use Rattle.world.specs.declared.World.{World}
+
+-- an id as an i32
+pub as-i32 : (j : ℕ) → j < seats → toZ w32 j ≡ pos j
+as-i32 j l = toZ-pos w32 (lt-of-lt-of-le l (lit≤ tt))
 
 module _ (f : ℕ → Bool) where
   -- one turn more

@@ -1,4 +1,4 @@
--- `world_buffers::stepping::write_seat` meets its contract. Assumes nothing.
+-- `world_buffers::telling::write_seat` meets its contract. Assumes nothing.
 use mathlib.Core.List.{List}
 use mathlib.Core.Path.{_≡_, sym, ap, _∙_}
 use Prim.Native.Nat.{ℕ, _+_}
@@ -12,8 +12,8 @@ use Rattle.world_numbers.specs.Decoding.{isSet}
 use Rattle.world_buffers.specs.Buffers.{isThere}
 use Rattle.world_buffers.proofs.StepAnswers.{seat-there, seat-empty}
 use borrow.Author.Needs.{needs}
-use Rattle.world_buffers.proofs.stepping.write_seat.Statement.{statement}
-use Rattle.world_buffers.proofs.stepping.write_seat.Tie as tie
+use Rattle.world_buffers.proofs.telling.write_seat.Statement.{statement}
+use Rattle.world_buffers.proofs.telling.write_seat.Tie as tie
 
 there-is : (c : tie.After-is-set) → c .is-set .result ≡ isThere (c .before .before .before .args .world .now) (c .before .before .before .args .seat)
 there-is c = c .is-set .ensures ∙ ap isSet (again (c .before .is-set-arg .given) ∙ ap (numberAt (c .before .before .before .args .world .now)) (c .before .before .seat-place .ensures))

@@ -30,7 +30,7 @@ same-length c = search needs
 
 returns : tie.Need-returns
 unfolding decoding
-returns c = 
+returns c =
     let a = c .before .before .before .before .before .before .before .before .before .before .before .before .before .before .before .before .before .before .before .before .before .before .before .before .before .before .before .args in
     let k = c .before .before .before .before .before .before .before .before .before .before .tick-seats in
     let t = c .before .before .before .before .before .before .before .before .before .before .before .before .before .before .before .before .before .before .tuning-of .ensures ∙ ap tuningOf (c .before .before .before .before .before .before .before .before .before .before .before .before .before .before .before .before .before .before .before .tunings-of .ensures) in
@@ -42,7 +42,7 @@ same-length-2 c = search needs
 
 returns-2 : tie.Need-returns-2
 unfolding decoding
-returns-2 c = 
+returns-2 c =
     let a = c .before .before .before .before .before .before .before .before .before .before .before .before .before .before .before .before .before .before .before .args in
     let k = c .before .before .tick-seats in
     let t = c .before .before .before .before .before .before .before .before .before .before .tuning-of .ensures ∙ ap tuningOf (c .before .before .before .before .before .before .before .before .before .before .before .tunings-of .ensures) in

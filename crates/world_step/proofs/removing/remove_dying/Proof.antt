@@ -4,14 +4,9 @@ use mathlib.Core.List.{List}
 use mathlib.Core.Logic.{⊎-elim}
 use mathlib.Core.Path.{_≡_, refl, sym, ap, _∙_}
 use Prim.Native.Nat.{ℕ, _+_, _-_, _<_}
-use native.Mathlib.Nat.{lt-of-lt-of-le}
 use native.Mathlib.Omega.{arith}
-use lib.Dec.{lit≤}
 use lib.IntN.{ℤ, pos}
 use lib.ListN.{set}
-use mir.Facts.{toZ-pos}
-use mir.Syntax.{w32}
-use mir.Val.{toZ}
 use borrow.Author.Needs.{needs}
 use Rattle.map_tiles.specs.Box.{onDeadly}
 use Rattle.map_tiles.specs.declared.tiles.Sides.{Sides}
@@ -20,7 +15,7 @@ use Rattle.character.specs.declared.Slot.{Slot}
 use Rattle.world.specs.Calls.{vacate}
 use Rattle.world.specs.Removal.{idsOf, dies, dying, removeAll, listed}
 use Rattle.world.specs.declared.World.{World}
-use Rattle.world_step.proofs.Listed.{ids-more, ids-same, removed-last, Listing, none-listed, listed-now, listing-fits, listing-more, listing-same}
+use Rattle.world_step.proofs.Listed.{as-i32, ids-more, ids-same, removed-last, Listing, none-listed, listed-now, listing-fits, listing-more, listing-same}
 use Rattle.world_step.proofs.removing.remove_dying.Statement.{statement}
 use Rattle.world_step.proofs.removing.remove_dying.Tie as tie
 
@@ -54,10 +49,6 @@ module _ (s : Sides) (ts : List ℕ) (ss : List Slot) (w : World) where
 
     nobody : slotAt ss j .present ≡ false → dies s ts (slotAt ss j) ≡ false
     nobody p = rw p
-
--- an id as an i32
-as-i32 : (j : ℕ) → j < seats → toZ w32 j ≡ pos j
-as-i32 j l = toZ-pos w32 (lt-of-lt-of-le l (lit≤ tt))
 
 abbrev Inv-loop : tie.InvT-loop
 Inv-loop sides tiles slots next₀ ids₀ count₀ j₀ next ids count j = Removing sides tiles slots next₀ j next ids count
