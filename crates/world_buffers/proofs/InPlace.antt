@@ -1,12 +1,11 @@
 -- A step over plain arrays: what it leaves is what the step by value does. Assumes nothing.
 use Prim.Native.Nat.{ℕ, _*_, _<_}
-use mathlib.Core.Bool.{Bool, true, false, cond}
+use mathlib.Core.Bool.{Bool, false, cond}
 use mathlib.Core.List.{List}
-use mathlib.Core.Path.{_≡_, refl, sym, ap, _∙_}
+use mathlib.Core.Path.{_≡_, sym, ap, _∙_}
 use native.Mathlib.Omega.{arith}
 use lib.Ieee.{Float}
 use lib.IntN.{ℤ}
-use lib.ListN.{length, getD}
 use Rattle.base_turns.specs.Turns.{more, stop}
 use Rattle.game_refusals.specs.Refusals.{tooFar}
 use Rattle.map_tiles.specs.declared.tiles.Sides.{Sides}
@@ -21,7 +20,7 @@ use Rattle.world.proofs.Removal.{dying-are}
 use Rattle.world_numbers.specs.Encoding.{recordCount}
 use Rattle.world_inplace.proofs.Rows.{rows-are}
 use Rattle.world_inplace.specs.Advance.{advanced, Advanced}
-use Rattle.world_buffers.specs.Stepping.{StepBuffers, LeftByStep, leftByStep, RowsOf, DyingOf}
+use Rattle.world_buffers.specs.Stepping.{StepBuffers, leftByStep, RowsOf, DyingOf}
 use Rattle.world_buffers.proofs.Gone.{gone-at, gone-grounded}
 use Rattle.world_buffers.proofs.StepAnswers.{step-refused}
 

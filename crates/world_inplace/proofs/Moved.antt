@@ -7,7 +7,7 @@ use native.Mathlib.Decide.{ℕ-discrete}
 use native.Mathlib.Omega.{arith}
 use lib.Ieee.{Float}
 use lib.IntN.{ℤ, pos}
-use lib.ListN.{length, getD, set, replicate, length-set, length-replicate, getD-replicate}
+use lib.ListN.{length, getD, set, length-set, length-replicate, getD-replicate}
 use lib.Seq.{getD-set-same, getD-set-other}
 use Rattle.base_rows.specs.Put.{put}
 use Rattle.base_rows.proofs.Puts.{length-put}
@@ -38,10 +38,9 @@ use Rattle.character.specs.declared.walk.PlayerWalk.the-variants as among
 use Rattle.character_laws.proofs.Back.{to-core}
 use Rattle.world.specs.Demand3.{recordAt}
 use Rattle.world.specs.Step.{unpublished, putBack, Moving, recordOf, moveIn, moveTurn, movingFrom}
-use Rattle.world.specs.declared.Published.{Published}
-use Rattle.world.specs.declared.Recorded.the-variants.{Refused, Core}
+use Rattle.world.specs.declared.Recorded.the-variants.{Core}
 use Rattle.world_numbers.specs.Encoding.{recordCount, recordNumbers}
-use Rattle.world_inplace.specs.Bodies.{Bodies, BodiesOf, rowOf, bodyPlace, bodyNumbers, RowFor}
+use Rattle.world_inplace.specs.Bodies.{Bodies, rowOf, bodyPlace, bodyNumbers, RowFor}
 use Rattle.world_inplace.specs.Moves.{Ready, MovesOf, MovesWent, MovesDone, MoveOf}
 use Rattle.world_inplace.proofs.Rows.{no-row, row-part, row-else}
 

@@ -14,9 +14,8 @@ use Rattle.num_convert.specs.Convert.{i32ToF32, from256ths}
 use Rattle.num_vec2.specs.Vec2.{vnew}
 use Rattle.num_vec2.specs.declared.vec2.{vec2}
 use Rattle.game_records.specs.Numbers.{numberAt, coreIn}
-use Rattle.character.specs.Places.{placeAt, Placed}
+use Rattle.character.specs.Places.{placeAt}
 use Rattle.character.specs.Records.{fromNet}
-use Rattle.character.specs.Slot.{emptySlot}
 use Rattle.character.specs.Tick.{seats, slotAt}
 use Rattle.character.specs.declared.Slot.{Slot}
 use Rattle.world_numbers.specs.Decoding.{isSet, readable, seatOf}

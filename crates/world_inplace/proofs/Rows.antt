@@ -1,5 +1,5 @@
 -- The rows of the records with one of them written: how each reads, and when they are the records of a step. Assumes nothing.
-use Prim.Native.Nat.{ℕ, zero, suc, _+_, _*_, _-_, _≤_, _<_}
+use Prim.Native.Nat.{ℕ, suc, _+_, _*_, _-_, _≤_, _<_}
 use mathlib.Core.Bool.{true}
 use mathlib.Core.List.{List, [], _∷_, _++_}
 use mathlib.Core.Logic.{_⊎_, inl, inr}
@@ -7,11 +7,10 @@ use mathlib.Core.Path.{_≡_, refl, sym, ap, ap₂, _∙_}
 use native.Mathlib.Decide.{decLt}
 use native.Mathlib.Omega.{arith}
 use lib.IntN.{ℤ, pos}
-use lib.ListN.{length, take, drop, getD, replicate, length-drop, length-replicate, take-append-drop, replicate-append-replicate}
+use lib.ListN.{length, take, drop, replicate, length-drop, length-replicate, take-append-drop, replicate-append-replicate}
 use lib.Seq.{take-at, drop-at, drop-drop, length-take-le}
 use Rattle.base_rows.specs.Put.{put}
 use Rattle.base_rows.proofs.Puts.{length-put, drop-put, drop-put-add, part-else, put-append}
-use Rattle.num_vec2.specs.declared.vec2.{vec2}
 use Rattle.game_records.specs.Numbers.{coreNumbers}
 use Rattle.character_hook.specs.Hook.{tickOf}
 use Rattle.character.specs.Records.{netJumped, coreOf, mostTick, toNet}
@@ -21,7 +20,7 @@ use Rattle.world.specs.Demand3.{recordAt}
 use Rattle.world.specs.Step.{unpublished}
 use Rattle.world.specs.declared.Published.{Published}
 use Rattle.world_numbers.specs.Encoding.{recordCount, recordsCount, each, netCore, recordNumbers, recordsEncoding}
-use Rattle.world_inplace.specs.Bodies.{rowOf, bodyPlace, bodyNumbers, RowFor}
+use Rattle.world_inplace.specs.Bodies.{rowOf, bodyNumbers, RowFor}
 
 -- ---- one row
 -- of whoever has ticked

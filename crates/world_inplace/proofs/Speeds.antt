@@ -2,7 +2,7 @@
 use Prim.Native.Nat.{ℕ, _<_}
 use mathlib.Core.Bool.{Bool, true, false, cond}
 use mathlib.Core.List.{List}
-use mathlib.Core.Path.{_≡_, refl, sym, ap, _∙_, subst}
+use mathlib.Core.Path.{_≡_, refl, sym, _∙_}
 use lib.Dec.{eqb}
 use lib.Ieee.{nan}
 use lib.ListN.{length, getD, set}
@@ -16,7 +16,7 @@ use Rattle.character_motion.specs.Meeting.{drags, pullOn, pulled}
 use Rattle.character_motion.specs.declared.meeting.HookPull.{HookPull}
 use Rattle.character_motion.specs.declared.meeting.HookPull.the-variants.{Nobody, Of}
 use Rattle.character.specs.Among.{heldSeat, pullAt}
-use Rattle.character.specs.Places.{placeAt, Placed}
+use Rattle.character.specs.Places.{placeAt}
 use Rattle.character.specs.Tick.{seats, nowhere, slotAt, afterPull, pulledSlot}
 use Rattle.character.specs.declared.Character.{Character}
 use Rattle.character.specs.declared.Slot.{Slot}

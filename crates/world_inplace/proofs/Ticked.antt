@@ -17,7 +17,6 @@ use Rattle.game_refusals.specs.Refusals.{tooFar}
 use Rattle.game_tuning.specs.Tuning.{tuningCount}
 use Rattle.game_tuning.specs.declared.Tuning.{Tuning}
 use Rattle.map_tiles.specs.declared.tiles.Sides.{Sides}
-use Rattle.num_vec2.specs.declared.vec2.{vec2}
 use Rattle.character_hook.specs.Hook.{tickOf}
 use Rattle.character_motion.specs.declared.meeting.HookPull.{HookPull}
 use Rattle.character.proofs.Held.{held-below, pull-held}

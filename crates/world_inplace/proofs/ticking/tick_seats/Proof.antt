@@ -2,7 +2,6 @@
 use mathlib.Core.Logic.{⊎-elim}
 use mathlib.Core.Path.{sym, _∙_}
 use Prim.Native.Nat.{_-_}
-use native.Mathlib.Omega.{arith}
 use lib.ListN.{drop}
 use Rattle.base_turns.proofs.Loop.{turn-first}
 use Rattle.game_tuning.specs.Tuning.{tuningCount}
