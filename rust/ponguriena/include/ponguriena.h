@@ -60,7 +60,8 @@ uint32_t ponguriena_pack(const int32_t *record, size_t record_length, uint8_t *b
 uint32_t ponguriena_unpack(const uint8_t *bytes, size_t bytes_length, int32_t *record,
                            size_t record_length, size_t *used);
 
-/* The world: PONGURIENA_WORLD numbers that the caller keeps. Any numbers are taken for a world.
+/* The world: PONGURIENA_WORLD numbers that the caller keeps. Any numbers are taken for a world;
+ * a call writes those that it changes and no other.
  *
  * A map is width times height tiles row by row, each side 1 to 1,024. Tile 1 is solid, 3 is solid
  * and holds no hook, 2 is deadly, every other is open. A deadly tile is no floor and stops neither

@@ -4,8 +4,9 @@
 //! presence, 1, its record, its input and its floor mark, or zeros where nobody is.
 //! Every such list of numbers is taken for a world: who is absent is as in a fresh one
 //! whatever stands there, a hook's tick below 0 counts as 0, and every floor mark but 0
-//! as true. A buffer of another length is refused with [`Refusal::BadLength`]. A refused
-//! call leaves every buffer as it was.
+//! as true. A call writes the numbers that it changes and no other; a refused one leaves
+//! every buffer as it was. A buffer of another length is refused with
+//! [`Refusal::BadLength`].
 //!
 //! ```
 //! use ponguriena::{Map, buffers};
