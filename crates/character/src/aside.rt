@@ -8,26 +8,18 @@ ghost use Rattle.character.specs.Aside.{isAside, mayTouch};
 pub fn may_touch(from: vec2, end: vec2, q: vec2) -> bool
     ensures { λ r. ⌜ r ≡ mayTouch from end q ⌝ }
 {
-    if is_aside(from.x, end.x, q.x) {
-        return false;
-    }
-    if is_aside(from.y, end.y, q.y) {
-        return false;
-    }
-    true
+    let beside = is_aside(from.x, end.x, q.x);
+    let above = is_aside(from.y, end.y, q.y);
+    !(beside | above)
 }
 
-// Whether a and b are both a character's size or more to the same side of q.
+// Whether a and b are both a character's size or more to the same side of q. Every comparison is made: the others are on any side, which no processor guesses well.
 fn is_aside(a: f32, b: f32, q: f32) -> bool
     ensures { λ r. ⌜ r ≡ isAside a b q ⌝ }
 {
     let first = q - a;
     let last = q - b;
-    if CHARACTER_SIZE <= first {
-        return CHARACTER_SIZE <= last;
-    }
-    if first <= -CHARACTER_SIZE {
-        return last <= -CHARACTER_SIZE;
-    }
-    false
+    let after = (CHARACTER_SIZE <= first) & (CHARACTER_SIZE <= last);
+    let before = (first <= -CHARACTER_SIZE) & (last <= -CHARACTER_SIZE);
+    after | before
 }

@@ -3,17 +3,14 @@ use crate::SEATS;
 use crate::aside::may_touch;
 use num_vec2::vec2;
 ghost use Prim.Native.Nat.{_≤_};
+ghost use mathlib.Core.Path.{_≡_};
+ghost use lib.ListN.{length};
 ghost use Rattle.character.specs.Tick.{seats};
 ghost use Rattle.character.specs.Places.{Among};
 ghost use Rattle.character.specs.Near.{Asked};
 
-// Where they are, by rising id; `count` of them.
-pub struct Near {
-    pub count: usize,
-    pub at: [vec2; SEATS],
-}
-
-// Most are on one side, which comparisons tell before anything else is asked.
+// Where they are, by rising id, into the lent coordinates; answers how many they are. Most are on one side, which comparisons tell before anything else is
+// asked.
 pub fn gather(
     present: &[bool; SEATS],
     xs: &[f32; SEATS],
@@ -21,21 +18,24 @@ pub fn gather(
     id: usize,
     from: vec2,
     end: vec2,
-) -> Near
-    ensures { λ r. ⌜ (r .count ≤ seats) × Among seats (now (present .entry)) (now (xs .entry)) (now (ys .entry)) (λ ss. Asked ss id from end seats (r .count) (r .at)) ⌝ }
+    near_xs: &mut [f32; SEATS],
+    near_ys: &mut [f32; SEATS],
+) -> usize
+    requires { ⌜ (length (now «near_xs») ≡ seats) × (length (now «near_ys») ≡ seats) ⌝ }
+    ensures { λ r. ⌜ (r ≤ seats) × Among seats (now (present .entry)) (now (xs .entry)) (now (ys .entry)) (λ ss. Asked ss id from end seats r (now («near_xs» .exit)) (now («near_ys» .exit))) ⌝ }
 {
-    let mut at = [from; SEATS];
     let mut count: usize = 0;
     for j in 0..SEATS {
         let place = vec2::new(xs[j], ys[j]);
         if may_touch(from, end, place) {
             if present[j] {
                 if j != id {
-                    at[count] = place;
+                    near_xs[count] = place.x;
+                    near_ys[count] = place.y;
                     count += 1;
                 }
             }
         }
     }
-    Near { count, at }
+    count
 }

@@ -2,7 +2,6 @@
 use crate::Character;
 use crate::SEATS;
 use crate::Slot;
-use crate::near::Near;
 use crate::near::gather;
 use crate::places::places_of;
 use character_hook::CharacterId;
@@ -125,32 +124,41 @@ fn player_walk(
         let distance = vec2::distance(from, to);
         let turns = player_turns(distance);
         let end = from.add(to.sub(from));
-        let near = gather(present, xs, ys, id, from, end);
+        let mut near_xs = [0.0f32; SEATS];
+        let mut near_ys = [0.0f32; SEATS];
+        let count = gather(present, xs, ys, id, from, end, &mut near_xs, &mut near_ys);
         if turns > MOST_TURNS {
             return PlayerWalk::TooFar;
         }
-        if near.count == 0 {
+        if count == 0 {
             return PlayerWalk::At(to);
         }
-        return PlayerWalk::At(walk_near(near, from, to, distance, turns as u32));
+        let rest = walk_near(&near_xs, &near_ys, count, from, to, distance, turns as u32);
+        return PlayerWalk::At(rest);
     }
     PlayerWalk::At(to)
 }
 
 // Point by point, up to the first at which one of those who may be touched is close.
-fn walk_near(near: Near, from: vec2, to: vec2, distance: f32, turns: u32) -> vec2
-    requires { ⌜ (turns ≤ 65536) × (near .count ≤ seats) ⌝ }
-    ensures { λ r. ⌜ r ≡ walkNear (near .count) (near .at) from to distance turns ⌝ }
+fn walk_near(
+    near_xs: &[f32; SEATS],
+    near_ys: &[f32; SEATS],
+    count: usize,
+    from: vec2,
+    to: vec2,
+    distance: f32,
+    turns: u32,
+) -> vec2
+    requires { ⌜ (turns ≤ 65536) × (count ≤ seats) ⌝ }
+    ensures { λ r. ⌜ r ≡ walkNear count (now («near_xs» .entry)) (now («near_ys» .entry)) from to distance turns ⌝ }
 {
-    let count = near.count;
-    let at = near.at;
     let mut last = from;
     let mut rest = to;
     'walk: for i in 0..turns {
         let fraction = i as f32 / distance;
         let p = vec2::mix(from, to, fraction);
         for k in 0..count {
-            let q = at[k];
+            let q = vec2::new(near_xs[k], near_ys[k]);
             if touches(p, q) {
                 rest = rest_at(fraction, last, from, to, p, q);
                 break 'walk;

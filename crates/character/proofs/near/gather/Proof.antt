@@ -29,23 +29,23 @@ use Rattle.character.proofs.near.gather.Statement.{statement}
 use Rattle.character.proofs.near.gather.Tie as tie
 
 -- what holds after j seats
-abbrev Kept : List Bool → List Float → List Float → ℕ → vec2 → vec2 → ℕ → ℕ → List vec2 → Type 0
-Kept ps xs ys id from end j m qs = (m ≤ j) × (j ≤ seats) × (length qs ≡ seats) × Among seats ps xs ys (λ ss. Asked ss id from end j m qs)
+abbrev Kept : List Bool → List Float → List Float → ℕ → vec2 → vec2 → ℕ → ℕ → List Float → List Float → Type 0
+Kept ps xs ys id from end j m us vs = (m ≤ j) × (j ≤ seats) × (length us ≡ seats) × (length vs ≡ seats) × Among seats ps xs ys (λ ss. Asked ss id from end j m us vs)
 
 -- a turn, on plain values: somebody is taken in, or left out
-module _ (ps : List Bool) (xs ys : List Float) (id : ℕ) (from end : vec2) (j m : ℕ) (qs : List vec2) (l : j < seats) (q : vec2) (at : q ≡ placeAt xs ys j) (k : Kept ps xs ys id from end j m qs) (us : List vec2) (n : ℕ) where
+module _ (ps : List Bool) (xs ys : List Float) (id : ℕ) (from end : vec2) (j m : ℕ) (us vs : List Float) (l : j < seats) (q : vec2) (at : q ≡ placeAt xs ys j) (k : Kept ps xs ys id from end j m us vs) (us′ vs′ : List Float) (n : ℕ) where
   close : (j ≡ id → ⊥) → (s : Slot) → s .present ≡ true → (p : vec2) → isClose s id j p ≡ touches p (s .character .pos)
   unfolding isClose
   close o s here p = simp (ne-eqb j id o, here)
 
-  taken : getD ps j false ≡ true → (j ≡ id → ⊥) → us ≡ set qs m q → n ≡ m + 1 → Kept ps xs ys id from end (j + 1) n us
-  taken b o e f = rw (e, f) (omega arith, omega arith, simp length-set (k .2), λ ss places. more ss places)
+  taken : getD ps j false ≡ true → (j ≡ id → ⊥) → us′ ≡ set us m (q .x) → vs′ ≡ set vs m (q .y) → n ≡ m + 1 → Kept ps xs ys id from end (j + 1) n us′ vs′
+  taken b o d e f = rw (d, e, f) (omega arith, omega arith, simp length-set (k .2), simp length-set (k .3), λ ss places. more ss places)
     where
-      more : (ss : List Slot) → PlacesOf seats ss ps xs ys → Asked ss id from end (j + 1) (m + 1) (set qs m q)
+      more : (ss : List Slot) → PlacesOf seats ss ps xs ys → Asked ss id from end (j + 1) (m + 1) (set us m (q .x)) (set vs m (q .y))
       more ss places =
           let here : slotAt ss j .present ≡ true = sym (places j l .there) ∙ b in
           let stands : q ≡ slotAt ss j .character .pos = at ∙ places j l .stands here in
-          rw stands (asked-more ss id from end j m qs (omega arith) (close o (slotAt ss j) here) (k .3 ss places))
+          rw stands (asked-more ss id from end j m us vs (omega arith) (omega arith) (close o (slotAt ss j) here) (k .4 ss places))
 
   -- its own place, nobody there, or on one side of the way
   abbrev Reason : Type 0
@@ -67,17 +67,17 @@ module _ (ps : List Bool) (xs ys : List Float) (id : ℕ) (from end : vec2) (j m
           go false false d e = refl
           go false true d e = far (eqb-false j id d) e why
 
-  passed : FitsPair from → Reason × (us ≡ qs) × (n ≡ m) → Kept ps xs ys id from end (j + 1) n us
-  passed fit (why, e, f) = rw (e, f) (omega arith, omega arith, k .2, λ ss places. asked-past ss id from end j m qs (not-close fit why ss places) (k .3 ss places))
+  passed : FitsPair from → Reason × (us′ ≡ us) × (vs′ ≡ vs) × (n ≡ m) → Kept ps xs ys id from end (j + 1) n us′ vs′
+  passed fit (why, d, e, f) = rw (d, e, f) (omega arith, omega arith, k .2, k .3, λ ss places. asked-past ss id from end j m us vs (not-close fit why ss places) (k .4 ss places))
 
 abbrev Inv-loop : tie.InvT-loop
-Inv-loop present xs ys id from end at₀ count₀ j₀ at count j = Kept present xs ys id from end j count at
+Inv-loop present xs ys id from end near-xs₀ near-ys₀ count₀ j₀ near-xs near-ys count j = Kept present xs ys id from end j count near-xs near-ys
 
 abbrev μ-loop : tie.MeasureT-loop
-μ-loop present xs ys id from end at₀ count₀ j₀ at count j = seats - j
+μ-loop present xs ys id from end near-xs₀ near-ys₀ count₀ j₀ near-xs near-ys count j = seats - j
 
 loop-holds : tie.Need-loop-holds Inv-loop μ-loop
-loop-holds c = (search needs, search needs, search needs, λ ss places. asked-none ss _ _ _ _)
+loop-holds c = (search needs, search needs, search needs, search needs, λ ss places. asked-none ss _ _ _ _ _)
 
 mul-new : tie.Need-mul-new Inv-loop μ-loop
 mul-new c = omega arith
@@ -100,11 +100,17 @@ may-touch-requires c κs = search needs
 element-copy-out-if2 : tie.Need-element-copy-out-if2 Inv-loop μ-loop
 element-copy-out-if2 c = search needs
 
-mul-at : tie.Need-mul-at Inv-loop μ-loop
-mul-at c = omega arith
+mul-near-xs : tie.Need-mul-near-xs Inv-loop μ-loop
+mul-near-xs c = omega arith
 
-array-set-from-at : tie.Need-array-set-from-at Inv-loop μ-loop
-array-set-from-at c = omega arith
+element-write-near-xs : tie.Need-element-write-near-xs Inv-loop μ-loop
+element-write-near-xs c = search needs
+
+mul-near-ys : tie.Need-mul-near-ys Inv-loop μ-loop
+mul-near-ys c = omega arith
+
+element-write-near-ys : tie.Need-element-write-near-ys Inv-loop μ-loop
+element-write-near-ys c = search needs
 
 add-count : tie.Need-add-count Inv-loop μ-loop
 add-count c = omega arith
@@ -126,16 +132,16 @@ loop-again c =
     let fit : FitsPair (a .from) = (subst T (sym (from .1 .1 .0 .1)) tt, subst T (sym (from .1 .1 .1 .0 .1)) tt) in
     let side = sym (c .before .may-touch .ensures) in
     ⊎-elim
-    (λ w. taken (a .present .now) (a .xs .now) (a .ys .now) (a .id) (a .from) (a .end) (l .j) (l .count) (l .at) h (q .result) (q .ensures) (l .inv) (c .if1 .at) (c .if1 .count) (w .2 .taken) (w .3 .taken) (w .4) (w .5))
-    (λ w. passed (a .present .now) (a .xs .now) (a .ys .now) (a .id) (a .from) (a .end) (l .j) (l .count) (l .at) h (q .result) (q .ensures) (l .inv) (c .if1 .at) (c .if1 .count) fit
-    (⊎-elim (λ u. (inl (u .3 .left), u .4, u .5)) (⊎-elim (λ u. (inr (inl (u .2 .left)), u .3, u .4)) (λ u. (inr (inr (side ∙ u .0 .left)), u .1, u .2))) w))
+    (λ w. taken (a .present .now) (a .xs .now) (a .ys .now) (a .id) (a .from) (a .end) (l .j) (l .count) (l .near-xs) (l .near-ys) h (q .result) (q .ensures) (l .inv) (c .if1 .near-xs) (c .if1 .near-ys) (c .if1 .count) (w .2 .taken) (w .3 .taken) (w .4) (w .5) (w .6))
+    (λ w. passed (a .present .now) (a .xs .now) (a .ys .now) (a .id) (a .from) (a .end) (l .j) (l .count) (l .near-xs) (l .near-ys) h (q .result) (q .ensures) (l .inv) (c .if1 .near-xs) (c .if1 .near-ys) (c .if1 .count) fit
+    (⊎-elim (λ u. (inl (u .3 .left), u .4, u .5, u .6)) (⊎-elim (λ u. (inr (inl (u .2 .left)), u .3, u .4, u .5)) (λ u. (inr (inr (side ∙ u .0 .left)), u .1, u .2, u .3))) w))
     (c .if1 .came)
 
 returns : tie.Need-returns Inv-loop μ-loop
 returns c =
     let l = c .before .loop in
     let a = c .before .before .args in
-    (omega arith, λ ss places. subst (λ (j : ℕ). Asked ss (a .id) (a .from) (a .end) j (l .count) (l .at)) (omega arith) (l .inv .3 ss places))
+    (omega arith, λ ss places. subst (λ (j : ℕ). Asked ss (a .id) (a .from) (a .end) j (l .count) (l .near-xs) (l .near-ys)) (omega arith) (l .inv .4 ss places))
 
 pub gather-spec : {M : Type 1} → statement M
 gather-spec =
@@ -151,8 +157,10 @@ gather-spec =
     new-requires
     may-touch-requires
     element-copy-out-if2
-    mul-at
-    array-set-from-at
+    mul-near-xs
+    element-write-near-xs
+    mul-near-ys
+    element-write-near-ys
     add-count
     add-j
     loop-less

@@ -1,11 +1,6 @@
 -- `character::walk::player_walk` meets its contract. Assumes nothing.
-use mathlib.Core.Path.{ap, _∙_}
-use Prim.Native.Nat.{ℕ}
 use borrow.Author.Needs.{needs}
 use borrow.Author.Tests.{lt-leb, le-leb}
-use Rattle.num_vec2.specs.Vec2.{vdistance}
-use Rattle.character_motion.specs.Walking.{playerTurns}
-use Rattle.character.specs.Near.{walkNear}
 use Rattle.character.specs.Tick.{seats}
 use Rattle.character.specs.Walk.{playerWalk}
 use Rattle.character.proofs.Gathered.{walk-gathered, walk-alone}
@@ -29,20 +24,17 @@ gather-requires c κs = search needs
 
 returns : tie.Need-returns
 unfolding playerWalk
-returns c = λ ss places. simp (c .before .before .before .before .before .before .if1 .taken, ← c .before .before .before .before .before .distance .ensures, ← c .before .before .before .before .player-turns .ensures, lt-leb _ _ (c .if2 .taken))
+returns c = λ ss places. simp (c .before .before .before .before .before .before .before .before .if1 .taken, ← c .before .before .before .before .before .before .before .distance .ensures, ← c .before .before .before .before .before .before .player-turns .ensures, lt-leb _ _ (c .if2 .taken))
 
 returns-2 : tie.Need-returns-2
 unfolding playerWalk
 returns-2 c = λ ss places.
-    let a = c .before .before .before .before .before .before .before .before .before .args in
-    let g = c .before .before .before .gather in
-    let d = vdistance (a .from) (a .to) in
-    let asked = rw (c .before .before .before .before .add .ensures, c .before .before .before .before .before .sub .ensures) at (g .ensures .1 ss places) in
-    let alone = walk-gathered seats ss (a .id) (a .from) (a .to) (g .result .count) (g .result .at) asked
-    ∙ ap (λ (m : ℕ). walkNear m (g .result .at) (a .from) (a .to) d (playerTurns d)) (c .if3 .taken)
-    ∙ walk-alone (g .result .at) (a .from) (a .to) d (playerTurns d) in
-    let e = simp (← c .before .before .before .before .before .before .before .distance .ensures, ← c .before .before .before .before .before .before .player-turns .ensures) at alone in
-    simp (c .before .before .before .before .before .before .before .before .if1 .taken, ← c .before .before .before .before .before .before .before .distance .ensures, ← c .before .before .before .before .before .before .player-turns .ensures, le-leb _ _ (c .before .before .if2 .left), e)
+    let a = c .before .before .before .before .before .before .before .before .before .before .args in
+    let g = c .before .before .gather in
+    let asked = rw (c .before .before .before .before .before .add .ensures, c .before .before .before .before .before .before .sub .ensures) at (g .ensures .1 ss places) in
+    let alone = walk-alone seats ss (a .id) (a .from) (a .to) (g .result) _ _ asked (c .if3 .taken) in
+    let e = simp (← c .before .before .before .before .before .before .before .before .distance .ensures, ← c .before .before .before .before .before .before .before .player-turns .ensures) at alone in
+    simp (c .before .before .before .before .before .before .before .before .before .if1 .taken, ← c .before .before .before .before .before .before .before .before .distance .ensures, ← c .before .before .before .before .before .before .before .player-turns .ensures, le-leb _ _ (c .before .if2 .left), e)
 
 cast-walk-near : tie.Need-cast-walk-near
 cast-walk-near c = search needs
@@ -53,11 +45,11 @@ walk-near-requires c κs = search needs
 returns-3 : tie.Need-returns-3
 unfolding playerWalk
 returns-3 c = λ ss places.
-    let a = c .before .before .before .before .before .before .before .before .before .before .args in
-    let g = c .before .before .before .before .gather in
-    let asked = rw (c .before .before .before .before .before .add .ensures, c .before .before .before .before .before .before .sub .ensures) at (g .ensures .1 ss places) in
-    let e = simp (← c .before .before .before .before .before .before .before .before .distance .ensures, ← c .before .before .before .before .before .before .before .player-turns .ensures, ← c .walk-near .ensures) at (walk-gathered seats ss (a .id) (a .from) (a .to) (g .result .count) (g .result .at) asked) in
-    simp (c .before .before .before .before .before .before .before .before .before .if1 .taken, ← c .before .before .before .before .before .before .before .before .distance .ensures, ← c .before .before .before .before .before .before .before .player-turns .ensures, le-leb _ _ (c .before .before .before .if2 .left), e)
+    let a = c .before .before .before .before .before .before .before .before .before .before .before .before .before .args in
+    let g = c .before .before .before .before .before .gather in
+    let asked = rw (c .before .before .before .before .before .before .before .before .add .ensures, c .before .before .before .before .before .before .before .before .before .sub .ensures) at (g .ensures .1 ss places) in
+    let e = simp (← c .before .before .before .before .before .before .before .before .before .before .before .distance .ensures, ← c .before .before .before .before .before .before .before .before .before .before .player-turns .ensures, ← c .walk-near .ensures) at (walk-gathered seats ss (a .id) (a .from) (a .to) (g .result) _ _ asked) in
+    simp (c .before .before .before .before .before .before .before .before .before .before .before .before .if1 .taken, ← c .before .before .before .before .before .before .before .before .before .before .before .distance .ensures, ← c .before .before .before .before .before .before .before .before .before .before .player-turns .ensures, le-leb _ _ (c .before .before .before .before .if2 .left), e)
 
 returns-4 : tie.Need-returns-4
 unfolding playerWalk

@@ -18,24 +18,24 @@ use Rattle.character.proofs.walk.walk_near.Statement.{statement}
 use Rattle.character.proofs.walk.walk_near.Tie as tie
 
 -- a turn, on plain values: nobody is close to its point; somebody is
-module _ (m : ℕ) (qs : List vec2) (from to : vec2) (distance : Float) (i : ℕ) (last p : vec2) (at : p ≡ vmix from to (div binary32 (i32ToF32 (pos i)) distance)) where
-  passed : run (nearTurn qs from to last (div binary32 (i32ToF32 (pos i)) distance) p) m 0 tt ≡ more tt → nearWalkTurn m qs from to distance i last ≡ more p
+module _ (m : ℕ) (xs ys : List Float) (from to : vec2) (distance : Float) (i : ℕ) (last p : vec2) (at : p ≡ vmix from to (div binary32 (i32ToF32 (pos i)) distance)) where
+  passed : run (nearTurn xs ys from to last (div binary32 (i32ToF32 (pos i)) distance) p) m 0 tt ≡ more tt → nearWalkTurn m xs ys from to distance i last ≡ more p
   passed e = simp (← at, e)
 
-  stopped : (r : vec2) → run (nearTurn qs from to last (div binary32 (i32ToF32 (pos i)) distance) p) m 0 tt ≡ stop r → nearWalkTurn m qs from to distance i last ≡ stop r
+  stopped : (r : vec2) → run (nearTurn xs ys from to last (div binary32 (i32ToF32 (pos i)) distance) p) m 0 tt ≡ stop r → nearWalkTurn m xs ys from to distance i last ≡ stop r
   stopped r e = simp (← at, e)
 
 abbrev Inv-loop : tie.InvT-loop
-Inv-loop from to distance turns count at last rest₀ i fraction p k₀ rest k = (rest ≡ rest₀) × Left (nearTurn at from to last fraction p) count k tt (run (nearTurn at from to last fraction p) count 0 tt)
+Inv-loop near-xs near-ys count from to distance turns last rest₀ i fraction p k₀ rest k = (rest ≡ rest₀) × Left (nearTurn near-xs near-ys from to last fraction p) count k tt (run (nearTurn near-xs near-ys from to last fraction p) count 0 tt)
 
 abbrev μ-loop : tie.MeasureT-loop
-μ-loop from to distance turns count at last rest₀ i fraction p k₀ rest k = count - k
+μ-loop near-xs near-ys count from to distance turns last rest₀ i fraction p k₀ rest k = count - k
 
 abbrev Inv-walk : tie.InvT-walk
-Inv-walk from to distance turns count at last₀ rest₀ i₀ last rest i = (rest ≡ rest₀) × Left (nearWalkTurn count at from to distance) turns i last (run (nearWalkTurn count at from to distance) turns 0 last₀)
+Inv-walk near-xs near-ys count from to distance turns last₀ rest₀ i₀ last rest i = (rest ≡ rest₀) × Left (nearWalkTurn count near-xs near-ys from to distance) turns i last (run (nearWalkTurn count near-xs near-ys from to distance) turns 0 last₀)
 
 abbrev μ-walk : tie.MeasureT-walk
-μ-walk from to distance turns count at last₀ rest₀ i₀ last rest i = turns - i
+μ-walk near-xs near-ys count from to distance turns last₀ rest₀ i₀ last rest i = turns - i
 
 walk-holds : tie.Need-walk-holds Inv-loop μ-loop Inv-walk μ-walk
 walk-holds c = (refl, turn-first)
@@ -50,11 +50,20 @@ mix-requires c κs = search needs
 loop-holds : tie.Need-loop-holds Inv-loop μ-loop Inv-walk μ-walk
 loop-holds c = (refl, turn-first)
 
-mul-q : tie.Need-mul-q Inv-loop μ-loop Inv-walk μ-walk
-mul-q c = search needs
+mul-new : tie.Need-mul-new Inv-loop μ-loop Inv-walk μ-walk
+mul-new c = omega arith
 
-array-copy-out-q : tie.Need-array-copy-out-q Inv-loop μ-loop Inv-walk μ-walk
-array-copy-out-q c = omega arith
+element-copy-out-new : tie.Need-element-copy-out-new Inv-loop μ-loop Inv-walk μ-walk
+element-copy-out-new c = search needs
+
+mul-new-2 : tie.Need-mul-new-2 Inv-loop μ-loop Inv-walk μ-walk
+mul-new-2 c = omega arith
+
+element-copy-out-new-2 : tie.Need-element-copy-out-new-2 Inv-loop μ-loop Inv-walk μ-walk
+element-copy-out-new-2 c = search needs
+
+new-requires : tie.Need-new-requires Inv-loop μ-loop Inv-walk μ-walk
+new-requires c κs = search needs
 
 touches-requires : tie.Need-touches-requires Inv-loop μ-loop Inv-walk μ-walk
 touches-requires c κs = search needs
@@ -69,7 +78,9 @@ loop-less : tie.Need-loop-less Inv-loop μ-loop Inv-walk μ-walk
 loop-less c = omega arith
 
 loop-again : tie.Need-loop-again Inv-loop μ-loop Inv-walk μ-walk
-loop-again c = let l = c .before .before .before .before .loop in (l .inv .0, turn-on (l .inv .1) (c .before .before .before .loop-test .taken) (simp (← c .before .touches .ensures, c .if1 .left)))
+loop-again c =
+    let l = c .before .before .before .before .before .before .loop in
+    (l .inv .0, turn-on (l .inv .1) (c .before .before .before .before .before .loop-test .taken) (simp (← c .before .before .new .ensures, ← c .before .touches .ensures, c .if1 .left)))
 
 add-i : tie.Need-add-i Inv-loop μ-loop Inv-walk μ-walk
 add-i c = omega arith
@@ -82,8 +93,8 @@ unfolding i32ToF32
 walk-again c =
     let w = c .before .before .before .before .before .walk in
     let l = c .before .loop in
-    let a = c .before .before .before .before .before .before .before .args in
-    (l .inv .0 ∙ w .inv .0, turn-on (w .inv .1) (c .before .before .before .before .walk-test .taken) (passed (a .near .count) (a .near .at) (a .from) (a .to) (a .distance) (w .i) (w .last) (c .before .before .mix .result) (c .before .before .mix .ensures) (turn-end (l .inv .1) (c .loop-test .left))))
+    let a = c .before .before .before .before .before .before .args in
+    (l .inv .0 ∙ w .inv .0, turn-on (w .inv .1) (c .before .before .before .before .walk-test .taken) (passed (a .count) (a .near-xs .now) (a .near-ys .now) (a .from) (a .to) (a .distance) (w .i) (w .last) (c .before .before .mix .result) (c .before .before .mix .ensures) (turn-end (l .inv .1) (c .loop-test .left))))
 
 returns : tie.Need-returns Inv-loop μ-loop Inv-walk μ-walk
 unfolding walkNear
@@ -92,12 +103,12 @@ returns c = let w = c .before .walk in w .inv .0 ∙ sym (ap (orTo _) (turn-end 
 returns-2 : tie.Need-returns-2 Inv-loop μ-loop Inv-walk μ-walk
 unfolding walkNear i32ToF32
 returns-2 c =
-    let w = c .before .before .before .before .before .before .before .before .before .walk in
-    let l = c .before .before .before .before .before .loop in
-    let a = c .before .before .before .before .before .before .before .before .before .before .before .args in
-    let m = c .before .before .before .before .before .before .mix in
-    sym (ap (orTo (a .to)) (turn-off {r = c .rest-at .result} (w .inv .1) (c .before .before .before .before .before .before .before .before .walk-test .taken)
-    (stopped (a .near .count) (a .near .at) (a .from) (a .to) (a .distance) (w .i) (w .last) (m .result) (m .ensures) (c .rest-at .result) (turn-off {r = c .rest-at .result} (l .inv .1) (c .before .before .before .before .loop-test .taken) (simp (← c .before .before .touches .ensures, c .before .if1 .taken, ← c .rest-at .ensures))))))
+    let w = c .before .before .before .before .before .before .before .before .before .before .before .walk in
+    let l = c .before .before .before .before .before .before .before .loop in
+    let a = c .before .before .before .before .before .before .before .before .before .before .before .before .args in
+    let m = c .before .before .before .before .before .before .before .before .mix in
+    sym (ap (orTo (a .to)) (turn-off {r = c .rest-at .result} (w .inv .1) (c .before .before .before .before .before .before .before .before .before .before .walk-test .taken)
+    (stopped (a .count) (a .near-xs .now) (a .near-ys .now) (a .from) (a .to) (a .distance) (w .i) (w .last) (m .result) (m .ensures) (c .rest-at .result) (turn-off {r = c .rest-at .result} (l .inv .1) (c .before .before .before .before .before .before .loop-test .taken) (simp (← c .before .before .before .new .ensures, ← c .before .before .touches .ensures, c .before .if1 .taken, ← c .rest-at .ensures))))))
 
 pub walk-near-spec : {M : Type 1} → statement M
 walk-near-spec =
@@ -111,8 +122,11 @@ walk-near-spec =
     int-to-float-fraction
     mix-requires
     loop-holds
-    mul-q
-    array-copy-out-q
+    mul-new
+    element-copy-out-new
+    mul-new-2
+    element-copy-out-new-2
+    new-requires
     touches-requires
     rest-at-requires
     add-k
