@@ -3,3 +3,4 @@ pub mod Held
 pub mod Gathered
 pub mod Passed
 pub mod Seat
+pub mod Scan

@@ -6,4 +6,5 @@ pub mod Among
 pub mod Walk
 pub mod Aside
 pub mod Near
+pub mod Rows
 pub mod Records

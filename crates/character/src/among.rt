@@ -2,6 +2,8 @@
 use crate::SEATS;
 use crate::aside::may_touch;
 use crate::pulls::held_seat;
+use crate::rows::ROW;
+use crate::rows::none_met;
 use crate::tick::HookFlight;
 use character_hook::CharacterId;
 use character_hook::Hook;
@@ -81,15 +83,21 @@ pub fn meet_all(
     ensures { λ r. ⌜ Among seats (now (present .entry)) (now (xs .entry)) (now (ys .entry)) (λ ss. r ≡ meetAll seats ss id pos vel hook tuning) ⌝ }
 {
     let held = held_seat(hook, id);
-    for j in 0..SEATS {
-        let place = vec2::new(xs[j], ys[j]);
-        if may_meet(pos, place, j, held) {
-            if present[j] {
-                if j != id {
-                    let cid = j as u32;
-                    vel = meet(pos, vel, hook, place, CharacterId(cid), tuning);
+    let mut j: usize = 0;
+    while j < SEATS {
+        if none_met(xs, ys, j, pos, held) {
+            j += ROW;
+        } else {
+            let place = vec2::new(xs[j], ys[j]);
+            if may_meet(pos, place, j, held) {
+                if present[j] {
+                    if j != id {
+                        let cid = j as u32;
+                        vel = meet(pos, vel, hook, place, CharacterId(cid), tuning);
+                    }
                 }
             }
+            j += 1;
         }
     }
     vel

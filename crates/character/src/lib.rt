@@ -6,6 +6,7 @@ mod near;
 mod places;
 mod pulls;
 mod records;
+mod rows;
 mod slots;
 mod tick;
 mod to_record;

@@ -1,6 +1,8 @@
 // Whom a player walk may touch: the others but those who are a character's size or more to one side of the whole way.
 use crate::SEATS;
 use crate::aside::may_touch;
+use crate::rows::ROW;
+use crate::rows::none_touched;
 use num_vec2::vec2;
 ghost use Prim.Native.Nat.{_≤_};
 ghost use mathlib.Core.Path.{_≡_};
@@ -25,16 +27,22 @@ pub fn gather(
     ensures { λ r. ⌜ (r ≤ seats) × Among seats (now (present .entry)) (now (xs .entry)) (now (ys .entry)) (λ ss. Asked ss id from end seats r (now («near_xs» .exit)) (now («near_ys» .exit))) ⌝ }
 {
     let mut count: usize = 0;
-    for j in 0..SEATS {
-        let place = vec2::new(xs[j], ys[j]);
-        if may_touch(from, end, place) {
-            if present[j] {
-                if j != id {
-                    near_xs[count] = place.x;
-                    near_ys[count] = place.y;
-                    count += 1;
+    let mut j: usize = 0;
+    while j < SEATS {
+        if none_touched(xs, ys, j, from, end) {
+            j += ROW;
+        } else {
+            let place = vec2::new(xs[j], ys[j]);
+            if may_touch(from, end, place) {
+                if present[j] {
+                    if j != id {
+                        near_xs[count] = place.x;
+                        near_ys[count] = place.y;
+                        count += 1;
+                    }
                 }
             }
+            j += 1;
         }
     }
     count

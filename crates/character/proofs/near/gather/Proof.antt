@@ -25,6 +25,7 @@ use Rattle.character.specs.Walk.{isClose}
 use Rattle.character.specs.declared.Slot.{Slot}
 use Rattle.character.proofs.Gathered.{asked-none, asked-past, asked-more}
 use Rattle.character.proofs.Passed.{left-out}
+use Rattle.character.proofs.Scan.{through}
 use Rattle.character.proofs.near.gather.Statement.{statement}
 use Rattle.character.proofs.near.gather.Tie as tie
 
@@ -79,6 +80,29 @@ abbrev μ-loop : tie.MeasureT-loop
 loop-holds : tie.Need-loop-holds Inv-loop μ-loop
 loop-holds c = (search needs, search needs, search needs, search needs, λ ss places. asked-none ss _ _ _ _ _)
 
+-- where the way begins, two floats that fit their width
+fits : (s : tie.Start Inv-loop μ-loop) → FitsPair (s .args .from)
+fits s = let from = s .good .1 .1 .1 .1 .0 in (subst T (sym (from .1 .1 .0 .1)) tt, subst T (sym (from .1 .1 .1 .0 .1)) tt)
+
+none-touched-requires : tie.Need-none-touched-requires Inv-loop μ-loop
+none-touched-requires c κs = search needs
+
+add-j : tie.Need-add-j Inv-loop μ-loop
+add-j c = omega arith
+
+loop-less : tie.Need-loop-less Inv-loop μ-loop
+loop-less c = omega arith
+
+loop-again : tie.Need-loop-again Inv-loop μ-loop
+loop-again c =
+    let l = c .before .before .before .loop in
+    let s = c .before .before .before .before in
+    let a = s .args in
+    let row = c .before .none-touched .ensures (c .if1 .taken) in
+    through (λ k. Kept (a .present .now) (a .xs .now) (a .ys .now) (a .id) (a .from) (a .end) k (l .count) (l .near-xs) (l .near-ys)) 8 (l .j)
+    (λ k b e kept. passed (a .present .now) (a .xs .now) (a .ys .now) (a .id) (a .from) (a .end) k (l .count) (l .near-xs) (l .near-ys) (omega (arith, row .row)) (placeAt (a .xs .now) (a .ys .now) k) refl kept (l .near-xs) (l .near-ys) (l .count) (fits s) (inr (inr (row .none k b e)), refl, refl, refl))
+    (l .inv)
+
 mul-new : tie.Need-mul-new Inv-loop μ-loop
 mul-new c = omega arith
 
@@ -97,8 +121,8 @@ new-requires c κs = search needs
 may-touch-requires : tie.Need-may-touch-requires Inv-loop μ-loop
 may-touch-requires c κs = search needs
 
-element-copy-out-if2 : tie.Need-element-copy-out-if2 Inv-loop μ-loop
-element-copy-out-if2 c = search needs
+element-copy-out-if3 : tie.Need-element-copy-out-if3 Inv-loop μ-loop
+element-copy-out-if3 c = search needs
 
 mul-near-xs : tie.Need-mul-near-xs Inv-loop μ-loop
 mul-near-xs c = omega arith
@@ -115,27 +139,25 @@ element-write-near-ys c = search needs
 add-count : tie.Need-add-count Inv-loop μ-loop
 add-count c = omega arith
 
-add-j : tie.Need-add-j Inv-loop μ-loop
-add-j c = omega arith
+add-j-2 : tie.Need-add-j-2 Inv-loop μ-loop
+add-j-2 c = omega arith
 
-loop-less : tie.Need-loop-less Inv-loop μ-loop
-loop-less c = omega arith
+loop-less-2 : tie.Need-loop-less-2 Inv-loop μ-loop
+loop-less-2 c = omega arith
 
-loop-again : tie.Need-loop-again Inv-loop μ-loop
-loop-again c =
-    let h = c .before .before .before .before .before .loop-test .taken in
-    let l = c .before .before .before .before .before .before .loop in
-    let s = c .before .before .before .before .before .before .before in
+loop-again-2 : tie.Need-loop-again-2 Inv-loop μ-loop
+loop-again-2 c =
+    let h = c .before .before .before .before .before .before .before .loop-test .taken in
+    let l = c .before .before .before .before .before .before .before .before .loop in
+    let s = c .before .before .before .before .before .before .before .before .before in
     let a = s .args in
     let q = c .before .before .new in
-    let from = s .good .1 .1 .1 .1 .0 in
-    let fit : FitsPair (a .from) = (subst T (sym (from .1 .1 .0 .1)) tt, subst T (sym (from .1 .1 .1 .0 .1)) tt) in
     let side = sym (c .before .may-touch .ensures) in
     ⊎-elim
-    (λ w. taken (a .present .now) (a .xs .now) (a .ys .now) (a .id) (a .from) (a .end) (l .j) (l .count) (l .near-xs) (l .near-ys) h (q .result) (q .ensures) (l .inv) (c .if1 .near-xs) (c .if1 .near-ys) (c .if1 .count) (w .2 .taken) (w .3 .taken) (w .4) (w .5) (w .6))
-    (λ w. passed (a .present .now) (a .xs .now) (a .ys .now) (a .id) (a .from) (a .end) (l .j) (l .count) (l .near-xs) (l .near-ys) h (q .result) (q .ensures) (l .inv) (c .if1 .near-xs) (c .if1 .near-ys) (c .if1 .count) fit
+    (λ w. taken (a .present .now) (a .xs .now) (a .ys .now) (a .id) (a .from) (a .end) (l .j) (l .count) (l .near-xs) (l .near-ys) h (q .result) (q .ensures) (l .inv) (c .if2 .near-xs) (c .if2 .near-ys) (c .if2 .count) (w .2 .taken) (w .3 .taken) (w .4) (w .5) (w .6))
+    (λ w. passed (a .present .now) (a .xs .now) (a .ys .now) (a .id) (a .from) (a .end) (l .j) (l .count) (l .near-xs) (l .near-ys) h (q .result) (q .ensures) (l .inv) (c .if2 .near-xs) (c .if2 .near-ys) (c .if2 .count) (fits s)
     (⊎-elim (λ u. (inl (u .3 .left), u .4, u .5, u .6)) (⊎-elim (λ u. (inr (inl (u .2 .left)), u .3, u .4, u .5)) (λ u. (inr (inr (side ∙ u .0 .left)), u .1, u .2, u .3))) w))
-    (c .if1 .came)
+    (c .if2 .came)
 
 returns : tie.Need-returns Inv-loop μ-loop
 returns c =
@@ -150,19 +172,23 @@ gather-spec =
     Inv-loop
     μ-loop
     loop-holds
+    none-touched-requires
+    add-j
+    loop-less
+    loop-again
     mul-new
     element-copy-out-new
     mul-new-2
     element-copy-out-new-2
     new-requires
     may-touch-requires
-    element-copy-out-if2
+    element-copy-out-if3
     mul-near-xs
     element-write-near-xs
     mul-near-ys
     element-write-near-ys
     add-count
-    add-j
-    loop-less
-    loop-again
+    add-j-2
+    loop-less-2
+    loop-again-2
     returns)
