@@ -49,6 +49,10 @@ bytesEnd = 11
 abbrev pub badBytes : ℕ
 badBytes = 12
 
+-- a call or a read that its role doesn't allow
+abbrev pub notAllowed : ℕ
+notAllowed = 13
+
 -- a lent buffer of numbers that has another length than it must
 abbrev pub badLength : ℕ
 badLength = 17

@@ -18,6 +18,8 @@ use Rattle.world_buffers.proofs.Stands.{calls-stand}
 use Rattle.world_buffers.proofs.Refusals.{refusals-leave}
 use Rattle.world_buffers.proofs.Reached.{buffer-follows}
 use Rattle.send_buffers.proofs.Reached.{link-follows}
+use Rattle.world_roles.proofs.Requests.{roles-hold}
+use Rattle.ponguriena.proofs.Standing.{roles-stand}
 use Rattle.session_laws.proofs.Whole.{whole-output}
 use Rattle.session_laws.proofs.Ends.{play-ends}
 use Rattle.ponguriena_theorems.specs.Theorems.{Theorems, Shipped}
@@ -40,7 +42,8 @@ all-theorems n = record {
   foreseen = copy-foresees n;
   stays = copy-stays n;
   alone = copies-alone n;
+  roles = roles-hold n;
 }
 
 pub shipped : Shipped
-shipped = record { theorems = all-theorems seats; stand = calls-stand; refusals = refusals-leave; buffers = buffer-follows; links = link-follows }
+shipped = record { theorems = all-theorems seats; stand = calls-stand; refusals = refusals-leave; buffers = buffer-follows; links = link-follows; byRole = roles-stand }

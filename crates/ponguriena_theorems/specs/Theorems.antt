@@ -15,6 +15,8 @@ use Rattle.send_alone.specs.Alone.{CopiesAlone}
 use Rattle.world_numbers.specs.Decoding.{ComesBack, AnyComesBack}
 use Rattle.world_buffers.specs.Following.{CallsStand, RefusalsLeave, BufferFollows}
 use Rattle.send_buffers.specs.Following.{LinkFollows}
+use Rattle.world_roles.specs.Requests.{Roles}
+use Rattle.ponguriena.specs.Standing.{RolesStand}
 use Rattle.session_laws.specs.Played.{WholeOutput, PlayEnds}
 
 -- of a world of n seats
@@ -43,6 +45,8 @@ pub record Theorems (n : ℕ) : Type 0 where
   pub foreseen : Foreseen n
   pub stays : Stays n
   pub alone : CopiesAlone n
+  -- request 8: a call or a read beyond its role counts for nothing
+  pub roles : Roles n
 
 -- at the seats that there are; and that the numbers which C programs hold are those of the worlds and links that the theorems speak of
 pub record Shipped : Type 0 where
@@ -53,3 +57,5 @@ pub record Shipped : Type 0 where
   -- after every list of calls from a fresh world, and from a fresh link
   pub buffers : BufferFollows
   pub links : LinkFollows
+  -- calls and reads by the number of a role are those by the role
+  pub byRole : RolesStand

@@ -6,7 +6,8 @@ use text_reading::next_call;
 use text_writing::put_answer;
 use text_writing::put_told;
 use world::World;
-use world_step::run_call;
+use world_roles::Role;
+use world_roles::call_as;
 ghost use mathlib.Core.Path.{_≡_};
 ghost use Prim.Native.Nat.{_+_, _*_, _≤_};
 ghost use lib.ListN.{length};
@@ -53,7 +54,7 @@ pub fn run_line(
             ended(call, place, world, next)
         }
         CallLine::Read(line, past) => {
-            let ran = run_call(world, sides, tiles, line);
+            let ran = call_as(Role::Referee, world, sides, tiles, line);
             let next = put_told(buf, at, call as i32, ran);
             let after = ran.world;
             goes_on(call + 1, past, after, next)

@@ -23,7 +23,8 @@ use world::Call;
 use world::Stepped;
 use world::World;
 use world_calls::fresh;
-use world_step::run_call;
+use world_roles::Role;
+use world_roles::call_as;
 
 // The length of a line.
 const LINE: usize = 181;
@@ -103,7 +104,13 @@ fn answer(world: World, line: &[u8], words: &[u8], call: Call) -> Stepped {
         height: nth(words, SIDES + 1),
     };
     let tiles = tiles_of(line);
-    run_call(world, sides, first(&tiles, tile_count(line)), call)
+    call_as(
+        Role::Referee,
+        world,
+        sides,
+        first(&tiles, tile_count(line)),
+        call,
+    )
 }
 
 fn answer_agrees(stepped: Stepped, words: &[u8]) -> bool {

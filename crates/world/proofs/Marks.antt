@@ -32,7 +32,10 @@ use Rattle.world.specs.declared.Recorded.the-variants.{Refused, Core}
 use Rattle.world.specs.declared.Stepped.{Stepped}
 use Rattle.world.specs.declared.World.{World}
 use Rattle.world.specs.World.{fresh}
-use Rattle.world.specs.Calls.{placeOf, pointOf, join, releasedSlot, leave, input, marked, unmarked, floorMark}
+use Rattle.world.specs.Calls.{placeOf, pointOf, join, releasedSlot, leave, input}
+use Rattle.world.specs.Readers.{seated, ofSeated, markNow}
+use Rattle.world.specs.declared.reading.Reading.the-variants as reading
+use Rattle.world.specs.declared.reading.Seated.the-variants as seat
 use Rattle.world.specs.Removal.{dying, idsIn, isIn}
 use Rattle.world.specs.Step.{Moving, afterTick, tickTurn, tickAll, recordOf, publish, moveIn, moveTurn, movingFrom, moveAll, stepAnswer, stepOn, step}
 use Rattle.world.specs.Run.{inputOf, ran, after}
@@ -162,7 +165,7 @@ module _ (n : ℕ) (s : Sides) (ts : List ℕ) where
     marks-fresh cs = marks-after cs (fresh n) none (after-settled n s ts []) (λ q. absurd (true≢false (sym q ∙ fresh-absent n k)))
 
 pub marks-follow : (n : ℕ) → MarksFollow n
-unfolding floorMark
+unfolding seated
 marks-follow n s ts cs id = go (ltb k n) refl (present n s ts k false (fresh n) cs) (present-follows n s ts cs k)
   where
     k : ℕ
@@ -174,7 +177,7 @@ marks-follow n s ts cs id = go (ltb k n) refl (present n s ts k false (fresh n) 
     last : LastStep
     last = lastStep n s ts k none (fresh n) cs
 
-    go : (b : Bool) → ltb k n ≡ b → (c : Bool) → x .present ≡ c → cond b (cond (x .present) (marked (x .grounded)) (unmarked isAbsent)) (unmarked badId) ≡ cond b (cond c (marked (groundedThen s ts last)) (unmarked isAbsent)) (unmarked badId)
+    go : (b : Bool) → ltb k n ≡ b → (c : Bool) → x .present ≡ c → ofSeated markNow (cond b (cond (x .present) (seat.There x) (seat.Refused isAbsent)) (seat.Refused badId)) ≡ cond b (cond c (reading.FloorMark (groundedThen s ts last)) (reading.Refused isAbsent)) (reading.Refused badId)
     go false e c p = refl
     go true e false p = rw p refl
-    go true e true p = rw p (ap marked (marks-fresh n s ts k (ltb-true k n e) cs p))
+    go true e true p = rw p (ap reading.FloorMark (marks-fresh n s ts k (ltb-true k n e) cs p))

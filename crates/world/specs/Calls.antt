@@ -1,6 +1,6 @@
--- Join, leave, input and tune on a world of n slots, and the reader of a floor mark, with the numbers of document 01's refusals. Definitions only.
+-- Join, leave, input and tune on a world of n slots, with the numbers of document 01's refusals. Definitions only.
 use Prim.Native.Nat.{ℕ}
-use mathlib.Core.Bool.{Bool, false, cond, _&&_}
+use mathlib.Core.Bool.{Bool, cond, _&&_}
 use mathlib.Core.List.{List, map}
 use lib.Dec.{leb, ltb}
 use lib.IntN.{ℤ, pos, negsuc, natAbs}
@@ -22,7 +22,6 @@ use Rattle.character.specs.declared.Slot.{Slot}
 use Rattle.world.specs.World.{withSlot, withTuning}
 use Rattle.game_tuning.specs.Tuning.{tuningCount}
 use Rattle.world.specs.declared.Answer.{Answer}
-use Rattle.world.specs.declared.FloorMark.{FloorMark}
 use Rattle.world.specs.declared.World.{World}
 
 -- a refusal's number, and the world as it was
@@ -88,15 +87,3 @@ input n w id i = let k = placeOf n id in cond (ltb k n) (ifPresent w k (withSlot
 -- any i32; 3 where the index has no tuning
 unfoldable pub tune : World → ℤ → ℤ → Answer
 tune w index z = let k = placeOf tuningCount index in cond (ltb k tuningCount) (accepted (withTuning w k z)) (refused w badTuning)
-
--- ---- what is read
-
-abbrev pub marked : Bool → FloorMark
-marked g = record { number = 0; grounded = g }
-
-abbrev pub unmarked : ℕ → FloorMark
-unmarked k = record { number = k; grounded = false }
-
--- what `grounded` answered in the last tick of an id: 2 where it has no slot, 8 where nobody is there
-unfoldable pub floorMark : ℕ → World → ℤ → FloorMark
-floorMark n w id = let k = placeOf n id in cond (ltb k n) (cond (slotAt (w .slots) k .present) (marked (slotAt (w .slots) k .grounded)) (unmarked isAbsent)) (unmarked badId)

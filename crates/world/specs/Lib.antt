@@ -1,5 +1,6 @@
 pub mod World
 pub mod Calls
+pub mod Readers
 pub mod Removal
 pub mod Step
 pub mod Run

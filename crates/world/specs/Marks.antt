@@ -13,9 +13,12 @@ use Rattle.character.specs.Tick.{slotAt}
 use Rattle.world.specs.declared.call.Call.{Call}
 use Rattle.world.specs.declared.call.Call.the-variants.{Join, Leave, Input, Step, Tune}
 use Rattle.world.specs.World.{fresh}
-use Rattle.world.specs.Calls.{placeOf, unmarked, marked, floorMark}
+use Rattle.world.specs.Calls.{placeOf}
+use Rattle.world.specs.Readers.{readOf}
 use Rattle.world.specs.Run.{ran, after}
 use Rattle.world.specs.Demand3.{present}
+use Rattle.world.specs.declared.reading.Query.the-variants as query
+use Rattle.world.specs.declared.reading.Reading.the-variants as reading
 use Rattle.world.specs.declared.Stepped.{Stepped}
 use Rattle.world.specs.declared.World.{World}
 
@@ -46,5 +49,5 @@ groundedThen s ts (from p) = grounded s ts p
 abbrev pub MarksFollow : ℕ → Type 0
 MarksFollow n = (s : Sides) (ts : List ℕ) (cs : List Call) (id : ℤ) →
     let k = placeOf n id in
-    floorMark n (after n s ts (fresh n) cs) id
-    ≡ cond (ltb k n) (cond (present n s ts k false (fresh n) cs) (marked (groundedThen s ts (lastStep n s ts k none (fresh n) cs))) (unmarked isAbsent)) (unmarked badId)
+    readOf n (after n s ts (fresh n) cs) (query.FloorMark id)
+    ≡ cond (ltb k n) (cond (present n s ts k false (fresh n) cs) (reading.FloorMark (groundedThen s ts (lastStep n s ts k none (fresh n) cs))) (reading.Refused isAbsent)) (reading.Refused badId)

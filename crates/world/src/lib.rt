@@ -1,11 +1,15 @@
 // The world of document 01: the slots and the tunings, what its calls answer, and the demand on all of them. Types only; the rules stand in specs/.
 mod call;
+mod reading;
 
 pub use call::Call;
 use character::SEATS;
 use character::Slot;
 use game_records::CharacterCore;
 use game_tuning::TUNINGS;
+pub use reading::Query;
+pub use reading::Reading;
+pub use reading::Seated;
 
 pub struct World {
     pub slots: [Slot; SEATS],
@@ -16,12 +20,6 @@ pub struct World {
 pub struct Answer {
     pub number: u32,
     pub world: World,
-}
-
-// What a reader of a floor mark is told: 0 and the mark, or a refusal's number and false.
-pub struct FloorMark {
-    pub number: u32,
-    pub grounded: bool,
 }
 
 // The record of a seat, where somebody is there.

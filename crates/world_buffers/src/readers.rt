@@ -1,49 +1,35 @@
 // What is read of a world that is kept as the numbers of a lent buffer. A refused call leaves every number of the reader's buffer as it was.
 use base_rows::copy;
+use character::Net;
 use character::SEATS;
 use game_records::CORE;
 use game_records::INPUT;
+use game_records::core_numbers;
+use game_records::input_numbers;
 use game_refusals::ABSENT;
 use game_refusals::BAD_ID;
 use game_refusals::BAD_LENGTH;
 use game_refusals::BAD_TUNING;
+use game_refusals::TICK_TOO_LARGE;
 use game_tuning::TUNINGS;
+use world::Seated;
 use world_calls::place_of;
-use world_numbers::MARK;
-use world_numbers::RECORD;
 use world_numbers::WORLD;
 use world_numbers::flag;
-use world_numbers::present_numbers;
 use world_numbers::seat_at;
+ghost use mathlib.Core.List.{[], _∷_};
 ghost use mathlib.Core.Path.{_≡_};
-ghost use Prim.Native.Nat.{_-_, _≤_};
-ghost use lib.ListN.{length, take, drop};
-ghost use Rattle.game_records.specs.Numbers.{coreCount, inputCount};
-ghost use Rattle.world_numbers.specs.Encoding.{seatCount, worldCount, presentNumbers};
-ghost use Rattle.world_numbers.specs.Decoding.{decoding};
+ghost use lib.ListN.{length};
+ghost use Rattle.game_records.specs.Numbers.{coreCount};
 ghost use Rattle.character.specs.Tick.{seats};
-ghost use Rattle.world_buffers.specs.Readers.{seatTold, readIn, recordOf, inputOf, tuningIn, floorMarkIn};
-
-// The numbers of a seat where somebody is, from one place up to another.
-fn seat_part(world: &[i32], id: i32, from: usize, to: usize, part: &mut [i32]) -> u32
-    requires { ⌜ (length (now world) ≡ worldCount) × (from ≤ to) × (to ≤ seatCount) × (length (now part) ≡ to - from) ⌝ }
-    ensures { λ r. ⌜ seatTold (λ s. take (to - from) (drop from (presentNumbers s))) (decoding seats (now (world .entry))) id (now (part .entry)) ≡ record { number = r; numbers = now (part .exit) } ⌝ }
-{
-    let at = place_of(SEATS, id);
-    if at < SEATS {
-        let slot = seat_at(world, at);
-        if slot.present {
-            let row = present_numbers(slot);
-            copy(part, 0, &row[from..to]);
-            return 0;
-        }
-        return ABSENT;
-    }
-    BAD_ID
-}
+ghost use Rattle.world.specs.Readers.{seated, ofRecord};
+ghost use Rattle.world.specs.declared.reading.Query.the-variants as query;
+ghost use Rattle.world_numbers.specs.Encoding.{worldCount};
+ghost use Rattle.world_numbers.specs.Decoding.{decoding};
+ghost use Rattle.world_buffers.specs.Readers.{readingTold, readIn};
 
 pub fn record_in(world: &[i32], id: i32, record: &mut [i32]) -> u32
-    ensures { λ r. ⌜ readIn coreCount recordOf (now (world .entry)) id (now («record» .entry)) ≡ record { number = r; numbers = now («record» .exit) } ⌝ }
+    ensures { λ r. ⌜ readIn (query.Record id) (now (world .entry)) (now («record» .entry)) ≡ record { number = r; numbers = now («record» .exit) } ⌝ }
 {
     if world.len() != WORLD {
         return BAD_LENGTH;
@@ -51,11 +37,17 @@ pub fn record_in(world: &[i32], id: i32, record: &mut [i32]) -> u32
     if record.len() != CORE {
         return BAD_LENGTH;
     }
-    seat_part(world, id, 1, RECORD, record)
+    match seated_in(world, id) {
+        Seated::Refused(number) => number,
+        Seated::There(slot) => {
+            let character = slot.character;
+            tell_record(character.to_net(), record)
+        }
+    }
 }
 
 pub fn player_input_in(world: &[i32], id: i32, input: &mut [i32]) -> u32
-    ensures { λ r. ⌜ readIn inputCount inputOf (now (world .entry)) id (now (input .entry)) ≡ record { number = r; numbers = now (input .exit) } ⌝ }
+    ensures { λ r. ⌜ readIn (query.PlayerInput id) (now (world .entry)) (now (input .entry)) ≡ record { number = r; numbers = now (input .exit) } ⌝ }
 {
     if world.len() != WORLD {
         return BAD_LENGTH;
@@ -63,11 +55,33 @@ pub fn player_input_in(world: &[i32], id: i32, input: &mut [i32]) -> u32
     if input.len() != INPUT {
         return BAD_LENGTH;
     }
-    seat_part(world, id, RECORD, MARK, input)
+    match seated_in(world, id) {
+        Seated::Refused(number) => number,
+        Seated::There(slot) => {
+            let row = input_numbers(slot.input);
+            copy(input, 0, &row);
+            0
+        }
+    }
+}
+
+pub fn floor_mark_in(world: &[i32], id: i32, mark: &mut i32) -> u32
+    ensures { λ r. ⌜ readIn (query.FloorMark id) (now (world .entry)) (now (mark .entry) ∷ []) ≡ record { number = r; numbers = now (mark .exit) ∷ [] } ⌝ }
+{
+    if world.len() != WORLD {
+        return BAD_LENGTH;
+    }
+    match seated_in(world, id) {
+        Seated::Refused(number) => number,
+        Seated::There(slot) => {
+            *mark = flag(slot.grounded);
+            0
+        }
+    }
 }
 
 pub fn tuning_in(world: &[i32], index: i32, value: &mut i32) -> u32
-    ensures { λ r. ⌜ tuningIn (now (world .entry)) index (now (value .entry)) ≡ record { number = r; value = now (value .exit) } ⌝ }
+    ensures { λ r. ⌜ readIn (query.Tuning index) (now (world .entry)) (now (value .entry) ∷ []) ≡ record { number = r; numbers = now (value .exit) ∷ [] } ⌝ }
 {
     if world.len() != WORLD {
         return BAD_LENGTH;
@@ -80,20 +94,32 @@ pub fn tuning_in(world: &[i32], index: i32, value: &mut i32) -> u32
     BAD_TUNING
 }
 
-pub fn floor_mark_in(world: &[i32], id: i32, mark: &mut i32) -> u32
-    ensures { λ r. ⌜ floorMarkIn (now (world .entry)) id (now (mark .entry)) ≡ record { number = r; value = now (mark .exit) } ⌝ }
+// Who is at an id of the world that the numbers stand for.
+fn seated_in(world: &[i32], id: i32) -> Seated
+    requires { ⌜ length (now world) ≡ worldCount ⌝ }
+    ensures { λ r. ⌜ r ≡ seated seats (decoding seats (now (world .entry))) id ⌝ }
 {
-    if world.len() != WORLD {
-        return BAD_LENGTH;
-    }
     let at = place_of(SEATS, id);
-    if at >= SEATS {
-        return BAD_ID;
+    if at < SEATS {
+        let slot = seat_at(world, at);
+        if slot.present {
+            return Seated::There(slot);
+        }
+        return Seated::Refused(ABSENT);
     }
-    let seat = seat_at(world, at);
-    if seat.present {
-        *mark = flag(seat.grounded);
-        return 0;
+    Seated::Refused(BAD_ID)
+}
+
+fn tell_record(net: Net, record: &mut [i32]) -> u32
+    requires { ⌜ length (now «record») ≡ coreCount ⌝ }
+    ensures { λ r. ⌜ readingTold (now («record» .entry)) (ofRecord net) ≡ record { number = r; numbers = now («record» .exit) } ⌝ }
+{
+    match net {
+        Net::TickTooLarge => TICK_TOO_LARGE,
+        Net::Core(core) => {
+            let row = core_numbers(core);
+            copy(record, 0, &row);
+            0
+        }
     }
-    ABSENT
 }

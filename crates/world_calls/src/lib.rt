@@ -1,8 +1,8 @@
-// The calls of a world but step: its seats, join, leave, input and tune, and the reader of a floor mark.
+// The calls of a world but step: its seats, join, leave, input and tune, and what is read of it.
 mod calls;
 mod joins;
 mod leaving;
-mod marks;
+mod readers;
 mod seats;
 
 pub use calls::input;
@@ -12,7 +12,7 @@ pub use joins::in_reach;
 pub use joins::join;
 pub use joins::point_of;
 pub use leaving::vacate;
-pub use marks::floor_mark;
+pub use readers::read;
 pub use seats::fresh;
 pub use seats::place_of;
 pub use seats::slot_at;

@@ -8,4 +8,5 @@ mod ticking;
 pub use calling::run_call;
 pub use moving::record_of;
 pub use moving::unpublished;
+pub use steps::refused;
 pub use steps::step;

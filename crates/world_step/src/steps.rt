@@ -28,7 +28,7 @@ pub fn step(world: World, sides: Sides, tiles: &[u8]) -> Stepped
     refused(world, BAD_MAP)
 }
 
-fn refused(world: World, number: u32) -> Stepped
+pub fn refused(world: World, number: u32) -> Stepped
     ensures { λ r. ⌜ r ≡ stepRefused seats world number ⌝ }
 {
     Stepped {

@@ -51,8 +51,8 @@ ended-requires-2 c κs = search needs
 enum-known-line : tie.Need-enum-known-line
 enum-known-line c = search needs
 
-run-call-requires : tie.Need-run-call-requires
-run-call-requires c κs = search needs
+call-as-requires : tie.Need-call-as-requires
+call-as-requires c κs = search needs
 
 cast-put-told : tie.Need-cast-put-told
 cast-put-told c = search needs
@@ -87,7 +87,7 @@ returns-3 c =
     let a = c .before .before .before .before .before .before .before .before .before .before .before .before .before .before .before .before in
     let s = a .args .session in
     let g = c .before .before .before .before .before .before .before .before .line .given in
-    let r = c .before .before .before .before .before .before .run-call in
+    let r = c .before .before .before .before .before .before .call-as in
     let put = c .before .before .before .before .put-told in
     let next : c .goes-on .result .next ≡ put .result = ap (λ (t : Turned). t .next) (c .goes-on .ensures) in
     let number : toZ w32 (ofZ w32 (pos (s .call))) ≡ pos (s .call) = read (pos (s .call)) (small (s .call) (a .pre .1)) in
@@ -108,7 +108,7 @@ run-line-spec =
     put-answer-requires
     ended-requires-2
     enum-known-line
-    run-call-requires
+    call-as-requires
     cast-put-told
     put-told-requires
     add-goes-on

@@ -1,0 +1,2 @@
+pub mod ByRole
+pub mod Standing

@@ -1,0 +1,87 @@
+-- Calls and reads by the number of a role on a world's numbers, against those by the role on the world that they stand for. Definitions only;
+-- proofs/Standing.antt proves it.
+use Prim.Native.Nat.{ℕ}
+use mathlib.Core.Bool.{false, cond}
+use mathlib.Core.List.{List, [], _∷_}
+use mathlib.Core.Path.{_≡_}
+use lib.IntN.{ℤ}
+use lib.ListN.{length}
+use Rattle.num_convert.specs.Casts.{IsI32}
+use Rattle.game_records.specs.Numbers.{numberAt}
+use Rattle.map_tiles.specs.declared.tiles.Sides.{Sides}
+use Rattle.character.specs.Tick.{seats}
+use Rattle.world.specs.World.{fresh}
+use Rattle.world.specs.Run.{inputOf, after}
+use Rattle.world.specs.declared.call.Call.{Call}
+use Rattle.world.specs.declared.call.Call.the-variants.{Join, Leave, Input, Step, Tune}
+use Rattle.world.specs.declared.reading.Query.{Query}
+use Rattle.world_roles.specs.Roles.{allowed, roleNumber, mayAsk, calledAs}
+use Rattle.world_roles.specs.Roles as roles
+use Rattle.world_roles.specs.declared.Ask.{Ask}
+use Rattle.world_roles.specs.declared.Ask.the-variants as ask
+use Rattle.world_roles.specs.declared.Role.{Role}
+use Rattle.world_numbers.specs.Encoding.{worldCount, recordsCount, encoding}
+use Rattle.world_numbers.specs.Decoding.{decoding}
+use Rattle.world_buffers.specs.Buffers.{Left, joinIn, leaveIn, inputIn, tuneIn}
+use Rattle.world_buffers.specs.Readers.{queryCount, readingTold, readIn}
+use Rattle.world_buffers.specs.Stepping.{StepBuffers, stepIn}
+use Rattle.world_buffers.specs.Following.{leftOf}
+use Rattle.ponguriena.specs.ByRole.{callAs, stepAs, readAs}
+
+-- ---- the number of a role
+
+-- it may ask what the role may, and a number that is no role's nothing
+pub record RoleNumbers : Type 0 where
+  pub role : (r : Role) (a : Ask) → mayAsk (roleNumber r) a ≡ allowed r a
+  pub none : (z : ℤ) → ((r : Role) → z ≡ roleNumber r → ⊥) → (a : Ask) → mayAsk z a ≡ false
+
+-- ---- one call or read on any numbers
+
+-- what a call leaves; b is what a step is lent to tell
+abbrev pub leftAs : Sides → List ℕ → StepBuffers → ℤ → List ℤ → Call → Left
+leftAs s ts b role l (Join id x y) = callAs role (Join id x y) l (joinIn s ts l id x y)
+leftAs s ts b role l (Leave id) = callAs role (Leave id) l (leaveIn l id)
+leftAs s ts b role l (Input id d x y j h) = callAs role (Input id d x y j h) l (inputIn l id (inputOf d x y j h))
+leftAs s ts b role l (Tune index z) = callAs role (Tune index z) l (tuneIn l index z)
+leftAs s ts b role l Step = leftOf (stepAs role l b (stepIn s ts l b))
+
+-- the answer and the next world are those of the call by the role on the world that the numbers stand for
+pub record StandsAs (s : Sides) (ts : List ℕ) (b : StepBuffers) (role : Role) (l : List ℤ) (c : Call) : Type 0 where
+  pub number : leftAs s ts b (roleNumber role) l c .number ≡ calledAs seats role s ts (decoding seats l) c .number
+  pub world : decoding seats (leftAs s ts b (roleNumber role) l c .world) ≡ calledAs seats role s ts (decoding seats l) c .world
+
+-- whoever wrote the numbers
+abbrev pub RoleCallsStand : Type 0
+RoleCallsStand = (s : Sides) (ts : List ℕ) (b : StepBuffers) (role : Role) (l : List ℤ) (c : Call) → length l ≡ worldCount → length (b .records) ≡ recordsCount → length (b .removed) ≡ seats → ((k : ℕ) → IsI32 (numberAt l k)) → StandsAs s ts b role l c
+
+-- a read tells the numbers of what the read by the role tells of that world
+abbrev pub RoleReadsStand : Type 0
+RoleReadsStand = (role : Role) (q : Query) (l out : List ℤ) → length l ≡ worldCount → length out ≡ queryCount q → readAs (roleNumber role) q out (readIn q l out) ≡ readingTold out (roles.readAs seats role (decoding seats l) q)
+
+-- ---- every list of calls on a fresh world
+
+-- who calls, by number, and what
+pub record RoleCall : Type 0 where
+  pub role : ℤ
+  pub call : Call
+
+-- the world's buffer after all calls of a list
+abbrev pub leftAsAll : Sides → List ℕ → StepBuffers → List ℤ → List RoleCall → List ℤ
+leftAsAll s ts b l [] = l
+leftAsAll s ts b l (r ∷ rs) = leftAsAll s ts b (leftAs s ts b (r .role) l (r .call) .world) rs
+
+-- the calls of a list without those beyond their role
+abbrev pub allowedCalls : List RoleCall → List Call
+allowedCalls [] = []
+allowedCalls (r ∷ rs) = cond (mayAsk (r .role) (ask.Call (r .call))) (r .call ∷ allowedCalls rs) (allowedCalls rs)
+
+-- the numbers of a fresh world become those of the world after the allowed calls, whatever the map and the roles
+abbrev pub RoleBufferFollows : Type 0
+RoleBufferFollows = (s : Sides) (ts : List ℕ) (b : StepBuffers) (rs : List RoleCall) → length (b .records) ≡ recordsCount → length (b .removed) ≡ seats → leftAsAll s ts b (encoding (fresh seats)) rs ≡ encoding (after seats s ts (fresh seats) (allowedCalls rs))
+
+-- request 8 on numbers
+pub record RolesStand : Type 0 where
+  pub numbers : RoleNumbers
+  pub calls : RoleCallsStand
+  pub reads : RoleReadsStand
+  pub follows : RoleBufferFollows

@@ -1,0 +1,27 @@
+// A role as one number, as C programs name it.
+use crate::Ask;
+use crate::Role;
+use crate::asking::allowed;
+ghost use mathlib.Core.Path.{_≡_};
+ghost use Rattle.world_roles.specs.Roles.{mayAsk};
+
+// The numbers of the two roles that are no seat.
+pub const REFEREE: i32 = -1;
+
+pub const BOARD: i32 = -2;
+
+// Whether the role with a number may ask it; what is no role's number may ask nothing.
+pub fn may_ask(role: i32, ask: Ask) -> bool
+    ensures { λ r. ⌜ r ≡ mayAsk role ask ⌝ }
+{
+    if role >= 0 {
+        return allowed(Role::Seat(role as u32), ask);
+    }
+    if role == REFEREE {
+        return allowed(Role::Referee, ask);
+    }
+    if role == BOARD {
+        return allowed(Role::Board, ask);
+    }
+    false
+}
