@@ -1,6 +1,8 @@
 -- Numbers as one word. Definitions only.
 use Prim.Native.Nat.{ℕ, _+_, _*_, _%_}
+use mathlib.Core.Bool.{cond}
 use mathlib.Core.List.{List}
+use lib.Dec.{ltb}
 use lib.IntN.{ℤ, pos}
 use lib.ListN.{length, getD}
 use Rattle.base_turns.specs.Turns.{fold}
@@ -15,3 +17,10 @@ numberTurn zs i h = mixed h (getD zs i (pos 0))
 
 unfoldable pub digestOf : List ℤ → ℕ
 digestOf zs = fold (numberTurn zs) (length zs) 0 0
+
+-- the number in the place i, where it is among the first
+abbrev pub firstTurn : ℕ → List ℤ → ℕ → ℕ → ℕ
+firstTurn count zs i h = cond (ltb i count) (numberTurn zs i h) h
+
+unfoldable pub mixedFirst : ℕ → List ℤ → ℕ → ℕ
+mixedFirst count zs h = fold (firstTurn count zs) (length zs) 0 h

@@ -1,7 +1,7 @@
 // Numbers as one word.
 use num_convert::cast_unsigned;
 ghost use mathlib.Core.Path.{_≡_};
-ghost use Rattle.test_common.specs.Digest.{mixed, digestOf};
+ghost use Rattle.test_common.specs.Digest.{mixed, mixedFirst, digestOf};
 
 const FACTOR: u64 = 16777619;
 
@@ -23,6 +23,20 @@ pub fn digest(numbers: &[i32]) -> u32
     for i in 0..numbers.len() {
         let number = numbers[i];
         sum = mix(sum, number);
+    }
+    sum
+}
+
+// With the first `count` of some numbers more.
+pub fn mix_first(digest: u32, numbers: &[i32], count: usize) -> u32
+    ensures { λ r. ⌜ r ≡ mixedFirst count (now (numbers .entry)) digest ⌝ }
+{
+    let mut sum = digest;
+    for i in 0..numbers.len() {
+        let number = numbers[i];
+        if i < count {
+            sum = mix(sum, number);
+        }
     }
     sum
 }

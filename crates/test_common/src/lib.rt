@@ -11,6 +11,7 @@ pub use counts::Counts;
 pub use counts::Outcome;
 pub use digests::digest;
 pub use digests::mix;
+pub use digests::mix_first;
 pub use lines::MOST_LINES;
 pub use lines::byte_at;
 pub use lines::first;

@@ -13,7 +13,7 @@ use ponguriena::ponguriena_step;
 use ponguriena::ponguriena_tune;
 use ponguriena::ponguriena_tuning;
 use test_common::digest;
-use test_common::mix;
+use test_common::mix_first;
 use text_reading::Decoded;
 use text_reading::decode;
 use world::Call;
@@ -83,15 +83,9 @@ fn stepped(world: &mut [i32], sides: Sides, tiles: &[u8], role: i32) -> Told {
         &mut removed,
         &mut count,
     );
-    let mut sum = digest(&records);
-    for i in 0..SEATS {
-        if i < count {
-            sum = mix(sum, removed[i]);
-        }
-    }
     Told {
         number,
-        digest: sum,
+        digest: mix_first(digest(&records), &removed, count),
     }
 }
 

@@ -53,21 +53,26 @@ fn count_all() -> Counts {
     counts
 }
 
-// A sequence begins with a fresh world.
 fn next_line(world: &mut [i32]) -> Outcome {
     let mut line = [0u8; LINE];
     if !read_line(&mut line) {
         return Outcome::End;
     }
-    if line[0] == b'n' {
-        ponguriena_fresh(world);
-    }
+    begin(line[0], world);
     let words = rest(&line, AFTER_MAP);
     let told = told_by(world, &line, words);
     let agrees = told.number == nth(words, ANSWER)
         && told.digest == nth(words, TOLD)
         && digest(world) == nth(words, AFTER);
     Outcome::of(agrees, &line)
+}
+
+// A sequence begins with a fresh world.
+fn begin(mark: u8, world: &mut [i32]) {
+    if mark != b'n' {
+        return;
+    }
+    ponguriena_fresh(world);
 }
 
 // A read has a kind that no call has.

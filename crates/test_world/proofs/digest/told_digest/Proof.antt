@@ -1,8 +1,6 @@
 -- `test_world::digest::told_digest` meets its contract. Assumes nothing.
-use Prim.Native.Nat.{ℕ}
 use mathlib.Core.Path.{ap, _∙_}
-use Rattle.test_common.specs.Digest.{digestOf}
-use Rattle.test_world.specs.Digest.{withIds}
+use Rattle.test_common.specs.Digest.{mixedFirst, digestOf}
 use borrow.Author.Needs.{needs}
 use Rattle.test_world.proofs.digest.told_digest.Statement.{statement}
 use Rattle.test_world.proofs.digest.told_digest.Tie as tie
@@ -19,11 +17,16 @@ slice-aggregate-digest c = search needs
 digest-requires : tie.Need-digest-requires
 digest-requires c κs = search needs
 
-with-ids-requires : tie.Need-with-ids-requires
-with-ids-requires c κs = search needs
+slice-aggregate-mix-first : tie.Need-slice-aggregate-mix-first
+slice-aggregate-mix-first c = search needs
+
+mix-first-requires : tie.Need-mix-first-requires
+mix-first-requires c κs = search needs
 
 returns : tie.Need-returns
-returns c = c .with-ids .ensures ∙ ap (λ (h : ℕ). withIds h (c .before .before .before .before .before .before .args .removed)) (c .before .digest .ensures ∙ ap digestOf (c .before .before .before .before .encode-records .ensures))
+returns c =
+    let r = c .before .before .before .before .before .before .before .before .args .removed in
+    c .mix-first .ensures ∙ ap (mixedFirst (r .count) (r .ids)) (c .before .before .digest .ensures ∙ ap digestOf (c .before .before .before .before .before .before .encode-records .ensures))
 
 pub told-digest-spec : {M : Type 1} → statement M
 told-digest-spec =
@@ -33,5 +36,6 @@ told-digest-spec =
     encode-records-requires
     slice-aggregate-digest
     digest-requires
-    with-ids-requires
+    slice-aggregate-mix-first
+    mix-first-requires
     returns)
