@@ -1,6 +1,7 @@
 //! What random calls are drawn with.
 
 use crate::call::Call;
+use crate::roles::{Ask, BOARD, REFEREE};
 use crate::slot::SEATS;
 use crate::tunings::{ORDINARY, TUNINGS};
 use crate::world::World;
@@ -14,6 +15,15 @@ use tile_map::draw::{below, pick, somewhere};
 /// What is recorded is drawn among these: with more of them it would be other play. Where
 /// all seats are meant it is [`SEATS`].
 pub const FIRST_SEATS: usize = 16;
+
+/// Ids that no seat has.
+const NO_SEATS: [i32; 4] = [-1, SEATS as i32, i32::MIN, i32::MAX];
+
+/// Indexes that no tuning has.
+const NO_TUNINGS: [i32; 4] = [-1, TUNINGS as i32, i32::MIN, i32::MAX];
+
+/// Numbers that are no role, and those of seats that there are not.
+const STRANGE_ROLES: [i32; 7] = [-3, -64, i32::MIN, i32::MIN + 1, SEATS as i32, 255, i32::MAX];
 
 /// So often a clear place is looked for.
 const TRIES: usize = 40;
@@ -113,10 +123,10 @@ pub fn extreme_tuning(index: usize, random: &mut Xorshift) -> i32 {
 
 /// With an argument outside its limits.
 fn wrong_call(seats: usize, random: &mut Xorshift) -> Call {
-    let id = pick(random, &[-1, SEATS as i32, i32::MIN, i32::MAX]);
+    let id = pick(random, &NO_SEATS);
     let far = pick(random, &[100_001, -100_001, i32::MAX, i32::MIN]);
     let (x, y) = pick(random, &[(far, 20), (20, far), (far, far)]);
-    let index = pick(random, &[-1, 18, i32::MIN, i32::MAX]);
+    let index = pick(random, &NO_TUNINGS);
     let calls = [
         Call::Join { id, x: 20, y: 20 },
         Call::Join {
@@ -135,4 +145,40 @@ fn wrong_call(seats: usize, random: &mut Xorshift) -> Call {
         },
     ];
     pick(random, &calls)
+}
+
+/// A call, or a read of somebody present; now and then of somebody absent or of no seat.
+pub fn any_ask(seats: usize, world: &World, map: &Map, random: &mut Xorshift) -> Ask {
+    let id = match below(random, 8) {
+        0 => any_id(seats, random),
+        1 => pick(random, &NO_SEATS),
+        _ => present_id(world, random),
+    };
+    match below(random, 10) {
+        0 | 1 => Ask::Record { id },
+        2 => Ask::FloorMark { id },
+        3 => Ask::StoredInput { id },
+        4 => any_read_of_tunings(random),
+        _ => Ask::Call(any_call(seats, world, map, random)),
+    }
+}
+
+fn any_read_of_tunings(random: &mut Xorshift) -> Ask {
+    let index = match below(random, 4) {
+        0 => pick(random, &NO_TUNINGS),
+        _ => below(random, TUNINGS) as i32,
+    };
+    Ask::Tuning { index }
+}
+
+/// The referee more often than not; the seat that the ask names, another one, a board, or a
+/// number that is no role.
+pub fn any_role(seats: usize, ask: Ask, random: &mut Xorshift) -> i32 {
+    match below(random, 10) {
+        0 => BOARD,
+        1 => pick(random, &STRANGE_ROLES),
+        2 => any_id(seats, random),
+        3 | 4 => ask.named_id().unwrap_or(BOARD),
+        _ => REFEREE,
+    }
 }

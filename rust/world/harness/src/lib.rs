@@ -8,6 +8,7 @@ mod physics;
 mod published;
 mod refusal;
 pub mod rewriting;
+pub mod roles;
 pub mod sending;
 mod slot;
 #[cfg(test)]

@@ -1,6 +1,6 @@
 //! Why a call is declined.
 
-/// With the numbers of document 01.
+/// With the numbers of document 01 and of the change requests.
 #[derive(Clone, Copy, Debug, Eq, Hash, Ord, PartialEq, PartialOrd)]
 pub enum Refusal {
     Map = 1,
@@ -12,6 +12,8 @@ pub enum Refusal {
     Present = 7,
     Absent = 8,
     TooFar = 9,
+    TickTooLarge = 10,
+    NotAllowed = 13,
 }
 
 impl Refusal {

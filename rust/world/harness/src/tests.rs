@@ -1,6 +1,7 @@
 //! The example of document 01, the order among refusals, and that a refused call changes nothing.
 
 mod rewriting;
+mod roles;
 mod screens;
 mod seats;
 mod sending;

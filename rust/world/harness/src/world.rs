@@ -1,4 +1,4 @@
-//! The world and its five calls. A refused call leaves it as it was.
+//! The world, its five calls and what is read of it. A refused call leaves it as it was.
 
 use crate::call::Call;
 use crate::physics::Rules;
@@ -6,8 +6,8 @@ use crate::published::{NOTHING, Published};
 use crate::refusal::Refusal;
 use crate::slot::{SEATS, Slot, Slots, vacate};
 use crate::tunings::{ORDINARY, TUNINGS, tune_params};
-use libtw2_gamenet::snap_obj::PlayerInput;
-use original::{CHARACTER_SIZE, Character, Collision, vec2};
+use libtw2_gamenet::snap_obj::{CharacterCore, PlayerInput};
+use original::{CHARACTER_SIZE, Character, Collision, State, vec2};
 use tile_map::Map;
 
 pub const LONGEST_SIDE: usize = 1024;
@@ -77,8 +77,23 @@ impl World {
         Ok(published)
     }
 
+    /// As the slot now stands, whatever the last step published.
+    pub fn record(&mut self, id: i32) -> Result<CharacterCore, Refusal> {
+        let character = self.present(id)?.character;
+        Refusal::TickTooLarge.when(!State::from(character).has_record())?;
+        Ok(character.to_net())
+    }
+
     pub fn floor_mark(&mut self, id: i32) -> Result<bool, Refusal> {
         Ok(self.present(id)?.grounded)
+    }
+
+    pub fn stored_input(&mut self, id: i32) -> Result<PlayerInput, Refusal> {
+        Ok(self.present(id)?.input)
+    }
+
+    pub fn tuning(&self, index: i32) -> Result<i32, Refusal> {
+        Ok(self.tunings[tuning_place(index)?])
     }
 
     fn present(&mut self, id: i32) -> Result<&mut Slot, Refusal> {

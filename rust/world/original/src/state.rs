@@ -19,6 +19,12 @@ pub struct State {
 }
 
 impl State {
+    /// Whether `to_net` makes a record of it. It panics where the hook has held somebody for
+    /// more ticks than a record has room for.
+    pub fn has_record(self) -> bool {
+        !matches!(self.hook, Hook::Grabbed(_, tick) if i32::try_from(tick).is_err())
+    }
+
     /// As words of 32 bits.
     pub fn words(self) -> [u32; STATE_WORDS] {
         let [x, y] = bits(self.pos);

@@ -18,7 +18,7 @@ mod tests;
 mod too_far;
 
 pub use seats::seat_sequences;
-pub use sequence::{Line, Sequence};
+pub use sequence::{Line, Sequence, line_text, told_map};
 pub use spikes::spike_sequences;
 pub use too_far::too_far_sequences;
 

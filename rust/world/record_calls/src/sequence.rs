@@ -28,11 +28,7 @@ impl Line {
 
     /// The map that the call is told, which may be none.
     pub fn told_map(&self) -> Map {
-        Map {
-            width: self.sides.0 as usize,
-            height: self.sides.1 as usize,
-            tiles: self.map.tiles.clone(),
-        }
+        told_map(&self.map, self.sides)
     }
 
     /// With the digest of the world and that of what is published.
@@ -47,14 +43,28 @@ impl Line {
     /// Whether fresh, the map, and as words the sides, the code with its arguments, the
     /// answer and digests.
     pub fn text_with(&self, digests: &[u32]) -> String {
-        let fresh = if self.fresh { 'n' } else { 'c' };
         let mut words = vec![self.sides.0, self.sides.1];
         words.extend(self.call.numbers().map(i32::to_pattern));
         words.push(self.number());
         words.extend(digests);
-        let words: Vec<String> = words.iter().map(|word| format!("{word:08x}")).collect();
-        format!("{fresh} {} {}", self.map.text(), words.join(" "))
+        line_text(self.fresh, &self.map, &words)
     }
+}
+
+/// The tiles of a map with sides that may not be its own.
+pub fn told_map(map: &Map, (width, height): (u32, u32)) -> Map {
+    Map {
+        width: width as usize,
+        height: height as usize,
+        tiles: map.tiles.clone(),
+    }
+}
+
+/// Whether the world is a new one, the map whose tiles are lent, and words.
+pub fn line_text(fresh: bool, map: &Map, words: &[u32]) -> String {
+    let fresh = if fresh { 'n' } else { 'c' };
+    let words: Vec<String> = words.iter().map(|word| format!("{word:08x}")).collect();
+    format!("{fresh} {} {}", map.text(), words.join(" "))
 }
 
 pub struct Sequence {
@@ -73,17 +83,12 @@ impl Sequence {
     }
 
     /// With sides that may not be those of the map.
-    pub fn with_sides(&mut self, (width, height): (u32, u32), call: Call) {
-        let map = Map {
-            width: width as usize,
-            height: height as usize,
-            tiles: self.map.tiles.clone(),
-        };
-        let answer = self.world.call(&map, call);
+    pub fn with_sides(&mut self, sides: (u32, u32), call: Call) {
+        let answer = self.world.call(&told_map(&self.map, sides), call);
         self.lines.push(Line {
             fresh: self.lines.is_empty(),
             map: self.map.clone(),
-            sides: (width, height),
+            sides,
             call,
             answer,
             after: self.world.clone(),

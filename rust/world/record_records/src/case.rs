@@ -1,7 +1,7 @@
 //! A state or a record, the answer of the original, and both as a line of text.
 
 use libtw2_gamenet::snap_obj::CharacterCore;
-use original::{CORE_NUMBERS, Character, Hook, STATE_WORDS, State, core_numbers};
+use original::{CORE_NUMBERS, Character, STATE_WORDS, State, core_numbers};
 use reference::Bits;
 
 const ACCEPTED: u32 = 0;
@@ -36,9 +36,10 @@ impl Case {
 
 /// Whether `to_net` is accepted or refused, by document 01.
 pub fn number(state: State) -> u32 {
-    match state.hook {
-        Hook::Grabbed(_, tick) if i32::try_from(tick).is_err() => TICK_TOO_LARGE,
-        _ => ACCEPTED,
+    if state.has_record() {
+        ACCEPTED
+    } else {
+        TICK_TOO_LARGE
     }
 }
 
