@@ -6,7 +6,7 @@
 //! cargo run --release --example race
 //! ```
 
-use ponguriena::{CharacterCore, Map, PlayerInput, Records, Refusal, World};
+use ponguriena::{CharacterCore, Map, PlayerInput, Records, Refusal, Role, World};
 
 /// Solid at `#`; hooks do not hold at `=`; deadly at `^`.
 const COURSE: [&str; 10] = [
@@ -46,11 +46,11 @@ fn main() -> Result<(), Refusal> {
     };
     let mut world = World::fresh();
     for (id, (_, x)) in (0..).zip(PLAYERS) {
-        world.join(&map, id, x, START_Y)?;
+        world.join(Role::Referee, &map, id, x, START_Y)?;
     }
     for step in 1..=STEPS {
         tell(&mut world, step)?;
-        let records = world.step(&map)?;
+        let records = world.step(Role::Referee, &map)?;
         if step % PRINTED_EVERY == 0 {
             print_records(step, &records);
         }
@@ -65,8 +65,8 @@ fn main() -> Result<(), Refusal> {
 /// Everybody who is alive wants something else before each step.
 fn tell(world: &mut World, step: usize) -> Result<(), Refusal> {
     for (id, (name, _)) in (0..).zip(PLAYERS) {
-        if let Ok(core) = world.record(id) {
-            world.input(id, input(name, &core, step))?;
+        if let Ok(core) = world.record(Role::Referee, id) {
+            world.input(Role::Referee, id, input(name, &core, step))?;
         }
     }
     Ok(())

@@ -8,7 +8,8 @@
 //! ```
 
 use ponguriena::{
-    CORE_NUMBERS, Map, Passed, PassedAlong, PlayerInput, Records, Refusal, Screen, Sender, World,
+    CORE_NUMBERS, Map, Passed, PassedAlong, PlayerInput, Records, Refusal, Role, Screen, Sender,
+    World,
 };
 
 /// Solid at `#`; hooks do not hold at `=`; deadly at `^`.
@@ -26,6 +27,9 @@ const COURSE: [&str; 12] = [
     "#          #       ^^       #          ^^      #",
     "################################################",
 ];
+
+/// The server makes every call itself.
+const REFEREE: Role = Role::Referee;
 
 const PLAYERS: i32 = 6;
 const STEPS: usize = 600;
@@ -70,7 +74,7 @@ fn main() -> Result<(), Refusal> {
     for step in 0..STEPS {
         race.come_and_go(step)?;
         race.tell(step)?;
-        let (records, passed) = race.sender.step(&mut race.world, &race.map)?;
+        let (records, passed) = race.sender.step(REFEREE, &mut race.world, &race.map)?;
         race.show(&passed)?;
         race.check(step, &records);
     }
@@ -82,14 +86,14 @@ impl Race<'_> {
     /// At the start of each heat who is not there joins; at its end one leaves.
     fn come_and_go(&mut self, step: usize) -> Result<(), Refusal> {
         let leaver = (step / HEAT) as i32 % PLAYERS;
-        if step % HEAT == HEAT - 1 && self.world.record(leaver).is_ok() {
-            let passed = self.sender.leave(&mut self.world, leaver)?;
+        if step % HEAT == HEAT - 1 && self.world.record(REFEREE, leaver).is_ok() {
+            let passed = self.sender.leave(REFEREE, &mut self.world, leaver)?;
             self.show(&passed)?;
         }
         for id in 0..PLAYERS {
-            if step.is_multiple_of(HEAT) && self.world.record(id).is_err() {
+            if step.is_multiple_of(HEAT) && self.world.record(REFEREE, id).is_err() {
                 let (x, y) = START;
-                self.world.join(&self.map, id, x + APART * id, y)?;
+                self.world.join(REFEREE, &self.map, id, x + APART * id, y)?;
             }
         }
         Ok(())
@@ -98,8 +102,9 @@ impl Race<'_> {
     fn tell(&mut self, step: usize) -> Result<(), Refusal> {
         for id in 0..PLAYERS {
             let turn = step + 7 * id as usize;
-            if turn.is_multiple_of(TOLD_EVERY) && self.world.record(id).is_ok() {
-                self.world.input(id, input(turn / TOLD_EVERY, id))?;
+            if turn.is_multiple_of(TOLD_EVERY) && self.world.record(REFEREE, id).is_ok() {
+                self.world
+                    .input(REFEREE, id, input(turn / TOLD_EVERY, id))?;
             }
         }
         Ok(())

@@ -30,8 +30,19 @@ enum {
     PONGURIENA_TOO_FAR = 9,       /* a walk of 65,537 turns or more */
     PONGURIENA_BYTES_END = 11,    /* packed bytes end before the last number is complete */
     PONGURIENA_BAD_BYTES = 12,    /* a packed number is not in its shortest form, or too large */
-    PONGURIENA_BAD_LENGTH = 17    /* a buffer of the wrong length; comes before the lower numbers:
+    PONGURIENA_NOT_ALLOWED = 13,  /* the role does not allow it; comes before the others: who may
+                                     not call is told nothing of what was lent */
+    PONGURIENA_BAD_LENGTH = 17    /* a buffer of the wrong length; comes before the others but 13:
                                      without a world there is no call to decline */
+};
+
+/* Roles: every call that takes a world names one, as a number. 0 and above is the seat with that
+ * id, which may give its own input (ponguriena_input for this id) and nothing else. Any other
+ * number but these is no role, and may do nothing. The server decides who calls: an id that comes
+ * from a message unchecked may be -1, the referee. */
+enum {
+    PONGURIENA_REFEREE = -1, /* may make every call and every read */
+    PONGURIENA_BOARD = -2    /* may read records and floor marks, and nothing else */
 };
 
 /* Lengths, in numbers. */
@@ -71,44 +82,50 @@ uint32_t ponguriena_unpack(const uint8_t *bytes, size_t bytes_length, int32_t *r
 uint32_t ponguriena_fresh(int32_t *world, size_t world_length);
 
 /* The id joins at a place; its input is all 0. */
-uint32_t ponguriena_join(int32_t *world, size_t world_length, uint32_t width, uint32_t height,
-                         const uint8_t *tiles, size_t tiles_length, int32_t id, int32_t x,
-                         int32_t y);
+uint32_t ponguriena_join(int32_t role, int32_t *world, size_t world_length, uint32_t width,
+                         uint32_t height, const uint8_t *tiles, size_t tiles_length, int32_t id,
+                         int32_t x, int32_t y);
 
 /* The id is absent from now on; every hook that holds it is retracted. */
-uint32_t ponguriena_leave(int32_t *world, size_t world_length, int32_t id);
+uint32_t ponguriena_leave(int32_t role, int32_t *world, size_t world_length, int32_t id);
 
-/* What the id wants in every step from now on. */
-uint32_t ponguriena_input(int32_t *world, size_t world_length, int32_t id, int32_t direction,
-                          int32_t target_x, int32_t target_y, int32_t jump, int32_t hook);
+/* What the id wants in every step from now on. The seat of this id may tell it too. */
+uint32_t ponguriena_input(int32_t role, int32_t *world, size_t world_length, int32_t id,
+                          int32_t direction, int32_t target_x, int32_t target_y, int32_t jump,
+                          int32_t hook);
 
 /* Sets a tuning; every number is taken. */
-uint32_t ponguriena_tune(int32_t *world, size_t world_length, int32_t index, int32_t hundredths);
+uint32_t ponguriena_tune(int32_t role, int32_t *world, size_t world_length, int32_t index,
+                         int32_t hundredths);
 
 /* Everybody present ticks, then moves; the records are PONGURIENA_RECORDS numbers. When they are
  * taken, whoever has a corner (14 from the middle in each coordinate) on a deadly tile is removed
  * as by a leave. Removed gets PONGURIENA_SEATS numbers, these ids by rising id and zeros behind
  * them, and count how many they are. */
-uint32_t ponguriena_step(int32_t *world, size_t world_length, uint32_t width, uint32_t height,
-                         const uint8_t *tiles, size_t tiles_length, int32_t *records,
-                         size_t records_length, int32_t *removed, size_t removed_length,
-                         size_t *count);
+uint32_t ponguriena_step(int32_t role, int32_t *world, size_t world_length, uint32_t width,
+                         uint32_t height, const uint8_t *tiles, size_t tiles_length,
+                         int32_t *records, size_t records_length, int32_t *removed,
+                         size_t removed_length, size_t *count);
 
-/* The record of an id that is present: PONGURIENA_RECORD numbers. */
-uint32_t ponguriena_record(const int32_t *world, size_t world_length, int32_t id, int32_t *record,
-                           size_t record_length);
+/* The record of an id that is present, as its seat now stands: PONGURIENA_RECORD numbers. Since
+ * the last step's records were taken, whom its hook held may have left. A board may read it too.
+ * A hook that has held somebody for more than 2,147,483,647 ticks has no record and would be
+ * refused with 10; no numbers stand for one, as a hook_tick below 0 reads as 0, so 10 never
+ * comes. */
+uint32_t ponguriena_record(int32_t role, const int32_t *world, size_t world_length, int32_t id,
+                           int32_t *record, size_t record_length);
 
 /* The last input of an id that is present: PONGURIENA_INPUT numbers. */
-uint32_t ponguriena_player_input(const int32_t *world, size_t world_length, int32_t id,
-                                 int32_t *input, size_t input_length);
+uint32_t ponguriena_player_input(int32_t role, const int32_t *world, size_t world_length,
+                                 int32_t id, int32_t *input, size_t input_length);
 
 /* Whether an id that is present stood on the ground when the last step since its join began:
- * 1 or 0. */
-uint32_t ponguriena_floor_mark(const int32_t *world, size_t world_length, int32_t id,
+ * 1 or 0. A board may read it too. */
+uint32_t ponguriena_floor_mark(int32_t role, const int32_t *world, size_t world_length, int32_t id,
                                int32_t *mark);
 
 /* A tuning. */
-uint32_t ponguriena_tuning(const int32_t *world, size_t world_length, int32_t index,
+uint32_t ponguriena_tuning(int32_t role, const int32_t *world, size_t world_length, int32_t index,
                            int32_t *hundredths);
 
 /* What goes to the screens: only what surprises them.
@@ -122,7 +139,8 @@ uint32_t ponguriena_tuning(const int32_t *world, size_t world_length, int32_t in
  *
  * The caller keeps both as numbers, and any numbers are taken for one. A sender goes with its world
  * from the start: to leave, to tune and to step are the calls below. To join and to give an input
- * passes nothing along: ponguriena_join and ponguriena_input are for worlds with a sender too. */
+ * passes nothing along: ponguriena_join and ponguriena_input are for worlds with a sender too. The
+ * calls below are the referee's, as those on the world are. What takes no world names no role. */
 
 /* Lengths, in numbers. */
 enum {
@@ -153,17 +171,17 @@ uint32_t ponguriena_screen_fresh(int32_t *screen, size_t screen_length);
 
 /* As ponguriena_leave. Passed has PONGURIENA_PASSED numbers, and count gets how many of them are
  * written; those behind stay as they were. */
-uint32_t ponguriena_send_leave(int32_t *world, size_t world_length, int32_t *sender,
+uint32_t ponguriena_send_leave(int32_t role, int32_t *world, size_t world_length, int32_t *sender,
                                size_t sender_length, int32_t id, int32_t *passed,
                                size_t passed_length, size_t *count);
 
 /* As ponguriena_tune; passed along also where it changes nothing. */
-uint32_t ponguriena_send_tune(int32_t *world, size_t world_length, int32_t *sender,
+uint32_t ponguriena_send_tune(int32_t role, int32_t *world, size_t world_length, int32_t *sender,
                               size_t sender_length, int32_t index, int32_t hundredths,
                               int32_t *passed, size_t passed_length, size_t *count);
 
 /* As ponguriena_step. A mark is passed along, then the messages by rising id, then the removals. */
-uint32_t ponguriena_send_step(int32_t *world, size_t world_length, int32_t *sender,
+uint32_t ponguriena_send_step(int32_t role, int32_t *world, size_t world_length, int32_t *sender,
                               size_t sender_length, uint32_t width, uint32_t height,
                               const uint8_t *tiles, size_t tiles_length, int32_t *records,
                               size_t records_length, int32_t *removed, size_t removed_length,

@@ -8,16 +8,22 @@
 //! every buffer as it was. A buffer of another length is refused with
 //! [`Refusal::BadLength`].
 //!
-//! ```
-//! use ponguriena::{Map, buffers};
+//! A call on a world names its role as a number, that of a [`Role`](crate::Role): -1 is the
+//! referee, -2 a board, and a seat is its id. Any other number may do nothing. What the role
+//! does not allow is refused with [`Refusal::NotAllowed`] before all else. The server decides
+//! who calls: an id that comes from a message unchecked may be -1.
 //!
+//! ```
+//! use ponguriena::{Map, Role, buffers};
+//!
+//! let referee = Role::Referee.number();
 //! let map = Map { width: 3, height: 3, tiles: &[0; 9] };
 //! let mut world = [0; buffers::WORLD_NUMBERS];
 //! let mut records = [0; buffers::RECORDS_NUMBERS];
 //! let mut removed = [0; buffers::SEATS];
 //! buffers::fresh(&mut world)?;
-//! buffers::join(&mut world, &map, 0, 48, 48)?;
-//! let count = buffers::step(&mut world, &map, &mut records, &mut removed)?;
+//! buffers::join(referee, &mut world, &map, 0, 48, 48)?;
+//! let count = buffers::step(referee, &mut world, &map, &mut records, &mut removed)?;
 //! assert_eq!(records[..5], [1, 0, 48, 49, 0]);
 //! assert_eq!(count, 0);
 //! # Ok::<(), ponguriena::Refusal>(())
@@ -52,6 +58,7 @@ pub const RECORDS_NUMBERS: usize = SEATS * PUBLISHED_NUMBERS;
 unsafe extern "C" {
     fn ponguriena_fresh(world: *mut i32, length: usize) -> u32;
     fn ponguriena_join(
+        role: i32,
         world: *mut i32,
         length: usize,
         width: u32,
@@ -62,8 +69,9 @@ unsafe extern "C" {
         x: i32,
         y: i32,
     ) -> u32;
-    fn ponguriena_leave(world: *mut i32, length: usize, id: i32) -> u32;
+    fn ponguriena_leave(role: i32, world: *mut i32, length: usize, id: i32) -> u32;
     fn ponguriena_input(
+        role: i32,
         world: *mut i32,
         length: usize,
         id: i32,
@@ -73,8 +81,15 @@ unsafe extern "C" {
         jump: i32,
         hook: i32,
     ) -> u32;
-    fn ponguriena_tune(world: *mut i32, length: usize, index: i32, hundredths: i32) -> u32;
+    fn ponguriena_tune(
+        role: i32,
+        world: *mut i32,
+        length: usize,
+        index: i32,
+        hundredths: i32,
+    ) -> u32;
     fn ponguriena_step(
+        role: i32,
         world: *mut i32,
         length: usize,
         width: u32,
@@ -88,6 +103,7 @@ unsafe extern "C" {
         count: &mut usize,
     ) -> u32;
     fn ponguriena_record(
+        role: i32,
         world: *const i32,
         length: usize,
         id: i32,
@@ -95,15 +111,27 @@ unsafe extern "C" {
         record_length: usize,
     ) -> u32;
     fn ponguriena_player_input(
+        role: i32,
         world: *const i32,
         length: usize,
         id: i32,
         input: *mut i32,
         input_length: usize,
     ) -> u32;
-    fn ponguriena_tuning(world: *const i32, length: usize, index: i32, hundredths: &mut i32)
-    -> u32;
-    fn ponguriena_floor_mark(world: *const i32, length: usize, id: i32, mark: &mut i32) -> u32;
+    fn ponguriena_tuning(
+        role: i32,
+        world: *const i32,
+        length: usize,
+        index: i32,
+        hundredths: &mut i32,
+    ) -> u32;
+    fn ponguriena_floor_mark(
+        role: i32,
+        world: *const i32,
+        length: usize,
+        id: i32,
+        mark: &mut i32,
+    ) -> u32;
 }
 
 /// Makes the world a fresh one: nobody present, the tunings of the game.
@@ -115,10 +143,18 @@ pub fn fresh(world: &mut [i32]) -> Result<(), Refusal> {
 
 /// The id joins at a place; its input is all 0.
 #[inline]
-pub fn join(world: &mut [i32], map: &Map<'_>, id: i32, x: i32, y: i32) -> Result<(), Refusal> {
+pub fn join(
+    role: i32,
+    world: &mut [i32],
+    map: &Map<'_>,
+    id: i32,
+    x: i32,
+    y: i32,
+) -> Result<(), Refusal> {
     // SAFETY: each pointer and the length after it are those of one slice.
     Refusal::of_answer(unsafe {
         ponguriena_join(
+            role,
             world.as_mut_ptr(),
             world.len(),
             map.width,
@@ -134,17 +170,18 @@ pub fn join(world: &mut [i32], map: &Map<'_>, id: i32, x: i32, y: i32) -> Result
 
 /// The id is absent from now on. Every hook that holds it is retracted.
 #[inline]
-pub fn leave(world: &mut [i32], id: i32) -> Result<(), Refusal> {
+pub fn leave(role: i32, world: &mut [i32], id: i32) -> Result<(), Refusal> {
     // SAFETY: the pointer and the length are those of one slice.
-    Refusal::of_answer(unsafe { ponguriena_leave(world.as_mut_ptr(), world.len(), id) })
+    Refusal::of_answer(unsafe { ponguriena_leave(role, world.as_mut_ptr(), world.len(), id) })
 }
 
-/// What the id wants in every step from now on.
+/// What the id wants in every step from now on. The seat of this id may tell it too.
 #[inline]
-pub fn input(world: &mut [i32], id: i32, input: PlayerInput) -> Result<(), Refusal> {
+pub fn input(role: i32, world: &mut [i32], id: i32, input: PlayerInput) -> Result<(), Refusal> {
     // SAFETY: the pointer and the length are those of one slice.
     Refusal::of_answer(unsafe {
         ponguriena_input(
+            role,
             world.as_mut_ptr(),
             world.len(),
             id,
@@ -159,9 +196,10 @@ pub fn input(world: &mut [i32], id: i32, input: PlayerInput) -> Result<(), Refus
 
 /// Sets a tuning.
 #[inline]
-pub fn tune(world: &mut [i32], index: i32, hundredths: i32) -> Result<(), Refusal> {
+pub fn tune(role: i32, world: &mut [i32], index: i32, hundredths: i32) -> Result<(), Refusal> {
     // SAFETY: the pointer and the length are those of one slice.
-    let answer = unsafe { ponguriena_tune(world.as_mut_ptr(), world.len(), index, hundredths) };
+    let answer =
+        unsafe { ponguriena_tune(role, world.as_mut_ptr(), world.len(), index, hundredths) };
     Refusal::of_answer(answer)
 }
 
@@ -171,6 +209,7 @@ pub fn tune(world: &mut [i32], index: i32, hundredths: i32) -> Result<(), Refusa
 /// behind them. Answers how many they are.
 #[inline]
 pub fn step(
+    role: i32,
     world: &mut [i32],
     map: &Map<'_>,
     records: &mut [i32],
@@ -181,6 +220,7 @@ pub fn step(
     // are written are lent for writing, so they do not overlap.
     let answer = unsafe {
         ponguriena_step(
+            role,
             world.as_mut_ptr(),
             world.len(),
             map.width,
@@ -198,39 +238,43 @@ pub fn step(
     Ok(count)
 }
 
-/// Writes the record of an id that is present: [`CORE_NUMBERS`] numbers.
+/// Writes the record of an id that is present, as its seat now stands: [`CORE_NUMBERS`]
+/// numbers. A board may read it too. No numbers stand for a hook that has held for too long
+/// to have one, so [`Refusal::TickTooLarge`] never comes.
 #[inline]
-pub fn record(world: &[i32], id: i32, record: &mut [i32]) -> Result<(), Refusal> {
+pub fn record(role: i32, world: &[i32], id: i32, record: &mut [i32]) -> Result<(), Refusal> {
     // SAFETY: each pointer and the length after it are those of one slice; the one
     // that is written is lent for writing, so they do not overlap.
     Refusal::of_answer(unsafe {
         let (numbers, length) = (record.as_mut_ptr(), record.len());
-        ponguriena_record(world.as_ptr(), world.len(), id, numbers, length)
+        ponguriena_record(role, world.as_ptr(), world.len(), id, numbers, length)
     })
 }
 
 /// Writes the input of an id that is present: [`INPUT_NUMBERS`] numbers.
 #[inline]
-pub fn player_input(world: &[i32], id: i32, input: &mut [i32]) -> Result<(), Refusal> {
+pub fn player_input(role: i32, world: &[i32], id: i32, input: &mut [i32]) -> Result<(), Refusal> {
     // SAFETY: as for `record`.
     Refusal::of_answer(unsafe {
         let (numbers, length) = (input.as_mut_ptr(), input.len());
-        ponguriena_player_input(world.as_ptr(), world.len(), id, numbers, length)
+        ponguriena_player_input(role, world.as_ptr(), world.len(), id, numbers, length)
     })
 }
 
 /// Writes a tuning.
 #[inline]
-pub fn tuning(world: &[i32], index: i32, hundredths: &mut i32) -> Result<(), Refusal> {
+pub fn tuning(role: i32, world: &[i32], index: i32, hundredths: &mut i32) -> Result<(), Refusal> {
     // SAFETY: the pointer and the length are those of one slice.
-    let answer = unsafe { ponguriena_tuning(world.as_ptr(), world.len(), index, hundredths) };
+    let answer = unsafe { ponguriena_tuning(role, world.as_ptr(), world.len(), index, hundredths) };
     Refusal::of_answer(answer)
 }
 
 /// Writes the floor mark of an id that is present: 1 if it stood on the ground when
-/// the last step since its join began, else 0.
+/// the last step since its join began, else 0. A board may read it too.
 #[inline]
-pub fn floor_mark(world: &[i32], id: i32, mark: &mut i32) -> Result<(), Refusal> {
+pub fn floor_mark(role: i32, world: &[i32], id: i32, mark: &mut i32) -> Result<(), Refusal> {
     // SAFETY: the pointer and the length are those of one slice.
-    Refusal::of_answer(unsafe { ponguriena_floor_mark(world.as_ptr(), world.len(), id, mark) })
+    Refusal::of_answer(unsafe {
+        ponguriena_floor_mark(role, world.as_ptr(), world.len(), id, mark)
+    })
 }

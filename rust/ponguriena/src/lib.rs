@@ -1,9 +1,9 @@
 //! Safe Rust functions over the static libraries of two Rattle crates. Of `ponguriena`:
-//! the [`World`] of characters with its calls, what goes from there to the screens
-//! ([`Sender`] and [`Screen`]), the same calls on lent numbers ([`buffers`] and
-//! [`send_buffers`]), and records as packed bytes ([`packed`]). Of `ponguriena_parts` what
-//! they are made of: the tiles of a [`Map`] and walks over it, the aim angle, the velocity
-//! ramp, the root and the conversions. `include/ponguriena.h` is for C.
+//! the [`World`] of characters with its calls, each for whoever has the [`Role`] to make it,
+//! what goes from there to the screens ([`Sender`] and [`Screen`]), the same calls on lent
+//! numbers ([`buffers`] and [`send_buffers`]), and records as packed bytes ([`packed`]). Of
+//! `ponguriena_parts` what they are made of: the tiles of a [`Map`] and walks over it, the aim
+//! angle, the velocity ramp, the root and the conversions. `include/ponguriena.h` is for C.
 
 // Nothing checks the declarations in these modules against the Rattle source: a
 // change of a signature there must be repeated here by hand.
@@ -13,6 +13,7 @@ mod floats;
 pub mod packed;
 mod passed;
 mod refusal;
+mod role;
 mod screen;
 pub mod send_buffers;
 mod sender;
@@ -28,6 +29,7 @@ pub use floats::{
 };
 pub use passed::{Passed, PassedAlong, PassedIter};
 pub use refusal::Refusal;
+pub use role::Role;
 pub use screen::Screen;
 pub use sender::Sender;
 pub use snap_obj::{CORE_NUMBERS, CharacterCore, INPUT_NUMBERS, PlayerInput};

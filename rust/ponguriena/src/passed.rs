@@ -90,11 +90,11 @@ fn message_of(id: i32, numbers: &[i32]) -> Option<(Passed, &[i32])> {
 /// All that one call passes along, in the order in which it has to arrive.
 ///
 /// ```
-/// # use ponguriena::{Map, Passed, Refusal, Sender, World};
+/// # use ponguriena::{Map, Passed, Refusal, Role, Sender, World};
 /// # let map = Map { width: 1, height: 1, tiles: &[0] };
 /// # let (mut world, mut sender) = (World::fresh(), Sender::fresh());
-/// world.join(&map, 3, 5, 5)?;
-/// let (records, passed) = sender.step(&mut world, &map)?;
+/// world.join(Role::Referee, &map, 3, 5, 5)?;
+/// let (records, passed) = sender.step(Role::Referee, &mut world, &map)?;
 /// let [Passed::Mark, Passed::Message { id: 3, core, .. }] = passed.iter().collect::<Vec<_>>()[..]
 /// else {
 ///     panic!("{passed:?}");

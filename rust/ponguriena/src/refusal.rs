@@ -3,7 +3,7 @@
 use std::error::Error;
 use std::fmt::{Display, Formatter, Result as Written};
 
-/// With the numbers of document 01. A call that is refused changes nothing.
+/// With the numbers of the C interface. A call that is refused changes nothing.
 #[derive(Clone, Copy, Debug, Eq, Hash, PartialEq)]
 pub enum Refusal {
     /// 1: a side of the map is not 1 to 1,024, or its tiles are not width times height.
@@ -30,7 +30,9 @@ pub enum Refusal {
     BytesEnd,
     /// 12: a packed number that is not in its shortest form, or too large.
     BadBytes,
-    /// 17: a buffer of the wrong length.
+    /// 13: the [`Role`](crate::Role) does not allow it. Comes before all others.
+    NotAllowed,
+    /// 17: a buffer of the wrong length. Comes before all others but 13.
     BadLength,
     /// A number that has no name here. No function of this library gives one: who
     /// sees it has linked another library than these declarations are for.
@@ -54,6 +56,7 @@ impl Refusal {
             10 => Refusal::TickTooLarge,
             11 => Refusal::BytesEnd,
             12 => Refusal::BadBytes,
+            13 => Refusal::NotAllowed,
             17 => Refusal::BadLength,
             other => Refusal::Unnamed(other),
         })
@@ -74,6 +77,7 @@ impl Refusal {
             Refusal::TickTooLarge => 10,
             Refusal::BytesEnd => 11,
             Refusal::BadBytes => 12,
+            Refusal::NotAllowed => 13,
             Refusal::BadLength => 17,
             Refusal::Unnamed(number) => number,
         }
@@ -95,6 +99,7 @@ impl Display for Refusal {
             Refusal::TickTooLarge => "the hook has held for too many ticks",
             Refusal::BytesEnd => "the bytes end before the record does",
             Refusal::BadBytes => "a packed number is not as it should be",
+            Refusal::NotAllowed => "the role does not allow it",
             Refusal::BadLength => "a buffer has the wrong length",
             Refusal::Unnamed(_) => "refused",
         };

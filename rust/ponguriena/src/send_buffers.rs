@@ -13,21 +13,23 @@
 //! and its id, a leave `3` and its id, a tuning `4`, its index and its hundredths. A call
 //! answers how many numbers it has written; those behind them stay as they were.
 //!
-//! A buffer of a wrong length is refused with [`Refusal::BadLength`] before all else. A
-//! refused call leaves every buffer as it was. To join and to give an input passes nothing
-//! along: [`join`](crate::buffers::join) and [`input`](crate::buffers::input) are for
-//! worlds with a sender too.
+//! A call on a world names its role as in [`buffers`](crate::buffers), and the calls here are
+//! the referee's. A buffer of a wrong length is refused with [`Refusal::BadLength`] before all
+//! but the role. A refused call leaves every buffer as it was. To join and to give an input
+//! passes nothing along: [`join`](crate::buffers::join) and [`input`](crate::buffers::input)
+//! are for worlds with a sender too.
 //!
 //! ```
-//! use ponguriena::{Map, buffers, send_buffers};
+//! use ponguriena::{Map, Role, buffers, send_buffers};
 //!
+//! let referee = Role::Referee.number();
 //! let map = Map { width: 3, height: 3, tiles: &[0; 9] };
 //! let mut world = [0; buffers::WORLD_NUMBERS];
 //! let mut sender = [0; send_buffers::SENDER_NUMBERS];
 //! let mut passed = [0; send_buffers::PASSED_NUMBERS];
 //! buffers::fresh(&mut world)?;
 //! send_buffers::fresh_sender(&mut sender)?;
-//! let count = send_buffers::tune(&mut world, &mut sender, 12, 0, &mut passed)?;
+//! let count = send_buffers::tune(referee, &mut world, &mut sender, 12, 0, &mut passed)?;
 //! assert_eq!(passed[..count], [4, 12, 0]);
 //!
 //! let mut screen = [0; send_buffers::SCREEN_NUMBERS];
@@ -63,6 +65,7 @@ unsafe extern "C" {
     fn ponguriena_sender_fresh(sender: *mut i32, length: usize) -> u32;
     fn ponguriena_screen_fresh(screen: *mut i32, length: usize) -> u32;
     fn ponguriena_send_leave(
+        role: i32,
         world: *mut i32,
         length: usize,
         sender: *mut i32,
@@ -73,6 +76,7 @@ unsafe extern "C" {
         count: &mut usize,
     ) -> u32;
     fn ponguriena_send_tune(
+        role: i32,
         world: *mut i32,
         length: usize,
         sender: *mut i32,
@@ -84,6 +88,7 @@ unsafe extern "C" {
         count: &mut usize,
     ) -> u32;
     fn ponguriena_send_step(
+        role: i32,
         world: *mut i32,
         length: usize,
         sender: *mut i32,
@@ -147,6 +152,7 @@ pub fn fresh_screen(screen: &mut [i32]) -> Result<(), Refusal> {
 /// [`leave`](crate::buffers::leave), passed along. Answers how many numbers are.
 #[inline]
 pub fn leave(
+    role: i32,
     world: &mut [i32],
     sender: &mut [i32],
     id: i32,
@@ -157,6 +163,7 @@ pub fn leave(
     // are written are lent for writing, so they do not overlap.
     let answer = unsafe {
         ponguriena_send_leave(
+            role,
             world.as_mut_ptr(),
             world.len(),
             sender.as_mut_ptr(),
@@ -174,6 +181,7 @@ pub fn leave(
 /// [`tune`](crate::buffers::tune), passed along. Answers how many numbers are.
 #[inline]
 pub fn tune(
+    role: i32,
     world: &mut [i32],
     sender: &mut [i32],
     index: i32,
@@ -184,6 +192,7 @@ pub fn tune(
     // SAFETY: as for `leave`.
     let answer = unsafe {
         ponguriena_send_tune(
+            role,
             world.as_mut_ptr(),
             world.len(),
             sender.as_mut_ptr(),
@@ -203,6 +212,7 @@ pub fn tune(
 /// mark, the messages that are due by rising id, and the removals.
 #[inline]
 pub fn step(
+    role: i32,
     world: &mut [i32],
     sender: &mut [i32],
     map: &Map<'_>,
@@ -214,6 +224,7 @@ pub fn step(
     // SAFETY: as for `leave`.
     let answer = unsafe {
         ponguriena_send_step(
+            role,
             world.as_mut_ptr(),
             world.len(),
             sender.as_mut_ptr(),

@@ -3,6 +3,7 @@
 use crate::buffers::{RECORDS_NUMBERS, SEATS};
 use crate::passed::PassedAlong;
 use crate::refusal::Refusal;
+use crate::role::Role;
 use crate::send_buffers::{self, SENDER_NUMBERS};
 use crate::walks::Map;
 use crate::world::{Records, World};
@@ -17,23 +18,23 @@ use crate::world::{Records, World};
 /// each accepted step the record that the step took of everybody who is still present.
 ///
 /// It goes with one [`World`] from the start. Joins and inputs are calls on the world; to
-/// leave, to tune and to step go through the sender.
+/// leave, to tune and to step go through the sender, and are the referee's as they are there.
 ///
 /// ```
-/// use ponguriena::{Map, Refusal, Screen, Sender, World};
+/// use ponguriena::{Map, Refusal, Role, Screen, Sender, World};
 ///
 /// let map = Map { width: 1, height: 1, tiles: &[0] };
 /// let (mut world, mut sender, mut screen) = (World::fresh(), Sender::fresh(), Screen::fresh());
-/// world.join(&map, 7, 20, 48)?;
+/// world.join(Role::Referee, &map, 7, 20, 48)?;
 /// for _ in 0..10 {
-///     let (records, passed) = sender.step(&mut world, &map)?;
+///     let (records, passed) = sender.step(Role::Referee, &mut world, &map)?;
 ///     screen.receive(&map, passed.numbers())?;
 ///     for (id, core) in &records {
 ///         assert_eq!(screen.shown(id), Ok(core));
 ///     }
 /// }
 /// // Who falls alone is no surprise.
-/// let (_, passed) = sender.step(&mut world, &map)?;
+/// let (_, passed) = sender.step(Role::Referee, &mut world, &map)?;
 /// assert_eq!(passed.numbers(), [0]);
 /// # Ok::<(), Refusal>(())
 /// ```
@@ -62,34 +63,41 @@ impl Sender {
     }
 
     /// [`World::leave`], passed along.
-    pub fn leave(&mut self, world: &mut World, id: i32) -> Result<PassedAlong, Refusal> {
-        let (world, sender) = (world.numbers_mut(), &mut self.numbers);
-        PassedAlong::by(|passed| send_buffers::leave(world, sender, id, passed))
+    pub fn leave(
+        &mut self,
+        role: Role,
+        world: &mut World,
+        id: i32,
+    ) -> Result<PassedAlong, Refusal> {
+        let (role, world, sender) = (role.number(), world.numbers_mut(), &mut self.numbers);
+        PassedAlong::by(|passed| send_buffers::leave(role, world, sender, id, passed))
     }
 
     /// [`World::tune`], passed along, also where it changes nothing.
     pub fn tune(
         &mut self,
+        role: Role,
         world: &mut World,
         index: i32,
         hundredths: i32,
     ) -> Result<PassedAlong, Refusal> {
-        let (world, sender) = (world.numbers_mut(), &mut self.numbers);
-        PassedAlong::by(|passed| send_buffers::tune(world, sender, index, hundredths, passed))
+        let (role, world, sender) = (role.number(), world.numbers_mut(), &mut self.numbers);
+        PassedAlong::by(|passed| send_buffers::tune(role, world, sender, index, hundredths, passed))
     }
 
     /// [`World::step`], passed along: a mark, the messages by rising id, the removals.
     pub fn step(
         &mut self,
+        role: Role,
         world: &mut World,
         map: &Map<'_>,
     ) -> Result<(Records, PassedAlong), Refusal> {
-        let (world, sender) = (world.numbers_mut(), &mut self.numbers);
+        let (role, world, sender) = (role.number(), world.numbers_mut(), &mut self.numbers);
         let (mut records, mut removed) = ([0; RECORDS_NUMBERS], [0; SEATS]);
         let mut removed_count = 0;
         let passed = PassedAlong::by(|passed| {
             let counts =
-                send_buffers::step(world, sender, map, &mut records, &mut removed, passed)?;
+                send_buffers::step(role, world, sender, map, &mut records, &mut removed, passed)?;
             removed_count = counts.removed;
             Ok(counts.passed)
         })?;

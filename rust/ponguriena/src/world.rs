@@ -2,24 +2,27 @@
 
 use crate::buffers::{self, PUBLISHED_NUMBERS, RECORDS_NUMBERS, SEATS, WORLD_NUMBERS};
 use crate::refusal::Refusal;
+use crate::role::Role;
 use crate::snap_obj::{CORE_NUMBERS, CharacterCore, INPUT_NUMBERS, PlayerInput};
 use crate::walks::Map;
 
 /// Sixty-four seats, each empty or with a character, its last input and its floor mark,
 /// and the tunings. No call stops on any input: it does its work, or gives a [`Refusal`]
-/// and leaves the world as it was.
+/// and leaves the world as it was. Whoever calls names a [`Role`]: all is the referee's, but
+/// for what is said of seats and boards.
 ///
 /// ```
-/// use ponguriena::{Map, PlayerInput, Refusal, World};
+/// use ponguriena::{Map, PlayerInput, Refusal, Role, World};
 ///
 /// let map = Map { width: 3, height: 3, tiles: &[0, 0, 0, 0, 0, 0, 1, 1, 1] };
 /// let mut world = World::fresh();
-/// world.join(&map, 7, 20, 48)?;
-/// world.input(7, PlayerInput { direction: 1, ..PlayerInput::default() })?;
-/// for (id, core) in &world.step(&map)? {
+/// world.join(Role::Referee, &map, 7, 20, 48)?;
+/// world.input(Role::Seat(7), 7, PlayerInput { direction: 1, ..PlayerInput::default() })?;
+/// for (id, core) in &world.step(Role::Referee, &map)? {
 ///     assert_eq!((id, core.x, core.y), (7, 22, 49));
 /// }
-/// assert_eq!(world.leave(8), Err(Refusal::Absent));
+/// assert_eq!(world.leave(Role::Referee, 8), Err(Refusal::Absent));
+/// assert_eq!(world.leave(Role::Seat(7), 7), Err(Refusal::NotAllowed));
 /// # Ok::<(), Refusal>(())
 /// ```
 #[derive(Clone, Debug, Eq, PartialEq)]
@@ -31,10 +34,11 @@ pub struct World {
 /// was removed after that.
 ///
 /// ```
+/// # use ponguriena::Role;
 /// # let map = ponguriena::Map { width: 1, height: 1, tiles: &[0] };
 /// # let mut world = ponguriena::World::fresh();
-/// # world.join(&map, 3, 5, 5)?;
-/// let records = world.step(&map)?;
+/// # world.join(Role::Referee, &map, 3, 5, 5)?;
+/// let records = world.step(Role::Referee, &map)?;
 /// let ids: Vec<i32> = records.iter().map(|(id, _)| id).collect();
 /// assert_eq!(ids, [3]);
 /// # Ok::<(), ponguriena::Refusal>(())
@@ -72,71 +76,82 @@ impl World {
 
     /// The id joins at a place. Refused: a map at fault, an id without a seat, a place
     /// out of reach or not clear, an id that is present.
-    pub fn join(&mut self, map: &Map<'_>, id: i32, x: i32, y: i32) -> Result<(), Refusal> {
-        buffers::join(&mut self.numbers, map, id, x, y)
+    pub fn join(
+        &mut self,
+        role: Role,
+        map: &Map<'_>,
+        id: i32,
+        x: i32,
+        y: i32,
+    ) -> Result<(), Refusal> {
+        buffers::join(role.number(), &mut self.numbers, map, id, x, y)
     }
 
     /// The id is absent from now on. Every hook that holds it is retracted.
-    pub fn leave(&mut self, id: i32) -> Result<(), Refusal> {
-        buffers::leave(&mut self.numbers, id)
+    pub fn leave(&mut self, role: Role, id: i32) -> Result<(), Refusal> {
+        buffers::leave(role.number(), &mut self.numbers, id)
     }
 
-    /// What the id wants in every step from now on.
-    pub fn input(&mut self, id: i32, input: PlayerInput) -> Result<(), Refusal> {
-        buffers::input(&mut self.numbers, id, input)
+    /// What the id wants in every step from now on. The seat of this id may tell it too.
+    pub fn input(&mut self, role: Role, id: i32, input: PlayerInput) -> Result<(), Refusal> {
+        buffers::input(role.number(), &mut self.numbers, id, input)
     }
 
     /// Sets a tuning, in hundredths; every number is taken.
-    pub fn tune(&mut self, index: i32, hundredths: i32) -> Result<(), Refusal> {
-        buffers::tune(&mut self.numbers, index, hundredths)
+    pub fn tune(&mut self, role: Role, index: i32, hundredths: i32) -> Result<(), Refusal> {
+        buffers::tune(role.number(), &mut self.numbers, index, hundredths)
     }
 
     /// Everybody present ticks by rising id; then each moves and is quantized. Their
     /// records are taken, and whoever has a corner on a deadly tile is removed as by
     /// [`World::leave`]. Refused: a map at fault, a walk that is too long.
-    pub fn step(&mut self, map: &Map<'_>) -> Result<Records, Refusal> {
+    pub fn step(&mut self, role: Role, map: &Map<'_>) -> Result<Records, Refusal> {
         let mut numbers = [0; RECORDS_NUMBERS];
         let mut removed = [0; SEATS];
-        let count = buffers::step(&mut self.numbers, map, &mut numbers, &mut removed)?;
+        let (role, world) = (role.number(), &mut self.numbers);
+        let count = buffers::step(role, world, map, &mut numbers, &mut removed)?;
         Ok(Records::new(numbers, removed, count))
     }
 
-    /// The record of an id that is present.
-    pub fn record(&self, id: i32) -> Result<CharacterCore, Refusal> {
+    /// The record of an id that is present, as its seat now stands: whom its hook held in the
+    /// last step may have left since. A board may read it too. [`Refusal::TickTooLarge`] never
+    /// comes: no world that is kept as numbers holds somebody for so long.
+    pub fn record(&self, role: Role, id: i32) -> Result<CharacterCore, Refusal> {
         let mut numbers = [0; CORE_NUMBERS];
-        buffers::record(&self.numbers, id, &mut numbers)?;
+        buffers::record(role.number(), &self.numbers, id, &mut numbers)?;
         Ok(CharacterCore::from_numbers(numbers))
     }
 
     /// The last input of an id that is present.
-    pub fn player_input(&self, id: i32) -> Result<PlayerInput, Refusal> {
+    pub fn player_input(&self, role: Role, id: i32) -> Result<PlayerInput, Refusal> {
         let mut numbers = [0; INPUT_NUMBERS];
-        buffers::player_input(&self.numbers, id, &mut numbers)?;
+        buffers::player_input(role.number(), &self.numbers, id, &mut numbers)?;
         Ok(PlayerInput::from_numbers(numbers))
     }
 
     /// Whether an id that is present stood on the ground when the last step since its
-    /// join began; false where there was none.
+    /// join began; false where there was none. A board may read it too.
     ///
     /// ```
+    /// # use ponguriena::Role;
     /// # let map = ponguriena::Map { width: 3, height: 3, tiles: &[0, 0, 0, 0, 0, 0, 1, 1, 1] };
     /// # let mut world = ponguriena::World::fresh();
-    /// world.join(&map, 7, 48, 49)?;
-    /// assert_eq!(world.floor_mark(7), Ok(false));
-    /// world.step(&map)?;
-    /// assert_eq!(world.floor_mark(7), Ok(true));
+    /// world.join(Role::Referee, &map, 7, 48, 49)?;
+    /// assert_eq!(world.floor_mark(Role::Board, 7), Ok(false));
+    /// world.step(Role::Referee, &map)?;
+    /// assert_eq!(world.floor_mark(Role::Board, 7), Ok(true));
     /// # Ok::<(), ponguriena::Refusal>(())
     /// ```
-    pub fn floor_mark(&self, id: i32) -> Result<bool, Refusal> {
+    pub fn floor_mark(&self, role: Role, id: i32) -> Result<bool, Refusal> {
         let mut mark = 0;
-        buffers::floor_mark(&self.numbers, id, &mut mark)?;
+        buffers::floor_mark(role.number(), &self.numbers, id, &mut mark)?;
         Ok(mark != 0)
     }
 
     /// A tuning, in hundredths.
-    pub fn tuning(&self, index: i32) -> Result<i32, Refusal> {
+    pub fn tuning(&self, role: Role, index: i32) -> Result<i32, Refusal> {
         let mut hundredths = 0;
-        buffers::tuning(&self.numbers, index, &mut hundredths)?;
+        buffers::tuning(role.number(), &self.numbers, index, &mut hundredths)?;
         Ok(hundredths)
     }
 }
@@ -166,14 +181,14 @@ impl Records {
     /// Who was removed after the records were taken, by rising id.
     ///
     /// ```
-    /// # use ponguriena::{Map, Refusal, World};
+    /// # use ponguriena::{Map, Refusal, Role, World};
     /// let spikes = Map { width: 1, height: 1, tiles: &[2] };
     /// let mut world = World::fresh();
-    /// world.join(&spikes, 3, 5, 5)?;
-    /// let records = world.step(&spikes)?;
+    /// world.join(Role::Referee, &spikes, 3, 5, 5)?;
+    /// let records = world.step(Role::Referee, &spikes)?;
     /// assert_eq!(records.iter().count(), 1);
     /// assert_eq!(records.removed(), [3]);
-    /// assert_eq!(world.record(3), Err(Refusal::Absent));
+    /// assert_eq!(world.record(Role::Board, 3), Err(Refusal::Absent));
     /// # Ok::<(), Refusal>(())
     /// ```
     pub fn removed(&self) -> &[i32] {

@@ -4,7 +4,7 @@
 use ponguriena::buffers::{
     self, PUBLISHED_NUMBERS, RECORDS_NUMBERS, SEAT_NUMBERS, SEATS, TUNINGS, WORLD_NUMBERS,
 };
-use ponguriena::{CORE_NUMBERS, INPUT_NUMBERS, Map, PlayerInput, Refusal};
+use ponguriena::{CORE_NUMBERS, INPUT_NUMBERS, Map, PlayerInput, Refusal, Role};
 use reference::Xorshift;
 
 const OPEN: Map = Map {
@@ -21,6 +21,8 @@ const SPIKED: Map = Map {
 
 const BUFFERS: usize = 500;
 const STEPS: usize = 3;
+
+const REFEREE: i32 = Role::Referee.number();
 
 /// Nobody writes this.
 const UNWRITTEN: i32 = -77;
@@ -43,23 +45,32 @@ fn worlds_of_a_wrong_length() {
         let mut removed = [UNWRITTEN; SEATS];
         let mut hundredths = UNWRITTEN;
         assert_eq!(buffers::fresh(world), BAD_LENGTH);
-        assert_eq!(buffers::join(world, &no_map, -1, 1 << 30, 0), BAD_LENGTH);
-        assert_eq!(buffers::leave(world, -1), BAD_LENGTH);
+        assert_eq!(
+            buffers::join(REFEREE, world, &no_map, -1, 1 << 30, 0),
+            BAD_LENGTH
+        );
+        assert_eq!(buffers::leave(REFEREE, world, -1), BAD_LENGTH);
         let input = PlayerInput::default();
-        assert_eq!(buffers::input(world, -1, input), BAD_LENGTH);
-        assert_eq!(buffers::tune(world, -1, 0), BAD_LENGTH);
-        let stepped = buffers::step(world, &no_map, &mut records, &mut removed);
+        assert_eq!(buffers::input(REFEREE, world, -1, input), BAD_LENGTH);
+        assert_eq!(buffers::tune(REFEREE, world, -1, 0), BAD_LENGTH);
+        let stepped = buffers::step(REFEREE, world, &no_map, &mut records, &mut removed);
         assert_eq!(stepped, Err(Refusal::BadLength));
         assert_eq!(
-            buffers::record(world, -1, &mut records[..CORE_NUMBERS]),
+            buffers::record(REFEREE, world, -1, &mut records[..CORE_NUMBERS]),
             BAD_LENGTH
         );
         let input = &mut records[..INPUT_NUMBERS];
-        assert_eq!(buffers::player_input(world, -1, input), BAD_LENGTH);
-        assert_eq!(buffers::tuning(world, -1, &mut hundredths), BAD_LENGTH);
+        assert_eq!(buffers::player_input(REFEREE, world, -1, input), BAD_LENGTH);
+        assert_eq!(
+            buffers::tuning(REFEREE, world, -1, &mut hundredths),
+            BAD_LENGTH
+        );
         assert_eq!(hundredths, UNWRITTEN);
         let mut mark = UNWRITTEN;
-        assert_eq!(buffers::floor_mark(world, -1, &mut mark), BAD_LENGTH);
+        assert_eq!(
+            buffers::floor_mark(REFEREE, world, -1, &mut mark),
+            BAD_LENGTH
+        );
         assert_eq!(mark, UNWRITTEN);
         let all = numbers.iter().chain(&records).chain(&removed);
         assert!(all.into_iter().all(|&number| number == UNWRITTEN));
@@ -76,14 +87,16 @@ fn answers_of_a_wrong_length() {
     let (mut records, mut removed) = ([UNWRITTEN; RECORDS_NUMBERS], [UNWRITTEN; SEATS]);
     let readers: [(usize, Reader); 4] = [
         (RECORDS_NUMBERS, &mut |out| {
-            buffers::step(&mut world, &OPEN, out, &mut removed).map(|_| ())
+            buffers::step(REFEREE, &mut world, &OPEN, out, &mut removed).map(|_| ())
         }),
         (SEATS, &mut |out| {
-            buffers::step(&mut other_world, &OPEN, &mut records, out).map(|_| ())
+            buffers::step(REFEREE, &mut other_world, &OPEN, &mut records, out).map(|_| ())
         }),
-        (CORE_NUMBERS, &mut |out| buffers::record(&fresh, -1, out)),
+        (CORE_NUMBERS, &mut |out| {
+            buffers::record(REFEREE, &fresh, -1, out)
+        }),
         (INPUT_NUMBERS, &mut |out| {
-            buffers::player_input(&fresh, -1, out)
+            buffers::player_input(REFEREE, &fresh, -1, out)
         }),
     ];
     for (right, reader) in readers {
@@ -106,10 +119,13 @@ fn zeros_follow_the_removed() {
     let mut removed = [UNWRITTEN; SEATS];
     assert_eq!(buffers::fresh(&mut world), Ok(()));
     for (id, x) in [(12, 50), (5, 90), (8, -90)] {
-        assert_eq!(buffers::join(&mut world, &SPIKED, id, x, 16), Ok(()));
+        assert_eq!(
+            buffers::join(REFEREE, &mut world, &SPIKED, id, x, 16),
+            Ok(())
+        );
     }
     for ids in [&[5, 12][..], &[]] {
-        let count = buffers::step(&mut world, &SPIKED, &mut records, &mut removed);
+        let count = buffers::step(REFEREE, &mut world, &SPIKED, &mut records, &mut removed);
         assert_eq!(count, Ok(ids.len()));
         assert_eq!(removed[..ids.len()], *ids);
         assert!(removed[ids.len()..].iter().all(|&number| number == 0));
@@ -123,9 +139,9 @@ fn nobody_is_zeros() {
     assert_eq!(buffers::fresh(&mut fresh), Ok(()));
     assert_eq!(fresh[TUNINGS..], [0; WORLD_NUMBERS - TUNINGS]);
     let mut world = fresh;
-    assert_eq!(buffers::join(&mut world, &OPEN, 3, 16, 16), Ok(()));
+    assert_eq!(buffers::join(REFEREE, &mut world, &OPEN, 3, 16, 16), Ok(()));
     assert_ne!(world, fresh);
-    assert_eq!(buffers::leave(&mut world, 3), Ok(()));
+    assert_eq!(buffers::leave(REFEREE, &mut world, 3), Ok(()));
     assert_eq!(world, fresh);
 }
 
@@ -136,16 +152,19 @@ fn a_hook_may_hold_an_id_without_a_seat() {
         let mut world = [0; WORLD_NUMBERS];
         assert_eq!(buffers::fresh(&mut world), Ok(()));
         for id in [0, 63] {
-            assert_eq!(buffers::join(&mut world, &OPEN, id, 16, 16), Ok(()));
+            assert_eq!(
+                buffers::join(REFEREE, &mut world, &OPEN, id, 16, 16),
+                Ok(())
+            );
         }
         let core = &mut world[TUNINGS + 1..][..CORE_NUMBERS];
         (core[8], core[9]) = (held, 5);
         let expected = core.to_vec();
         let mut record = [UNWRITTEN; CORE_NUMBERS];
-        assert_eq!(buffers::record(&world, 0, &mut record), Ok(()));
+        assert_eq!(buffers::record(REFEREE, &world, 0, &mut record), Ok(()));
         assert_eq!(record, expected[..]);
-        assert_eq!(buffers::leave(&mut world, 63), Ok(()));
-        assert_eq!(buffers::record(&world, 0, &mut record), Ok(()));
+        assert_eq!(buffers::leave(REFEREE, &mut world, 63), Ok(()));
+        assert_eq!(buffers::record(REFEREE, &world, 0, &mut record), Ok(()));
         let told = if held == 63 { (-1, -1) } else { (held, 5) };
         assert_eq!((record[8], record[9]), told);
     }
@@ -168,7 +187,7 @@ fn any_numbers_are_taken() {
         let mut removed = [0; SEATS];
         for _ in 0..STEPS {
             let before = (world, records, removed);
-            let answer = buffers::step(&mut world, &SPIKED, &mut records, &mut removed);
+            let answer = buffers::step(REFEREE, &mut world, &SPIKED, &mut records, &mut removed);
             if answer.is_err() {
                 assert_eq!(answer, Err(Refusal::TooFar));
                 assert_eq!((world, records, removed), before);
@@ -180,13 +199,13 @@ fn any_numbers_are_taken() {
             }
             let id = (random.pattern() % SEATS as u32) as i32;
             let input = [0; INPUT_NUMBERS].map(|_| any_number(&mut random));
-            let told = buffers::input(&mut world, id, PlayerInput::from_numbers(input));
+            let told = buffers::input(REFEREE, &mut world, id, PlayerInput::from_numbers(input));
             let mut read = [0; INPUT_NUMBERS];
-            assert_eq!(buffers::player_input(&world, id, &mut read), told);
+            assert_eq!(buffers::player_input(REFEREE, &world, id, &mut read), told);
             assert_eq!(read, told.map_or([0; INPUT_NUMBERS], |()| input));
             let number = world[TUNINGS + (id as usize + 1) * SEAT_NUMBERS - 1];
             let mut mark = UNWRITTEN;
-            assert_eq!(buffers::floor_mark(&world, id, &mut mark), told);
+            assert_eq!(buffers::floor_mark(REFEREE, &world, id, &mut mark), told);
             assert_eq!(mark, told.map_or(UNWRITTEN, |()| i32::from(number != 0)));
         }
     }

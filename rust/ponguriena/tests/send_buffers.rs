@@ -5,7 +5,7 @@ use ponguriena::buffers::{self, RECORDS_NUMBERS, SEATS, TUNINGS, WORLD_NUMBERS};
 use ponguriena::send_buffers::{
     self, COPY_NUMBERS, MESSAGE_NUMBERS, PASSED_NUMBERS, SCREEN_NUMBERS, SENDER_NUMBERS,
 };
-use ponguriena::{CORE_NUMBERS, CharacterCore, Map, Passed, PlayerInput, Refusal};
+use ponguriena::{CORE_NUMBERS, CharacterCore, Map, Passed, PlayerInput, Refusal, Role};
 use reference::Xorshift;
 
 const OPEN: Map = Map {
@@ -21,6 +21,8 @@ const SPIKED: Map = Map {
 };
 
 const NO_MAP: Map = Map { width: 3, ..OPEN };
+
+const REFEREE: i32 = Role::Referee.number();
 
 /// Nobody writes this.
 const UNWRITTEN: i32 = -77;
@@ -58,17 +60,17 @@ impl Lent {
 
     fn leave(&mut self, id: i32) -> Result<usize, Refusal> {
         let [world, sender, _, _, passed] = &mut self.0;
-        send_buffers::leave(world, sender, id, passed)
+        send_buffers::leave(REFEREE, world, sender, id, passed)
     }
 
     fn tune(&mut self, index: i32) -> Result<usize, Refusal> {
         let [world, sender, _, _, passed] = &mut self.0;
-        send_buffers::tune(world, sender, index, 7, passed)
+        send_buffers::tune(REFEREE, world, sender, index, 7, passed)
     }
 
     fn step(&mut self, map: &Map) -> Result<send_buffers::Counts, Refusal> {
         let [world, sender, records, removed, passed] = &mut self.0;
-        send_buffers::step(world, sender, map, records, removed, passed)
+        send_buffers::step(REFEREE, world, sender, map, records, removed, passed)
     }
 }
 
@@ -169,7 +171,10 @@ fn a_refusal_writes_nothing() {
 fn only_what_is_passed_along_is_written() {
     let first = 1 + MESSAGE_NUMBERS;
     let mut lent = Lent::fresh();
-    assert_eq!(buffers::join(&mut lent.0[0], &SPIKED, 5, 50, 16), Ok(()));
+    assert_eq!(
+        buffers::join(REFEREE, &mut lent.0[0], &SPIKED, 5, 50, 16),
+        Ok(())
+    );
     assert_eq!(lent.step(&OPEN).map(|counts| counts.passed), Ok(first));
     assert_eq!(lent.0[4][..3], [0, 1, 5]);
     let behind = lent.0[4][3..].to_vec();

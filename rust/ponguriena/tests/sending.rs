@@ -1,6 +1,7 @@
 //! What goes to the screens through the safe types: a screen shows what the steps took,
 //! and little is passed along.
 
+use ponguriena::Role::Referee;
 use ponguriena::{
     CharacterCore, Map, Passed, PassedAlong, PlayerInput, Records, Refusal, SEATS, Screen, Sender,
     World,
@@ -54,7 +55,7 @@ impl Link {
 
     /// Who is sent, and who is removed; the screen shows everybody who is there.
     fn step(&mut self, map: &Map) -> Result<(Vec<i32>, Vec<i32>), Refusal> {
-        let (records, passed) = self.sender.step(&mut self.world, map)?;
+        let (records, passed) = self.sender.step(Referee, &mut self.world, map)?;
         self.screen.receive(map, passed.numbers())?;
         for (id, core) in &records {
             let shown = match records.removed().contains(&id) {
@@ -89,7 +90,7 @@ fn sent(records: &Records, passed: &PassedAlong) -> (Vec<i32>, Vec<i32>) {
 #[test]
 fn who_stands_is_sent_every_150_steps() -> Result<(), Refusal> {
     let mut link = Link::fresh();
-    link.world.join(&FLOOR, 5, 60, 49)?;
+    link.world.join(Referee, &FLOOR, 5, 60, 49)?;
     for step in 1..=152 {
         let expected = if [1, 151].contains(&step) {
             &[5][..]
@@ -105,15 +106,15 @@ fn who_stands_is_sent_every_150_steps() -> Result<(), Refusal> {
 #[test]
 fn a_screen_shows_what_the_steps_took() -> Result<(), Refusal> {
     let mut link = Link::fresh();
-    link.world.join(&SPIKED, 1, -80, 40)?;
-    link.world.join(&SPIKED, 2, 30, 40)?;
-    link.world.input(1, HOOK)?;
+    link.world.join(Referee, &SPIKED, 1, -80, 40)?;
+    link.world.join(Referee, &SPIKED, 2, 30, 40)?;
+    link.world.input(Referee, 1, HOOK)?;
     assert_eq!(link.step(&SPIKED)?, (vec![1, 2], vec![]));
-    link.world.join(&SPIKED, 9, 80, 40)?;
+    link.world.join(Referee, &SPIKED, 9, 80, 40)?;
     assert_eq!(link.step(&SPIKED)?, (vec![1, 2, 9], vec![9]));
-    link.world.join(&SPIKED, 9, -200, 40)?;
+    link.world.join(Referee, &SPIKED, 9, -200, 40)?;
     assert_eq!(link.step(&SPIKED)?, (vec![1, 2, 9], vec![]));
-    let passed = link.sender.leave(&mut link.world, 2)?;
+    let passed = link.sender.leave(Referee, &mut link.world, 2)?;
     link.screen.receive(&SPIKED, passed.numbers())?;
     assert_eq!(link.screen.shown(2), Err(Refusal::Absent));
     // The hook has nobody any more.
@@ -128,7 +129,7 @@ fn everybody_is_sent_and_removed() -> Result<(), Refusal> {
     let ids: Vec<i32> = (0..SEATS as i32).collect();
     let mut link = Link::fresh();
     for &id in ids.iter().rev() {
-        link.world.join(&SPIKED, id, 80, 40 * id)?;
+        link.world.join(Referee, &SPIKED, id, 80, 40 * id)?;
     }
     assert_eq!(link.step(&SPIKED)?, (ids.clone(), ids));
     assert_eq!(link.world, World::fresh());
@@ -141,18 +142,20 @@ fn everybody_is_sent_and_removed() -> Result<(), Refusal> {
 #[test]
 fn leaves_and_tunings_are_passed_along() -> Result<(), Refusal> {
     let mut link = Link::fresh();
-    link.world.join(&OPEN, 4, 40, 40)?;
-    let leave = link.sender.leave(&mut link.world, 4)?;
+    link.world.join(Referee, &OPEN, 4, 40, 40)?;
+    let leave = link.sender.leave(Referee, &mut link.world, 4)?;
     assert_eq!(leave.iter().collect::<Vec<_>>(), [Passed::Leave { id: 4 }]);
     assert_eq!(leave.numbers(), [3, 4]);
     assert_eq!(link.world, World::fresh());
     assert_eq!(link.sender, Sender::fresh());
     for hundredths in [50, i32::MIN] {
-        let tune = link.sender.tune(&mut link.world, GRAVITY, hundredths)?;
+        let tune = link
+            .sender
+            .tune(Referee, &mut link.world, GRAVITY, hundredths)?;
         let index = GRAVITY;
         let expected = [Passed::Tune { index, hundredths }];
         assert_eq!(tune.iter().collect::<Vec<_>>(), expected);
-        assert_eq!(link.world.tuning(GRAVITY), Ok(hundredths));
+        assert_eq!(link.world.tuning(Referee, GRAVITY), Ok(hundredths));
         link.screen.receive(&OPEN, tune.numbers())?;
     }
     assert_eq!(link.screen.numbers()[GRAVITY as usize], i32::MIN);
@@ -162,9 +165,9 @@ fn leaves_and_tunings_are_passed_along() -> Result<(), Refusal> {
 #[test]
 fn the_input_of_the_step_is_sent() -> Result<(), Refusal> {
     let mut link = Link::fresh();
-    link.world.join(&SPIKED, 6, 80, 40)?;
-    link.world.input(6, HOOK)?;
-    let (_, passed) = link.sender.step(&mut link.world, &SPIKED)?;
+    link.world.join(Referee, &SPIKED, 6, 80, 40)?;
+    link.world.input(Referee, 6, HOOK)?;
+    let (_, passed) = link.sender.step(Referee, &mut link.world, &SPIKED)?;
     let input = |thing: Passed| match thing {
         Passed::Message { input, .. } => Some(input),
         _ => None,
@@ -176,17 +179,17 @@ fn the_input_of_the_step_is_sent() -> Result<(), Refusal> {
 #[test]
 fn refused_calls_change_nothing() -> Result<(), Refusal> {
     let mut link = Link::fresh();
-    link.world.join(&OPEN, 0, 40, 40)?;
+    link.world.join(Referee, &OPEN, 0, 40, 40)?;
     link.step(&OPEN)?;
     let (world, sender) = (link.world.clone(), link.sender.clone());
     let (now, by) = (&mut link.world, &mut link.sender);
     let no_seat = SEATS as i32;
-    assert_eq!(by.leave(now, no_seat), Err(Refusal::BadId));
-    assert_eq!(by.leave(now, -1), Err(Refusal::BadId));
-    assert_eq!(by.leave(now, 3), Err(Refusal::Absent));
-    assert_eq!(by.tune(now, 18, 5), Err(Refusal::BadTuning));
-    assert_eq!(by.tune(now, -1, 5), Err(Refusal::BadTuning));
-    assert_eq!(by.step(now, &NO_MAP), Err(Refusal::BadMap));
+    assert_eq!(by.leave(Referee, now, no_seat), Err(Refusal::BadId));
+    assert_eq!(by.leave(Referee, now, -1), Err(Refusal::BadId));
+    assert_eq!(by.leave(Referee, now, 3), Err(Refusal::Absent));
+    assert_eq!(by.tune(Referee, now, 18, 5), Err(Refusal::BadTuning));
+    assert_eq!(by.tune(Referee, now, -1, 5), Err(Refusal::BadTuning));
+    assert_eq!(by.step(Referee, now, &NO_MAP), Err(Refusal::BadMap));
     assert_eq!((link.world, link.sender), (world, sender));
     for id in [-1, no_seat, i32::MIN, i32::MAX] {
         assert_eq!(link.screen.shown(id), Err(Refusal::BadId));
@@ -231,7 +234,7 @@ fn a_screen_takes_all_or_nothing() -> Result<(), Refusal> {
 #[test]
 fn a_mark_without_a_map_moves_nobody() -> Result<(), Refusal> {
     let mut link = Link::fresh();
-    link.world.join(&OPEN, 0, 40, 40)?;
+    link.world.join(Referee, &OPEN, 0, 40, 40)?;
     link.step(&OPEN)?;
     let before = link.screen.shown(0);
     link.screen.receive(&NO_MAP, &Passed::Mark.numbers())?;
@@ -245,7 +248,7 @@ fn a_mark_without_a_map_moves_nobody() -> Result<(), Refusal> {
 #[test]
 fn where_there_is_no_copy_the_seat_is_sent() -> Result<(), Refusal> {
     let mut link = Link::fresh();
-    link.world.join(&FLOOR, 0, 60, 49)?;
+    link.world.join(Referee, &FLOOR, 0, 60, 49)?;
     assert_eq!(link.step(&FLOOR)?.0, [0]);
     assert_eq!(link.step(&FLOOR)?.0, []);
     let mut numbers = *link.sender.numbers();
@@ -259,8 +262,8 @@ fn where_there_is_no_copy_the_seat_is_sent() -> Result<(), Refusal> {
 #[test]
 fn both_sides_go_on_from_their_numbers() -> Result<(), Refusal> {
     let mut link = Link::fresh();
-    link.world.join(&OPEN, 2, 40, 40)?;
-    link.world.input(2, HOOK)?;
+    link.world.join(Referee, &OPEN, 2, 40, 40)?;
+    link.world.input(Referee, 2, HOOK)?;
     link.step(&OPEN)?;
     let mut kept = Link {
         world: World::from_numbers(*link.world.numbers()),

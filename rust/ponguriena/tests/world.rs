@@ -1,5 +1,6 @@
 //! The calls of a world: what each does, and the lowest refusal first.
 
+use ponguriena::Role::Referee;
 use ponguriena::{CharacterCore, Map, PlayerInput, Refusal, SEATS, World};
 
 const OPEN: Map = Map {
@@ -44,14 +45,14 @@ const HOOK_FIRE_SPEED: i32 = 9;
 #[test]
 fn the_example_of_document_01() -> Result<(), Refusal> {
     let mut world = World::fresh();
-    world.join(&OPEN, 0, 48, 48)?;
-    let records = world.step(&OPEN)?;
+    world.join(Referee, &OPEN, 0, 48, 48)?;
+    let records = world.step(Referee, &OPEN)?;
     let [(id, core)] = records.iter().collect::<Vec<_>>()[..] else {
         panic!("one record is published");
     };
     let fallen = [0, 48, 49, 0, 128, 0, 0, 0, -1, 0, 0, 0, 0, 0, 0];
     assert_eq!((id, core.numbers()), (0, fallen));
-    assert_eq!(world.record(0), Ok(core));
+    assert_eq!(world.record(Referee, 0), Ok(core));
     Ok(())
 }
 
@@ -59,9 +60,13 @@ fn the_example_of_document_01() -> Result<(), Refusal> {
 fn records_come_by_rising_id() -> Result<(), Refusal> {
     let mut world = World::fresh();
     for id in [9, 63, 15, 0, 16, 4] {
-        world.join(&OPEN, id, 20 * id, 40)?;
+        world.join(Referee, &OPEN, id, 20 * id, 40)?;
     }
-    let ids: Vec<i32> = world.step(&OPEN)?.iter().map(|(id, _)| id).collect();
+    let ids: Vec<i32> = world
+        .step(Referee, &OPEN)?
+        .iter()
+        .map(|(id, _)| id)
+        .collect();
     assert_eq!(ids, [0, 4, 9, 15, 16, 63]);
     Ok(())
 }
@@ -70,8 +75,8 @@ fn records_come_by_rising_id() -> Result<(), Refusal> {
 fn a_join_is_refused_with_the_lowest_number() {
     let mut world = World::fresh();
     let (far, inside) = (100_001, 80);
-    assert_eq!(world.join(&WALLED, 3, 48, 48), Ok(()));
-    let mut join = |map: &Map, id, x| world.join(map, id, x, 48);
+    assert_eq!(world.join(Referee, &WALLED, 3, 48, 48), Ok(()));
+    let mut join = |map: &Map, id, x| world.join(Referee, map, id, x, 48);
     assert_eq!(join(&NO_MAP, SEATS as i32, far), Err(Refusal::BadMap));
     assert_eq!(join(&WALLED, SEATS as i32, far), Err(Refusal::BadId));
     assert_eq!(join(&WALLED, 3, far), Err(Refusal::OutOfReach));
@@ -91,11 +96,11 @@ fn the_absent_have_nothing() {
         (15, Refusal::Absent),
         (16, Refusal::Absent),
     ] {
-        assert_eq!(world.leave(id), Err(refusal));
-        assert_eq!(world.input(id, HOOK), Err(refusal));
-        assert_eq!(world.record(id), Err(refusal));
-        assert_eq!(world.player_input(id), Err(refusal));
-        assert_eq!(world.floor_mark(id), Err(refusal));
+        assert_eq!(world.leave(Referee, id), Err(refusal));
+        assert_eq!(world.input(Referee, id, HOOK), Err(refusal));
+        assert_eq!(world.record(Referee, id), Err(refusal));
+        assert_eq!(world.player_input(Referee, id), Err(refusal));
+        assert_eq!(world.floor_mark(Referee, id), Err(refusal));
     }
     assert_eq!(world, World::fresh());
 }
@@ -103,11 +108,11 @@ fn the_absent_have_nothing() {
 #[test]
 fn who_left_is_as_if_never_there() -> Result<(), Refusal> {
     let mut world = World::fresh();
-    world.join(&OPEN, 7, 20, 30)?;
-    world.input(7, HOOK)?;
-    assert_eq!(world.player_input(7), Ok(HOOK));
-    world.step(&OPEN)?;
-    world.leave(7)?;
+    world.join(Referee, &OPEN, 7, 20, 30)?;
+    world.input(Referee, 7, HOOK)?;
+    assert_eq!(world.player_input(Referee, 7), Ok(HOOK));
+    world.step(Referee, &OPEN)?;
+    world.leave(Referee, 7)?;
     assert_eq!(world, World::fresh());
     Ok(())
 }
@@ -116,12 +121,12 @@ fn who_left_is_as_if_never_there() -> Result<(), Refusal> {
 fn holding() -> Result<World, Refusal> {
     let mut world = World::fresh();
     for (id, x) in [(1, 0), (2, 120), (3, -120)] {
-        world.join(&OPEN, id, x, 0)?;
+        world.join(Referee, &OPEN, id, x, 0)?;
     }
-    world.input(1, HOOK)?;
-    world.input(3, HOOK)?;
+    world.input(Referee, 1, HOOK)?;
+    world.input(Referee, 3, HOOK)?;
     for _ in 0..3 {
-        world.step(&OPEN)?;
+        world.step(Referee, &OPEN)?;
     }
     Ok(world)
 }
@@ -134,11 +139,11 @@ fn hook(core: CharacterCore) -> (i32, i32) {
 #[test]
 fn who_left_is_held_by_nobody() -> Result<(), Refusal> {
     let mut world = holding()?;
-    assert_eq!(hook(world.record(1)?), (5, 2));
-    assert_eq!(hook(world.record(3)?), (5, 1));
-    world.leave(2)?;
-    assert_eq!(hook(world.record(1)?), (-1, -1));
-    assert_eq!(hook(world.record(3)?), (5, 1));
+    assert_eq!(hook(world.record(Referee, 1)?), (5, 2));
+    assert_eq!(hook(world.record(Referee, 3)?), (5, 1));
+    world.leave(Referee, 2)?;
+    assert_eq!(hook(world.record(Referee, 1)?), (-1, -1));
+    assert_eq!(hook(world.record(Referee, 3)?), (5, 1));
     Ok(())
 }
 
@@ -148,16 +153,16 @@ fn the_last_seat_is_one() -> Result<(), Refusal> {
     assert_eq!(SEATS, 64);
     for (lower, higher) in [(0, 63), (15, 16), (62, 63)] {
         let mut world = World::fresh();
-        world.join(&OPEN, higher, 82, 20)?;
-        world.join(&OPEN, lower, 82, -20)?;
-        world.join(&OPEN, 40, 0, 0)?;
-        world.input(40, HOOK)?;
-        world.step(&OPEN)?;
-        assert_eq!(hook(world.record(40)?), (5, lower));
-        world.leave(higher)?;
-        assert_eq!(hook(world.record(40)?), (5, lower));
-        world.leave(lower)?;
-        assert_eq!(hook(world.record(40)?), (-1, -1));
+        world.join(Referee, &OPEN, higher, 82, 20)?;
+        world.join(Referee, &OPEN, lower, 82, -20)?;
+        world.join(Referee, &OPEN, 40, 0, 0)?;
+        world.input(Referee, 40, HOOK)?;
+        world.step(Referee, &OPEN)?;
+        assert_eq!(hook(world.record(Referee, 40)?), (5, lower));
+        world.leave(Referee, higher)?;
+        assert_eq!(hook(world.record(Referee, 40)?), (5, lower));
+        world.leave(Referee, lower)?;
+        assert_eq!(hook(world.record(Referee, 40)?), (-1, -1));
     }
     Ok(())
 }
@@ -166,13 +171,13 @@ fn the_last_seat_is_one() -> Result<(), Refusal> {
 #[test]
 fn who_died_is_held_by_nobody() -> Result<(), Refusal> {
     let mut world = holding()?;
-    let records = world.step(&SPIKED)?;
+    let records = world.step(Referee, &SPIKED)?;
     assert_eq!(records.removed(), [2]);
     let cores: Vec<_> = records.iter().map(|(id, core)| (id, hook(core))).collect();
     assert_eq!(cores, [(1, (5, 2)), (2, (0, -1)), (3, (5, 1))]);
-    assert_eq!(world.record(2), Err(Refusal::Absent));
-    assert_eq!(hook(world.record(1)?), (-1, -1));
-    assert_eq!(hook(world.record(3)?), (5, 1));
+    assert_eq!(world.record(Referee, 2), Err(Refusal::Absent));
+    assert_eq!(hook(world.record(Referee, 1)?), (-1, -1));
+    assert_eq!(hook(world.record(Referee, 3)?), (5, 1));
     Ok(())
 }
 
@@ -181,15 +186,15 @@ fn who_died_is_held_by_nobody() -> Result<(), Refusal> {
 fn who_ends_a_step_on_spikes_is_removed() -> Result<(), Refusal> {
     let mut world = World::fresh();
     for (id, x, y) in [(9, 90, 20), (3, 50, 20), (4, 49, 70)] {
-        world.join(&SPIKED, id, x, y)?;
+        world.join(Referee, &SPIKED, id, x, y)?;
     }
-    assert_eq!(world.step(&NO_MAP), Err(Refusal::BadMap));
-    world.input(9, HOOK)?;
-    let records = world.step(&SPIKED)?;
+    assert_eq!(world.step(Referee, &NO_MAP), Err(Refusal::BadMap));
+    world.input(Referee, 9, HOOK)?;
+    let records = world.step(Referee, &SPIKED)?;
     let ids: Vec<i32> = records.iter().map(|(id, _)| id).collect();
     assert_eq!((&ids[..], records.removed()), (&[3, 4, 9][..], &[3, 9][..]));
-    assert_eq!(world.step(&SPIKED)?.removed(), []);
-    world.leave(4)?;
+    assert_eq!(world.step(Referee, &SPIKED)?.removed(), []);
+    world.leave(Referee, 4)?;
     assert_eq!(world, World::fresh());
     Ok(())
 }
@@ -204,9 +209,9 @@ fn everybody_dies_wherever_they_are() -> Result<(), Refusal> {
     let ids: Vec<i32> = (0..SEATS as i32).collect();
     let mut world = World::fresh();
     for &id in &ids {
-        world.join(&spikes, id, 1500 * id, -5000)?;
+        world.join(Referee, &spikes, id, 1500 * id, -5000)?;
     }
-    assert_eq!(world.step(&spikes)?.removed(), ids);
+    assert_eq!(world.step(Referee, &spikes)?.removed(), ids);
     assert_eq!(world, World::fresh());
     Ok(())
 }
@@ -214,12 +219,12 @@ fn everybody_dies_wherever_they_are() -> Result<(), Refusal> {
 #[test]
 fn a_tuning_is_any_number() {
     let mut world = World::fresh();
-    assert_eq!(world.tuning(HOOK_LENGTH), Ok(38000));
-    assert_eq!(world.tune(HOOK_LENGTH, i32::MIN), Ok(()));
-    assert_eq!(world.tuning(HOOK_LENGTH), Ok(i32::MIN));
+    assert_eq!(world.tuning(Referee, HOOK_LENGTH), Ok(38000));
+    assert_eq!(world.tune(Referee, HOOK_LENGTH, i32::MIN), Ok(()));
+    assert_eq!(world.tuning(Referee, HOOK_LENGTH), Ok(i32::MIN));
     for index in [-1, 18] {
-        assert_eq!(world.tune(index, 0), Err(Refusal::BadTuning));
-        assert_eq!(world.tuning(index), Err(Refusal::BadTuning));
+        assert_eq!(world.tune(Referee, index, 0), Err(Refusal::BadTuning));
+        assert_eq!(world.tuning(Referee, index), Err(Refusal::BadTuning));
     }
 }
 
@@ -227,14 +232,14 @@ fn a_tuning_is_any_number() {
 #[test]
 fn a_step_too_far_leaves_the_world() -> Result<(), Refusal> {
     let mut world = World::fresh();
-    world.join(&OPEN, 0, 20, 20)?;
-    world.join(&OPEN, 1, 70, 70)?;
-    world.input(1, HOOK)?;
-    world.tune(HOOK_FIRE_SPEED, i32::MAX)?;
-    world.tune(HOOK_LENGTH, i32::MAX)?;
+    world.join(Referee, &OPEN, 0, 20, 20)?;
+    world.join(Referee, &OPEN, 1, 70, 70)?;
+    world.input(Referee, 1, HOOK)?;
+    world.tune(Referee, HOOK_FIRE_SPEED, i32::MAX)?;
+    world.tune(Referee, HOOK_LENGTH, i32::MAX)?;
     let before = world.clone();
-    assert_eq!(world.step(&OPEN), Err(Refusal::TooFar));
-    assert_eq!(world.step(&NO_MAP), Err(Refusal::BadMap));
+    assert_eq!(world.step(Referee, &OPEN), Err(Refusal::TooFar));
+    assert_eq!(world.step(Referee, &NO_MAP), Err(Refusal::BadMap));
     assert_eq!(world, before);
     Ok(())
 }
@@ -247,31 +252,31 @@ fn a_mark_is_of_where_the_last_step_began() -> Result<(), Refusal> {
         ..PlayerInput::default()
     };
     let mut world = World::fresh();
-    world.join(&FLOOR, 2, 48, 49)?;
-    assert_eq!(world.floor_mark(2), Ok(false));
-    world.step(&FLOOR)?;
-    assert_eq!(world.floor_mark(2), Ok(true));
-    world.input(2, jump)?;
-    world.step(&FLOOR)?;
-    assert_eq!(world.floor_mark(2), Ok(true));
-    assert_eq!(world.step(&NO_MAP), Err(Refusal::BadMap));
-    assert_eq!(world.floor_mark(2), Ok(true));
-    world.step(&FLOOR)?;
-    assert_eq!(world.floor_mark(2), Ok(false));
-    world.leave(2)?;
-    world.join(&FLOOR, 2, 48, 49)?;
-    assert_eq!(world.floor_mark(2), Ok(false));
+    world.join(Referee, &FLOOR, 2, 48, 49)?;
+    assert_eq!(world.floor_mark(Referee, 2), Ok(false));
+    world.step(Referee, &FLOOR)?;
+    assert_eq!(world.floor_mark(Referee, 2), Ok(true));
+    world.input(Referee, 2, jump)?;
+    world.step(Referee, &FLOOR)?;
+    assert_eq!(world.floor_mark(Referee, 2), Ok(true));
+    assert_eq!(world.step(Referee, &NO_MAP), Err(Refusal::BadMap));
+    assert_eq!(world.floor_mark(Referee, 2), Ok(true));
+    world.step(Referee, &FLOOR)?;
+    assert_eq!(world.floor_mark(Referee, 2), Ok(false));
+    world.leave(Referee, 2)?;
+    world.join(Referee, &FLOOR, 2, 48, 49)?;
+    assert_eq!(world.floor_mark(Referee, 2), Ok(false));
     Ok(())
 }
 
 #[test]
 fn a_world_goes_on_from_its_numbers() -> Result<(), Refusal> {
     let mut world = World::fresh();
-    world.join(&OPEN, 2, 40, 40)?;
-    world.input(2, HOOK)?;
+    world.join(Referee, &OPEN, 2, 40, 40)?;
+    world.input(Referee, 2, HOOK)?;
     let mut kept = World::from_numbers(*world.numbers());
     for _ in 0..20 {
-        assert_eq!(world.step(&OPEN)?, kept.step(&OPEN)?);
+        assert_eq!(world.step(Referee, &OPEN)?, kept.step(Referee, &OPEN)?);
     }
     assert_eq!(world, kept);
     Ok(())

@@ -8,6 +8,8 @@
 
 #define LENGTH(array) (sizeof(array) / sizeof(array)[0])
 
+enum { REFEREE = PONGURIENA_REFEREE };
+
 /* The last id, and one that no seat has. */
 enum { LAST = PONGURIENA_SEATS - 1, NO_SEAT = PONGURIENA_SEATS };
 
@@ -63,38 +65,39 @@ static void same_numbers(const char *what, const int32_t *is, const int32_t *exp
 static uint32_t fresh(void) { return ponguriena_fresh(world, LENGTH(world)); }
 
 static uint32_t join(Map map, int32_t id, int32_t x, int32_t y) {
-    return ponguriena_join(world, LENGTH(world), map.width, map.height, map.tiles, map.length, id,
-                           x, y);
+    return ponguriena_join(REFEREE, world, LENGTH(world), map.width, map.height, map.tiles,
+                           map.length, id, x, y);
 }
 
 static uint32_t step(Map map) {
-    return ponguriena_step(world, LENGTH(world), map.width, map.height, map.tiles, map.length,
-                           records, LENGTH(records), removed, LENGTH(removed), &removed_count);
+    return ponguriena_step(REFEREE, world, LENGTH(world), map.width, map.height, map.tiles,
+                           map.length, records, LENGTH(records), removed, LENGTH(removed),
+                           &removed_count);
 }
 
 static uint32_t input(int32_t id, const int32_t *n) {
-    return ponguriena_input(world, LENGTH(world), id, n[0], n[1], n[2], n[3], n[4]);
+    return ponguriena_input(REFEREE, world, LENGTH(world), id, n[0], n[1], n[2], n[3], n[4]);
 }
 
 static uint32_t tune(int32_t index, int32_t hundredths) {
-    return ponguriena_tune(world, LENGTH(world), index, hundredths);
+    return ponguriena_tune(REFEREE, world, LENGTH(world), index, hundredths);
 }
 
 static uint32_t send_step(Map map) {
-    return ponguriena_send_step(world, LENGTH(world), sender, LENGTH(sender), map.width, map.height,
-                                map.tiles, map.length, records, LENGTH(records), removed,
-                                LENGTH(removed), &removed_count, passed, LENGTH(passed),
+    return ponguriena_send_step(REFEREE, world, LENGTH(world), sender, LENGTH(sender), map.width,
+                                map.height, map.tiles, map.length, records, LENGTH(records),
+                                removed, LENGTH(removed), &removed_count, passed, LENGTH(passed),
                                 &passed_count);
 }
 
 static uint32_t send_leave(int32_t id) {
-    return ponguriena_send_leave(world, LENGTH(world), sender, LENGTH(sender), id, passed,
+    return ponguriena_send_leave(REFEREE, world, LENGTH(world), sender, LENGTH(sender), id, passed,
                                  LENGTH(passed), &passed_count);
 }
 
 static uint32_t send_tune(int32_t index, int32_t hundredths) {
-    return ponguriena_send_tune(world, LENGTH(world), sender, LENGTH(sender), index, hundredths,
-                                passed, LENGTH(passed), &passed_count);
+    return ponguriena_send_tune(REFEREE, world, LENGTH(world), sender, LENGTH(sender), index,
+                                hundredths, passed, LENGTH(passed), &passed_count);
 }
 
 static uint32_t shown(int32_t id, int32_t *record) {
@@ -129,7 +132,7 @@ static void a_fall(void) {
     same_numbers("published", records + 3 * PONGURIENA_PUBLISHED + 1, fallen, LENGTH(fallen));
     same_numbers("in the world", world + PONGURIENA_TUNINGS + 3 * PONGURIENA_SEAT + 1, fallen,
                  LENGTH(fallen));
-    same("record", ponguriena_record(world, LENGTH(world), 3, record, LENGTH(record)),
+    same("record", ponguriena_record(REFEREE, world, LENGTH(world), 3, record, LENGTH(record)),
          PONGURIENA_ACCEPTED);
     same_numbers("record", record, fallen, LENGTH(fallen));
 }
@@ -139,19 +142,22 @@ static void an_input(void) {
     static const int32_t told[] = {-1, 30, -40, 1, 2};
     int32_t read[PONGURIENA_INPUT];
     same("input", input(3, told), PONGURIENA_ACCEPTED);
-    same("player_input", ponguriena_player_input(world, LENGTH(world), 3, read, LENGTH(read)),
+    same("player_input",
+         ponguriena_player_input(REFEREE, world, LENGTH(world), 3, read, LENGTH(read)),
          PONGURIENA_ACCEPTED);
     same_numbers("player_input", read, told, LENGTH(told));
 }
 
 static void tunings(void) {
     int32_t hundredths = 0;
-    same("tuning", ponguriena_tuning(world, LENGTH(world), 8, &hundredths), PONGURIENA_ACCEPTED);
+    same("tuning", ponguriena_tuning(REFEREE, world, LENGTH(world), 8, &hundredths),
+         PONGURIENA_ACCEPTED);
     same("hook length", hundredths, 38000);
     same("tune", tune(8, -5), PONGURIENA_ACCEPTED);
-    same("tuning", ponguriena_tuning(world, LENGTH(world), 8, &hundredths), PONGURIENA_ACCEPTED);
+    same("tuning", ponguriena_tuning(REFEREE, world, LENGTH(world), 8, &hundredths),
+         PONGURIENA_ACCEPTED);
     same("hook length after", hundredths, -5);
-    same("tuning 18", ponguriena_tuning(world, LENGTH(world), 18, &hundredths),
+    same("tuning 18", ponguriena_tuning(REFEREE, world, LENGTH(world), 18, &hundredths),
          PONGURIENA_BAD_TUNING);
     same("tune -1", tune(-1, 0), PONGURIENA_BAD_TUNING);
 }
@@ -165,41 +171,44 @@ static void refusals(void) {
     same("join without a map", join(NO_MAP, NO_SEAT, 0, 0), PONGURIENA_BAD_MAP);
     same("step without a map", step(NO_MAP), PONGURIENA_BAD_MAP);
     same("join of no seat", join(FLOOR, NO_SEAT, 100001, 0), PONGURIENA_BAD_ID);
-    same("leave of -1", ponguriena_leave(world, LENGTH(world), -1), PONGURIENA_BAD_ID);
+    same("leave of -1", ponguriena_leave(REFEREE, world, LENGTH(world), -1), PONGURIENA_BAD_ID);
     same("join far away", join(FLOOR, 3, 48, -100001), PONGURIENA_OUT_OF_REACH);
     same("join in the floor", join(FLOOR, 3, 48, 64), PONGURIENA_NOT_CLEAR);
     same("join again", join(FLOOR, 3, 48, 48), PONGURIENA_PRESENT);
-    same("leave of 4", ponguriena_leave(world, LENGTH(world), 4), PONGURIENA_ABSENT);
+    same("leave of 4", ponguriena_leave(REFEREE, world, LENGTH(world), 4), PONGURIENA_ABSENT);
     same("input of 4", input(4, nothing), PONGURIENA_ABSENT);
-    same("record of 4", ponguriena_record(world, LENGTH(world), 4, record, LENGTH(record)),
+    same("record of 4", ponguriena_record(REFEREE, world, LENGTH(world), 4, record, LENGTH(record)),
          PONGURIENA_ABSENT);
     same_numbers("world after refusals", world, before, LENGTH(before));
 }
 
-/* One number less is a wrong length, and is found before all else. */
+/* One number less is a wrong length, and is found before all but the role. */
 static void lengths(void) {
     const size_t less = LENGTH(world) - 1;
     int32_t number = 0;
     same("fresh", ponguriena_fresh(world, less), PONGURIENA_BAD_LENGTH);
-    same("join", ponguriena_join(world, less, 0, 0, OPEN_TILES, 9, NO_SEAT, 0, 0),
+    same("join", ponguriena_join(REFEREE, world, less, 0, 0, OPEN_TILES, 9, NO_SEAT, 0, 0),
          PONGURIENA_BAD_LENGTH);
-    same("leave", ponguriena_leave(world, less, NO_SEAT), PONGURIENA_BAD_LENGTH);
-    same("input", ponguriena_input(world, less, NO_SEAT, 0, 0, 0, 0, 0), PONGURIENA_BAD_LENGTH);
-    same("tune", ponguriena_tune(world, less, 18, 0), PONGURIENA_BAD_LENGTH);
+    same("leave", ponguriena_leave(REFEREE, world, less, NO_SEAT), PONGURIENA_BAD_LENGTH);
+    same("input", ponguriena_input(REFEREE, world, less, NO_SEAT, 0, 0, 0, 0, 0),
+         PONGURIENA_BAD_LENGTH);
+    same("tune", ponguriena_tune(REFEREE, world, less, 18, 0), PONGURIENA_BAD_LENGTH);
     same("step",
-         ponguriena_step(world, LENGTH(world), 0, 0, OPEN_TILES, 9, records, LENGTH(records) - 1,
-                         removed, LENGTH(removed), &removed_count),
+         ponguriena_step(REFEREE, world, LENGTH(world), 0, 0, OPEN_TILES, 9, records,
+                         LENGTH(records) - 1, removed, LENGTH(removed), &removed_count),
          PONGURIENA_BAD_LENGTH);
     same("step with few to remove",
-         ponguriena_step(world, LENGTH(world), 0, 0, OPEN_TILES, 9, records, LENGTH(records),
-                         removed, LENGTH(removed) - 1, &removed_count),
+         ponguriena_step(REFEREE, world, LENGTH(world), 0, 0, OPEN_TILES, 9, records,
+                         LENGTH(records), removed, LENGTH(removed) - 1, &removed_count),
          PONGURIENA_BAD_LENGTH);
-    same("record", ponguriena_record(world, LENGTH(world), NO_SEAT, &number, 1),
+    same("record", ponguriena_record(REFEREE, world, LENGTH(world), NO_SEAT, &number, 1),
          PONGURIENA_BAD_LENGTH);
-    same("player_input", ponguriena_player_input(world, LENGTH(world), NO_SEAT, &number, 1),
+    same("player_input",
+         ponguriena_player_input(REFEREE, world, LENGTH(world), NO_SEAT, &number, 1),
          PONGURIENA_BAD_LENGTH);
-    same("tuning", ponguriena_tuning(world, less, 18, &number), PONGURIENA_BAD_LENGTH);
-    same("mark", ponguriena_floor_mark(world, less, NO_SEAT, &number), PONGURIENA_BAD_LENGTH);
+    same("tuning", ponguriena_tuning(REFEREE, world, less, 18, &number), PONGURIENA_BAD_LENGTH);
+    same("mark", ponguriena_floor_mark(REFEREE, world, less, NO_SEAT, &number),
+         PONGURIENA_BAD_LENGTH);
 }
 
 /* A hook that would fly too far refuses the step. */
@@ -217,7 +226,7 @@ static void a_step_too_far(void) {
 /* Who leaves is as if never there. */
 static void a_leave(void) {
     int32_t left[PONGURIENA_WORLD];
-    same("leave", ponguriena_leave(world, LENGTH(world), 3), PONGURIENA_ACCEPTED);
+    same("leave", ponguriena_leave(REFEREE, world, LENGTH(world), 3), PONGURIENA_ACCEPTED);
     memcpy(left, world, sizeof world);
     same("fresh", fresh(), PONGURIENA_ACCEPTED);
     same_numbers("seats", left + PONGURIENA_TUNINGS, world + PONGURIENA_TUNINGS,
@@ -228,15 +237,18 @@ static void a_leave(void) {
 static void a_floor(void) {
     int32_t mark = -7;
     same("fresh", fresh(), PONGURIENA_ACCEPTED);
-    same("mark of 3", ponguriena_floor_mark(world, LENGTH(world), 3, &mark), PONGURIENA_ABSENT);
-    same("mark of no seat", ponguriena_floor_mark(world, LENGTH(world), NO_SEAT, &mark),
+    same("mark of 3", ponguriena_floor_mark(REFEREE, world, LENGTH(world), 3, &mark),
+         PONGURIENA_ABSENT);
+    same("mark of no seat", ponguriena_floor_mark(REFEREE, world, LENGTH(world), NO_SEAT, &mark),
          PONGURIENA_BAD_ID);
     same("mark after refusals", mark, -7);
     same("join", join(FLOOR, 3, 48, 49), PONGURIENA_ACCEPTED);
-    same("mark", ponguriena_floor_mark(world, LENGTH(world), 3, &mark), PONGURIENA_ACCEPTED);
+    same("mark", ponguriena_floor_mark(REFEREE, world, LENGTH(world), 3, &mark),
+         PONGURIENA_ACCEPTED);
     same("mark after the join", mark, 0);
     same("step", step(FLOOR), PONGURIENA_ACCEPTED);
-    same("mark", ponguriena_floor_mark(world, LENGTH(world), 3, &mark), PONGURIENA_ACCEPTED);
+    same("mark", ponguriena_floor_mark(REFEREE, world, LENGTH(world), 3, &mark),
+         PONGURIENA_ACCEPTED);
     same("mark on the floor", mark, 1);
     same("in the world", world[PONGURIENA_TUNINGS + 4 * PONGURIENA_SEAT - 1], 1);
 }
@@ -258,7 +270,7 @@ static void spikes(void) {
         same("record", records[id * PONGURIENA_PUBLISHED], id == 2 || id == 4 || id == 7);
         same("seat", world[PONGURIENA_TUNINGS + id * PONGURIENA_SEAT], id == 4);
     }
-    same("leave of 7", ponguriena_leave(world, LENGTH(world), 7), PONGURIENA_ABSENT);
+    same("leave of 7", ponguriena_leave(REFEREE, world, LENGTH(world), 7), PONGURIENA_ABSENT);
 }
 
 /* The first holds the last, who leaves. */
@@ -275,11 +287,12 @@ static void the_last_seat(void) {
         same("record", records[id * PONGURIENA_PUBLISHED], id == 0 || id == LAST);
     }
     same("held", records[1 + 8], LAST);
-    same("leave of the last", ponguriena_leave(world, LENGTH(world), LAST), PONGURIENA_ACCEPTED);
-    same("record of 0", ponguriena_record(world, LENGTH(world), 0, record, LENGTH(record)),
+    same("leave of the last", ponguriena_leave(REFEREE, world, LENGTH(world), LAST),
+         PONGURIENA_ACCEPTED);
+    same("record of 0", ponguriena_record(REFEREE, world, LENGTH(world), 0, record, LENGTH(record)),
          PONGURIENA_ACCEPTED);
     same("held after the leave", record[8], -1);
-    same("leave again", ponguriena_leave(world, LENGTH(world), LAST), PONGURIENA_ABSENT);
+    same("leave again", ponguriena_leave(REFEREE, world, LENGTH(world), LAST), PONGURIENA_ABSENT);
 }
 
 /* A step is passed along: how many numbers, and what the screen shows of id 3. */
@@ -366,6 +379,70 @@ static void sent_from_spikes(void) {
     same("nothing is shown of the dead", shown(7, record), PONGURIENA_ABSENT);
 }
 
+/* Every call that takes a world, with lengths, ids and a map that would be refused too. */
+static void not_allowed(const char *who, int32_t role) {
+    const size_t less = LENGTH(world) - 1;
+    const uint32_t no = PONGURIENA_NOT_ALLOWED;
+    same(who, ponguriena_join(role, world, less, 0, 0, OPEN_TILES, 9, NO_SEAT, 0, 0), no);
+    same(who, ponguriena_leave(role, world, less, NO_SEAT), no);
+    same(who, ponguriena_input(role, world, less, -1, 0, 0, 0, 0, 0), no);
+    same(who, ponguriena_tune(role, world, less, 18, 0), no);
+    same(who,
+         ponguriena_step(role, world, less, 0, 0, OPEN_TILES, 9, records, 1, removed, 1,
+                         &removed_count),
+         no);
+    same(who, ponguriena_player_input(role, world, less, -1, records, 1), no);
+    same(who, ponguriena_tuning(role, world, less, 18, records), no);
+    same(who, ponguriena_send_leave(role, world, less, sender, 1, -1, passed, 1, &passed_count),
+         no);
+    same(who, ponguriena_send_tune(role, world, less, sender, 1, 18, 0, passed, 1, &passed_count),
+         no);
+    same(who,
+         ponguriena_send_step(role, world, less, sender, 1, 0, 0, OPEN_TILES, 9, records, 1,
+                              removed, 1, &removed_count, passed, 1, &passed_count),
+         no);
+}
+
+/* Records and floor marks, which boards may read. */
+static void not_allowed_to_read(const char *who, int32_t role) {
+    same(who, ponguriena_record(role, world, 0, -1, records, 1), PONGURIENA_NOT_ALLOWED);
+    same(who, ponguriena_floor_mark(role, world, 0, -1, records), PONGURIENA_NOT_ALLOWED);
+}
+
+/* With id 3 present. What is beyond a role leaves every number. */
+static void roles(void) {
+    int32_t before[PONGURIENA_WORLD];
+    int32_t record[PONGURIENA_RECORD];
+    int32_t mark = -7;
+    same("fresh", fresh(), PONGURIENA_ACCEPTED);
+    same("join", join(OPEN, 3, 48, 48), PONGURIENA_ACCEPTED);
+    memcpy(before, world, sizeof world);
+    memset(records, 0, sizeof records);
+    removed_count = passed_count = 77;
+    not_allowed("seat 3", 3);
+    not_allowed("seat 64", NO_SEAT);
+    not_allowed("board", PONGURIENA_BOARD);
+    not_allowed("no role", -3);
+    not_allowed("no role at the end", INT32_MIN);
+    not_allowed_to_read("seat 3", 3);
+    not_allowed_to_read("no role", -3);
+    same_numbers("world after it", world, before, LENGTH(before));
+    same("records after it", records[0], 0);
+    same("counts after it", (int64_t)(removed_count + passed_count), 2 * 77);
+    same("own input", ponguriena_input(3, world, LENGTH(world), 3, 1, 2, 3, 4, 5), 0);
+    same("in the world", world[PONGURIENA_TUNINGS + 4 * PONGURIENA_SEAT - 6], 1);
+    same("input of 4", ponguriena_input(4, world, LENGTH(world), 4, 1, 2, 3, 4, 5),
+         PONGURIENA_ABSENT);
+    same("input of no seat",
+         ponguriena_input(NO_SEAT, world, LENGTH(world), NO_SEAT, 0, 0, 0, 0, 0),
+         PONGURIENA_BAD_ID);
+    same("board reads",
+         ponguriena_record(PONGURIENA_BOARD, world, LENGTH(world), 3, record, LENGTH(record)), 0);
+    same("the y that is read", record[2], 48);
+    same("board reads", ponguriena_floor_mark(PONGURIENA_BOARD, world, LENGTH(world), 3, &mark), 0);
+    same("the mark that is read", mark, 0);
+}
+
 static void points(void) {
     uint32_t tile = 9;
     same("no map", ponguriena_check_point(4, 3, SPIKED_TILES, 9, 70.0f, 40.0f, &tile),
@@ -448,6 +525,7 @@ int main(void) {
     surprises();
     refused_sending();
     sent_from_spikes();
+    roles();
     points();
     walks();
     numbers();

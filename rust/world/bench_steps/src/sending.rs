@@ -5,6 +5,7 @@ use crate::play::{per_step, times};
 use crate::scene::{BLOCKS, ROUNDS, STEPS, Scene};
 use crate::sides::{Numbers, Port, Side};
 use harness::Call;
+use harness::roles::REFEREE;
 use harness::sending::SENDER_NUMBERS;
 use ponguriena::send_buffers::{self, PASSED_NUMBERS};
 use timing::least_times;
@@ -36,15 +37,17 @@ impl<'a> Side<'a> for Sending<'a> {
         let count = match call {
             Call::Step => {
                 let (records, removed) = (&mut port.records, &mut port.removed);
-                let answer = send_buffers::step(world, sender, &port.map, records, removed, passed);
+                let map = &port.map;
+                let answer =
+                    send_buffers::step(REFEREE, world, sender, map, records, removed, passed);
                 answer.map(|counts| {
                     port.count = counts.removed;
                     counts.passed
                 })
             }
-            Call::Leave { id } => send_buffers::leave(world, sender, id, passed),
+            Call::Leave { id } => send_buffers::leave(REFEREE, world, sender, id, passed),
             Call::Tune { index, hundredths } => {
-                send_buffers::tune(world, sender, index, hundredths, passed)
+                send_buffers::tune(REFEREE, world, sender, index, hundredths, passed)
             }
             Call::Join { .. } | Call::Input { .. } => {
                 port.call(call);

@@ -4,6 +4,7 @@ use crate::scene::Scene;
 use harness::encoding::{
     RECORDS_NUMBERS, WORLD_NUMBERS, encoded, encoded_records, encoded_removed,
 };
+use harness::roles::REFEREE;
 use harness::{Call, SEATS};
 use ponguriena::buffers;
 use port_calls::{call_on, lent};
@@ -59,7 +60,7 @@ impl<'a> Side<'a> for Port<'a> {
 
     fn call(&mut self, call: Call) {
         let (records, removed) = (&mut self.records, &mut self.removed);
-        let answer = call_on(&mut self.world, &self.map, call, records, removed);
+        let answer = call_on(REFEREE, &mut self.world, &self.map, call, records, removed);
         self.count = answer.expect("the scene was accepted when it was drawn");
     }
 

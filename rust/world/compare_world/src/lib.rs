@@ -3,11 +3,11 @@
 pub mod any_numbers;
 pub mod arguments;
 pub mod differs;
+pub mod lent_asks;
 pub mod receives;
 pub mod replay;
 pub mod send_calls;
 pub mod send_replay;
 pub mod sequences;
-pub mod single_calls;
 #[cfg(test)]
 mod tests;

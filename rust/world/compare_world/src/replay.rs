@@ -4,6 +4,7 @@ use crate::differs::{Differs, same, same_numbers};
 use harness::encoding::encoded;
 use harness::{Published, SEATS};
 use original::{CORE_NUMBERS, core_numbers, input_numbers};
+use ponguriena::Role::Referee;
 use ponguriena::{Map, Records, World};
 use port_calls::{call, number};
 use record_calls::{Line, Sequence};
@@ -22,12 +23,7 @@ pub fn replay(sequence: &Sequence) -> Result<usize, Differs> {
 }
 
 fn compare_line(world: &mut World, line: &Line) -> Result<(), Differs> {
-    let map = Map {
-        width: line.sides.0,
-        height: line.sides.1,
-        tiles: &line.map.tiles,
-    };
-    let answer = call(world, &map, line.call);
+    let answer = call(world, &lent_map(line), line.call);
     same("answer", number(&answer), line.number())?;
     if let (Ok(Some(records)), Ok(published)) = (answer, &line.answer) {
         same("records", listed(&records), expected(published))?;
@@ -35,6 +31,15 @@ fn compare_line(world: &mut World, line: &Line) -> Result<(), Differs> {
         same("removed", records.removed(), &removed)?;
     }
     same_numbers("world", world.numbers(), &encoded(&line.after))
+}
+
+/// With the sides that the call is told.
+pub fn lent_map(line: &Line) -> Map<'_> {
+    Map {
+        width: line.sides.0,
+        height: line.sides.1,
+        tiles: &line.map.tiles,
+    }
 }
 
 pub fn listed(records: &Records) -> Vec<(i32, [i32; CORE_NUMBERS])> {
@@ -54,8 +59,9 @@ fn compare_readers(world: &World, expected: &harness::World) -> Result<(), Diffe
         let seat = usize::try_from(id).ok();
         let slot = seat.and_then(|seat| expected.slots.get(seat));
         let refusal = slot.map_or(2, |slot| if slot.present { 0 } else { 8 });
-        let (record, input) = (world.record(id), world.player_input(id));
-        let mark = world.floor_mark(id);
+        let record = world.record(Referee, id);
+        let input = world.player_input(Referee, id);
+        let mark = world.floor_mark(Referee, id);
         same("answer of record", number(&record), refusal)?;
         same("answer of player_input", number(&input), refusal)?;
         same("answer of floor_mark", number(&mark), refusal)?;
@@ -72,9 +78,10 @@ fn compare_readers(world: &World, expected: &harness::World) -> Result<(), Diffe
 fn compare_tunings(world: &World, expected: &[i32]) -> Result<(), Differs> {
     for index in (0..=expected.len() as i32).chain(STRANGE) {
         let hundredths = usize::try_from(index).ok().and_then(|n| expected.get(n));
-        same("tuning", world.tuning(index).ok(), hundredths.copied())?;
+        let tuning = world.tuning(Referee, index);
+        same("tuning", tuning.ok(), hundredths.copied())?;
         let refusal = if hundredths.is_some() { 0 } else { 3 };
-        same("answer of tuning", number(&world.tuning(index)), refusal)?;
+        same("answer of tuning", number(&tuning), refusal)?;
     }
     Ok(())
 }

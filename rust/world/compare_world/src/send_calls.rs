@@ -4,9 +4,10 @@ use crate::any_numbers::{self, Numbers, drawn_near};
 use crate::differs::{Differs, same, same_numbers};
 use crate::receives;
 use crate::sequences;
-use harness::draw::any_call;
+use harness::draw::{any_call, any_role};
 use harness::encoding::{RECORDS_NUMBERS, decoded, encoded_records, encoded_removed};
 use harness::rewriting::rewritten;
+use harness::roles::{Ask, REFEREE, check_role};
 use harness::sending::{
     Link, MESSAGE_NUMBERS, SENDER_NUMBERS, Sent, all_numbers, decoded_sender, encoded_screen,
     encoded_sender,
@@ -33,6 +34,8 @@ const _: () = assert!(PASSED_NUMBERS == (1 + 2 * SEATS) * MESSAGE_NUMBERS);
 #[derive(Default)]
 pub struct Tally {
     accepted: usize,
+    /// Refused since the role does not allow them.
+    beyond: usize,
     refused: usize,
     stopped: usize,
     /// Numbers that were passed along.
@@ -90,9 +93,13 @@ pub fn compare(seed: u64, number: u64, tally: &mut Tally) -> Result<(), Differs>
             0 => Call::Step,
             _ => any_call(SEATS, &decoded(&world), &sequence.map, &mut random),
         };
-        let told = |what: Differs| what.at(format!("call {} ({:?})", turn + 1, call.numbers()));
+        let role = drawn_role(call, &mut random);
+        let told = |what: Differs| {
+            let numbers = call.numbers();
+            what.at(format!("call {} (role {role}, {numbers:?})", turn + 1))
+        };
         let before = Left::before(world, sender);
-        let left = compare_call(before, &sequence.map, call, tally).map_err(told)?;
+        let left = compare_call(before, &sequence.map, role, call, tally).map_err(told)?;
         (world, sender) = (left.world, left.sender);
         let passed = &left.passed[..left.count];
         let received = &mut tally.received;
@@ -102,10 +109,24 @@ pub fn compare(seed: u64, number: u64, tally: &mut Tally) -> Result<(), Differs>
     Ok(())
 }
 
+/// The referee more often than not.
+fn drawn_role(call: Call, random: &mut Xorshift) -> i32 {
+    match below(random, 3) {
+        0 => any_role(SEATS, Ask::Call(call), random),
+        _ => REFEREE,
+    }
+}
+
 /// What the port left. Where libtw2 stops nothing is compared.
-fn compare_call(before: Left, map: &Map, call: Call, tally: &mut Tally) -> Result<Left, Differs> {
-    let port = left_by_port(before.clone(), map, call);
-    let Ok(expected) = catch_unwind(|| left_by_original(before, map, call)) else {
+fn compare_call(
+    before: Left,
+    map: &Map,
+    role: i32,
+    call: Call,
+    tally: &mut Tally,
+) -> Result<Left, Differs> {
+    let port = left_by_port(before.clone(), map, role, call);
+    let Ok(expected) = catch_unwind(|| left_by_original(before, map, role, call)) else {
         tally.stopped += 1;
         return Ok(port);
     };
@@ -120,28 +141,31 @@ fn compare_call(before: Left, map: &Map, call: Call, tally: &mut Tally) -> Resul
     tally.numbers += port.count;
     match port.answer {
         0 => tally.accepted += 1,
+        13 => tally.beyond += 1,
         _ => tally.refused += 1,
     }
     Ok(port)
 }
 
 /// Joins and inputs are made on the world alone.
-fn left_by_port(mut left: Left, map: &Map, call: Call) -> Left {
+fn left_by_port(mut left: Left, map: &Map, role: i32, call: Call) -> Left {
     let map = &lent(map);
     let (world, sender) = (&mut left.world, &mut left.sender);
     let (records, removed) = (&mut left.records, &mut left.removed);
+    let passed = &mut left.passed;
     let answer = match call {
-        Call::Leave { id } => send_buffers::leave(world, sender, id, &mut left.passed),
+        Call::Leave { id } => send_buffers::leave(role, world, sender, id, passed),
         Call::Tune { index, hundredths } => {
-            send_buffers::tune(world, sender, index, hundredths, &mut left.passed)
+            send_buffers::tune(role, world, sender, index, hundredths, passed)
         }
-        Call::Step => send_buffers::step(world, sender, map, records, removed, &mut left.passed)
-            .map(|counts| {
+        Call::Step => {
+            send_buffers::step(role, world, sender, map, records, removed, passed).map(|counts| {
                 left.removed_count = counts.removed;
                 counts.passed
-            }),
+            })
+        }
         Call::Join { .. } | Call::Input { .. } => {
-            call_on(world, map, call, records, removed).map(|_| 0)
+            call_on(role, world, map, call, records, removed).map(|_| 0)
         }
     };
     left.answer = number(&answer);
@@ -150,10 +174,11 @@ fn left_by_port(mut left: Left, map: &Map, call: Call) -> Left {
 }
 
 /// A refused call leaves the numbers as they were, also those that no call has left.
-fn left_by_original(before: Left, map: &Map, call: Call) -> Left {
+fn left_by_original(before: Left, map: &Map, role: i32, call: Call) -> Left {
     let mut world = decoded(&before.world);
     let mut sender = decoded_sender(&before.sender);
-    match sender.call(&mut world, map, call) {
+    let allowed = check_role(role, Ask::Call(call));
+    match allowed.and_then(|()| sender.call(&mut world, map, call)) {
         Ok(sent) => {
             let mut left = with_sent(before, call, &sent);
             left.world = rewritten(left.world, call, &world, &sent.published);
@@ -185,6 +210,7 @@ impl Display for Tally {
     fn fmt(&self, formatter: &mut Formatter<'_>) -> Written {
         let Tally {
             accepted,
+            beyond,
             refused,
             stopped,
             numbers,
@@ -192,8 +218,8 @@ impl Display for Tally {
         } = self;
         write!(
             formatter,
-            "{accepted} calls accepted, {refused} refused, {stopped} on which libtw2 stops, \
-             {numbers} numbers passed along; {received}"
+            "{accepted} calls accepted, {beyond} beyond their role, {refused} refused otherwise, \
+             {stopped} on which libtw2 stops, {numbers} numbers passed along; {received}"
         )
     }
 }

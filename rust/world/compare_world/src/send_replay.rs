@@ -2,12 +2,13 @@
 //! types.
 
 use crate::differs::{Differs, same, same_numbers};
-use crate::replay::{STRANGE, expected, listed};
+use crate::replay::{STRANGE, expected, lent_map, listed};
 use harness::encoding::encoded;
+use harness::roles::Ask;
 use harness::sending::{Link, Passed, Sent, all_numbers, encoded_screen, encoded_sender};
-use harness::{Refusal, SEATS};
+use harness::{Call, Refusal, SEATS};
 use original::core_numbers;
-use ponguriena::Map;
+use ponguriena::Role;
 use port_calls::{PortLink, PortSent, number};
 use record_calls::{Line, Sequence};
 use std::fmt::{Display, Formatter, Result as Written};
@@ -16,6 +17,8 @@ use std::fmt::{Display, Formatter, Result as Written};
 #[derive(Default)]
 pub struct Tally {
     calls: usize,
+    /// Calls that a role does not allow, each before one that the referee makes.
+    beyond: usize,
     marks: usize,
     messages: usize,
     removals: usize,
@@ -25,13 +28,36 @@ pub struct Tally {
 pub fn replay(sequence: &Sequence, tally: &mut Tally) -> Result<(), Differs> {
     let (mut port, mut link) = (PortLink::fresh(), Link::fresh());
     for (turn, line) in sequence.lines.iter().enumerate() {
+        let at = |what: Differs| what.at(format!("call {}", turn + 1));
+        compare_refused(&mut port, line, other_role(line.call, turn), &link).map_err(at)?;
         let sent = link.call(&line.told_map(), line.call);
-        compare_line(&mut port, line, &sent, &link)
-            .map_err(|what| what.at(format!("call {}", turn + 1)))?;
+        compare_line(&mut port, line, &sent, &link).map_err(at)?;
         tally.calls += 1;
+        tally.beyond += 1;
         sent.iter().for_each(|sent| tally.add(&sent.passed));
     }
     Ok(())
+}
+
+/// Boards and seats take turns; the seat is not the one that a call names.
+fn other_role(call: Call, turn: usize) -> Role {
+    match (turn % 2, Ask::Call(call).named_id()) {
+        (0, _) => Role::Board,
+        (_, Some(0)) => Role::Seat(1),
+        _ => Role::Seat(0),
+    }
+}
+
+/// Everything stays as it was.
+fn compare_refused(
+    port: &mut PortLink,
+    line: &Line,
+    role: Role,
+    before: &Link,
+) -> Result<(), Differs> {
+    let answer = port.call(role, &lent_map(line), line.call);
+    same("answer to another role", number(&answer), 13)?;
+    compare_numbers(port, before).map_err(|what| what.at("for another role"))
 }
 
 fn compare_line(
@@ -40,23 +66,23 @@ fn compare_line(
     sent: &Result<Sent, Refusal>,
     after: &Link,
 ) -> Result<(), Differs> {
-    let map = Map {
-        width: line.sides.0,
-        height: line.sides.1,
-        tiles: &line.map.tiles,
-    };
-    let answer = port.call(&map, line.call);
+    let answer = port.call(Role::Referee, &lent_map(line), line.call);
     let refusal = sent.as_ref().err().map_or(0, |refusal| refusal.number());
     same("answer", number(&answer), refusal)?;
     if let (Ok(answer), Ok(sent)) = (answer, sent) {
         compare_sent(&answer, sent)?;
     }
+    compare_numbers(port, after)?;
+    compare_shown(port, after)
+}
+
+/// Of the world, the sender and the screen.
+fn compare_numbers(port: &PortLink, after: &Link) -> Result<(), Differs> {
     same_numbers("world", port.world.numbers(), &encoded(&after.world))?;
     let sender = encoded_sender(&after.sender);
     same_numbers("sender", port.sender.numbers(), &sender)?;
     let screen = encoded_screen(&after.screen);
-    same_numbers("screen", port.screen.numbers(), &screen)?;
-    compare_shown(port, after)
+    same_numbers("screen", port.screen.numbers(), &screen)
 }
 
 fn compare_sent(port: &PortSent, sent: &Sent) -> Result<(), Differs> {
@@ -95,6 +121,7 @@ impl Display for Tally {
     fn fmt(&self, formatter: &mut Formatter<'_>) -> Written {
         let Tally {
             calls,
+            beyond,
             marks,
             messages,
             removals,
@@ -102,7 +129,7 @@ impl Display for Tally {
         } = self;
         write!(
             formatter,
-            "{calls} calls, {numbers} numbers passed along, among them {marks} marks, \
+            "{calls} calls, {beyond} beyond a role between them, {numbers} numbers passed along, among them {marks} marks, \
              {messages} messages and {removals} removals"
         )
     }

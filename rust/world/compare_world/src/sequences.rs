@@ -47,7 +47,7 @@ fn wrong_sides(random: &mut Xorshift) -> Sequence {
 }
 
 /// Those of the map more often than not.
-fn sides((width, height): (u32, u32), random: &mut Xorshift) -> (u32, u32) {
+pub fn sides((width, height): (u32, u32), random: &mut Xorshift) -> (u32, u32) {
     let any = random.pattern();
     let wrong = [
         (0, height),

@@ -1,11 +1,15 @@
 //! That the sequences are worth comparing.
 
+use crate::lent_asks::{LENGTHS, drawn_turn};
 use crate::sequences::drawn;
 use harness::draw::FIRST_SEATS;
+use harness::roles::Role;
 use harness::{Call, Published, SEATS};
+use reference::Xorshift;
 use std::collections::BTreeSet;
 
 const SEQUENCES: u64 = 200;
+const TURNS: usize = 40;
 
 #[test]
 fn every_answer_of_a_call_is_drawn() {
@@ -78,6 +82,27 @@ fn some_are_removed() {
 fn held(told: &Published) -> bool {
     let mut records = told.records.iter().flatten();
     records.any(|core| usize::try_from(core.hooked_player).is_ok_and(|id| told.removed[id]))
+}
+
+/// Each call and each read by the referee, a seat, a board and nobody, with what is lent of
+/// the right lengths and of a wrong one.
+#[test]
+fn every_role_asks_everything() {
+    let mut seen = BTreeSet::new();
+    for number in 0..SEQUENCES {
+        let (sequence, mut random) = (drawn(5, number), Xorshift::seeded(number));
+        for _ in 0..TURNS {
+            let turn = drawn_turn(&sequence.world, &sequence.map, &mut random);
+            let role = Role::of(turn.role).map(|role| match role {
+                Role::Seat(_) => "seat",
+                Role::Board => "board",
+                Role::Referee => "referee",
+            });
+            let kind = turn.ask.numbers()[0];
+            seen.insert((kind, role, turn.lengths == LENGTHS));
+        }
+    }
+    assert_eq!(seen.len(), 9 * 4 * 2, "{seen:?}");
 }
 
 #[test]

@@ -122,7 +122,7 @@ pub fn extreme_tuning(index: usize, random: &mut Xorshift) -> i32 {
 }
 
 /// With an argument outside its limits.
-fn wrong_call(seats: usize, random: &mut Xorshift) -> Call {
+pub fn wrong_call(seats: usize, random: &mut Xorshift) -> Call {
     let id = pick(random, &NO_SEATS);
     let far = pick(random, &[100_001, -100_001, i32::MAX, i32::MIN]);
     let (x, y) = pick(random, &[(far, 20), (20, far), (far, far)]);

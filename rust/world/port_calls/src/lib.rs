@@ -6,6 +6,7 @@ pub use sending::{PortLink, PortSent};
 
 use harness::Call;
 use original::input_numbers;
+use ponguriena::Role::Referee;
 use ponguriena::{Map, PlayerInput, Records, Refusal, World, buffers};
 
 /// A map of the harness, as the port takes it.
@@ -17,20 +18,22 @@ pub fn lent(map: &tile_map::Map) -> Map<'_> {
     }
 }
 
-/// Records after an accepted step.
+/// As the referee. Records after an accepted step.
 pub fn call(world: &mut World, map: &Map, call: Call) -> Result<Option<Records>, Refusal> {
     match call {
-        Call::Join { id, x, y } => world.join(map, id, x, y)?,
-        Call::Leave { id } => world.leave(id)?,
-        Call::Input { id, input } => world.input(id, input_of(input))?,
-        Call::Step => return world.step(map).map(Some),
-        Call::Tune { index, hundredths } => world.tune(index, hundredths)?,
+        Call::Join { id, x, y } => world.join(Referee, map, id, x, y)?,
+        Call::Leave { id } => world.leave(Referee, id)?,
+        Call::Input { id, input } => world.input(Referee, id, input_of(input))?,
+        Call::Step => return world.step(Referee, map).map(Some),
+        Call::Tune { index, hundredths } => world.tune(Referee, index, hundredths)?,
     }
     Ok(None)
 }
 
-/// An accepted step writes the records and who is removed. Answers how many they are.
+/// As the role of that number. An accepted step writes the records and who is removed.
+/// Answers how many they are.
 pub fn call_on(
+    role: i32,
     world: &mut [i32],
     map: &Map,
     call: Call,
@@ -38,11 +41,11 @@ pub fn call_on(
     removed: &mut [i32],
 ) -> Result<usize, Refusal> {
     match call {
-        Call::Join { id, x, y } => buffers::join(world, map, id, x, y)?,
-        Call::Leave { id } => buffers::leave(world, id)?,
-        Call::Input { id, input } => buffers::input(world, id, input_of(input))?,
-        Call::Step => return buffers::step(world, map, records, removed),
-        Call::Tune { index, hundredths } => buffers::tune(world, index, hundredths)?,
+        Call::Join { id, x, y } => buffers::join(role, world, map, id, x, y)?,
+        Call::Leave { id } => buffers::leave(role, world, id)?,
+        Call::Input { id, input } => buffers::input(role, world, id, input_of(input))?,
+        Call::Step => return buffers::step(role, world, map, records, removed),
+        Call::Tune { index, hundredths } => buffers::tune(role, world, index, hundredths)?,
     }
     Ok(0)
 }

@@ -2,7 +2,7 @@
 
 use crate::input_of;
 use harness::Call;
-use ponguriena::{Map, Records, Refusal, Screen, Sender, World};
+use ponguriena::{Map, Records, Refusal, Role, Screen, Sender, World};
 
 /// A server's world with its sender, and a screen to which all that is passed along
 /// arrives.
@@ -29,24 +29,31 @@ impl PortLink {
         }
     }
 
-    pub fn call(&mut self, map: &Map, call: Call) -> Result<PortSent, Refusal> {
-        let sent = self.send(map, call)?;
+    pub fn call(&mut self, role: Role, map: &Map, call: Call) -> Result<PortSent, Refusal> {
+        let sent = self.send(role, map, call)?;
         self.screen.receive(map, &sent.passed)?;
         Ok(sent)
     }
 
-    fn send(&mut self, map: &Map, call: Call) -> Result<PortSent, Refusal> {
+    fn send(&mut self, role: Role, map: &Map, call: Call) -> Result<PortSent, Refusal> {
         let (world, sender) = (&mut self.world, &mut self.sender);
         let mut records = None;
         let passed = match call {
-            Call::Join { id, x, y } => world.join(map, id, x, y).map(|()| Vec::new())?,
-            Call::Input { id, input } => world.input(id, input_of(input)).map(|()| Vec::new())?,
-            Call::Leave { id } => sender.leave(world, id)?.numbers().to_vec(),
+            Call::Join { id, x, y } => {
+                world.join(role, map, id, x, y)?;
+                Vec::new()
+            }
+            Call::Input { id, input } => {
+                world.input(role, id, input_of(input))?;
+                Vec::new()
+            }
+            Call::Leave { id } => sender.leave(role, world, id)?.numbers().to_vec(),
             Call::Tune { index, hundredths } => {
-                sender.tune(world, index, hundredths)?.numbers().to_vec()
+                let passed = sender.tune(role, world, index, hundredths)?;
+                passed.numbers().to_vec()
             }
             Call::Step => {
-                let (taken, passed) = sender.step(world, map)?;
+                let (taken, passed) = sender.step(role, world, map)?;
                 records = Some(taken);
                 passed.numbers().to_vec()
             }

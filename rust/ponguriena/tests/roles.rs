@@ -1,0 +1,274 @@
+//! Who may make which call: the safe types for each role, and the calls on lent numbers for
+//! every number that is named as one.
+
+use ponguriena::buffers::{self, RECORDS_NUMBERS, SEATS, WORLD_NUMBERS};
+use ponguriena::send_buffers::{self, PASSED_NUMBERS, SENDER_NUMBERS};
+use ponguriena::{CORE_NUMBERS, INPUT_NUMBERS, Map, PlayerInput, Refusal, Role, Sender, World};
+
+const OPEN: Map = Map {
+    width: 3,
+    height: 3,
+    tiles: &[0; 9],
+};
+
+const NO_MAP: Map = Map { width: 2, ..OPEN };
+
+const HOOK: PlayerInput = PlayerInput {
+    direction: 0,
+    target_x: 1,
+    target_y: 0,
+    jump: 0,
+    hook: 1,
+};
+
+const REFEREE: i32 = Role::Referee.number();
+const BOARD: i32 = Role::Board.number();
+
+/// Of those who are present or not, and one that no seat has.
+const SEAT_ROLES: [Role; 4] = [
+    Role::Seat(1),
+    Role::Seat(9),
+    Role::Seat(64),
+    Role::Seat(255),
+];
+
+/// Numbers that no role has.
+const NO_ROLES: [i32; 4] = [-3, -64, i32::MIN, i32::MIN + 1];
+
+/// Nobody writes this.
+const UNWRITTEN: i32 = -77;
+
+/// The first holds the second.
+fn holding() -> Result<World, Refusal> {
+    let mut world = World::fresh();
+    for (id, x) in [(1, 0), (2, 120)] {
+        world.join(Role::Referee, &OPEN, id, x, 0)?;
+    }
+    world.input(Role::Referee, 1, HOOK)?;
+    for _ in 0..2 {
+        world.step(Role::Referee, &OPEN)?;
+    }
+    Ok(world)
+}
+
+/// The answers to everything but an input and the reads of a board.
+fn answers(world: &mut World, role: Role, map: &Map, id: i32) -> [Result<(), Refusal>; 6] {
+    [
+        world.join(role, map, id, 20, 20),
+        world.leave(role, id),
+        world.tune(role, id, 7),
+        world.step(role, map).map(drop),
+        world.player_input(role, id).map(drop),
+        world.tuning(role, id).map(drop),
+    ]
+}
+
+/// Also where it would be refused for another reason: the map, the id, the index.
+#[test]
+fn seats_and_boards_may_not() -> Result<(), Refusal> {
+    let mut world = holding()?;
+    let before = world.clone();
+    for role in SEAT_ROLES.into_iter().chain([Role::Board]) {
+        for id in [1, 2, 9, 64, -1] {
+            for map in [OPEN, NO_MAP] {
+                let answers = answers(&mut world, role, &map, id);
+                assert_eq!(answers, [Err(Refusal::NotAllowed); 6]);
+            }
+        }
+    }
+    assert_eq!(world, before);
+    Ok(())
+}
+
+#[test]
+fn a_seat_gives_its_own_input_alone() -> Result<(), Refusal> {
+    let mut world = holding()?;
+    let before = world.clone();
+    for role in SEAT_ROLES {
+        for id in [1, 2, 9, 64, -1, -2] {
+            let other = id != role.number();
+            let answer = world.input(role, id, PlayerInput::default());
+            assert_eq!(answer == Err(Refusal::NotAllowed), other);
+            assert_eq!(world.record(role, id), Err(Refusal::NotAllowed));
+            assert_eq!(world.floor_mark(role, id), Err(Refusal::NotAllowed));
+        }
+    }
+    let mut expected = before;
+    expected.input(Role::Referee, 1, PlayerInput::default())?;
+    assert_eq!(world, expected);
+    for (id, refusal) in [
+        (9, Refusal::Absent),
+        (64, Refusal::BadId),
+        (255, Refusal::BadId),
+    ] {
+        let answer = world.input(Role::Seat(id), i32::from(id), HOOK);
+        assert_eq!(answer, Err(refusal));
+    }
+    Ok(())
+}
+
+/// As the referee reads them.
+#[test]
+fn a_board_reads_records_and_floor_marks() -> Result<(), Refusal> {
+    let mut world = holding()?;
+    for id in [1, 2, 9, 63, 64, -1, -2] {
+        let record = world.record(Role::Board, id);
+        assert_eq!(record, world.record(Role::Referee, id));
+        assert_eq!(record.is_ok(), id == 1 || id == 2);
+        let mark = world.floor_mark(Role::Board, id);
+        assert_eq!(mark, world.floor_mark(Role::Referee, id));
+        let answer = world.input(Role::Board, id, HOOK);
+        assert_eq!(answer, Err(Refusal::NotAllowed));
+    }
+    Ok(())
+}
+
+/// Not that of the last step: the record tells a leave at once, and one that is refused has
+/// let nobody go.
+#[test]
+fn a_record_is_of_the_seat_as_it_stands() -> Result<(), Refusal> {
+    let mut world = holding()?;
+    for role in [Role::Seat(2), Role::Board] {
+        assert_eq!(world.leave(role, 2), Err(Refusal::NotAllowed));
+        assert_eq!(world.record(Role::Board, 1)?.hooked_player, 2);
+    }
+    world.leave(Role::Referee, 2)?;
+    let core = world.record(Role::Board, 1)?;
+    assert_eq!((core.hook_state, core.hooked_player), (-1, -1));
+    Ok(())
+}
+
+#[test]
+fn a_sender_calls_as_the_referee() -> Result<(), Refusal> {
+    let (mut world, mut sender) = (holding()?, Sender::fresh());
+    sender.step(Role::Referee, &mut world, &OPEN)?;
+    let before = (world.clone(), sender.clone());
+    for role in SEAT_ROLES.into_iter().chain([Role::Board]) {
+        for id in [1, 9, 64] {
+            let answers = [
+                sender.leave(role, &mut world, id).map(drop),
+                sender.tune(role, &mut world, id, 7).map(drop),
+                sender.step(role, &mut world, &NO_MAP).map(drop),
+                sender.step(role, &mut world, &OPEN).map(drop),
+            ];
+            assert_eq!(answers, [Err(Refusal::NotAllowed); 4]);
+        }
+    }
+    assert_eq!((world, sender), before);
+    Ok(())
+}
+
+/// All that is lent: the world, the sender, and what is written.
+#[derive(Clone, Debug, Eq, PartialEq)]
+struct Lent {
+    world: Vec<i32>,
+    sender: Vec<i32>,
+    written: [Vec<i32>; 5],
+    number: i32,
+}
+
+impl Lent {
+    /// Each so much shorter than it should be.
+    fn shorter(by: usize) -> Lent {
+        let unwritten = |length: usize| vec![UNWRITTEN; length - by];
+        let lengths = [
+            RECORDS_NUMBERS,
+            SEATS,
+            CORE_NUMBERS,
+            INPUT_NUMBERS,
+            PASSED_NUMBERS,
+        ];
+        Lent {
+            world: unwritten(WORLD_NUMBERS),
+            sender: unwritten(SENDER_NUMBERS),
+            written: lengths.map(unwritten),
+            number: UNWRITTEN,
+        }
+    }
+
+    /// Every call but an input, and every read but those of a board.
+    fn answers(&mut self, role: i32, map: &Map, id: i32) -> [Result<(), Refusal>; 9] {
+        let (world, sender) = (&mut self.world, &mut self.sender);
+        let [records, removed, _, input, passed] = &mut self.written;
+        [
+            buffers::join(role, world, map, id, 1 << 30, 0),
+            buffers::leave(role, world, id),
+            buffers::tune(role, world, id, 7),
+            buffers::step(role, world, map, records, removed).map(drop),
+            buffers::player_input(role, world, id, input),
+            buffers::tuning(role, world, id, &mut self.number),
+            send_buffers::leave(role, world, sender, id, passed).map(drop),
+            send_buffers::tune(role, world, sender, id, 7, passed).map(drop),
+            send_buffers::step(role, world, sender, map, records, removed, passed).map(drop),
+        ]
+    }
+
+    fn input(&mut self, role: i32, id: i32) -> Result<(), Refusal> {
+        buffers::input(role, &mut self.world, id, HOOK)
+    }
+
+    fn reads(&mut self, role: i32, id: i32) -> [Result<(), Refusal>; 2] {
+        let [_, _, record, _, _] = &mut self.written;
+        [
+            buffers::record(role, &self.world, id, record),
+            buffers::floor_mark(role, &self.world, id, &mut self.number),
+        ]
+    }
+}
+
+/// Before a wrong length, a map and an id that are none; nothing is written.
+#[test]
+fn not_allowed_comes_first() {
+    for by in [0, 1, 5] {
+        let mut lent = Lent::shorter(by);
+        let before = lent.clone();
+        for role in NO_ROLES.into_iter().chain([BOARD, 0, 63, 64, i32::MAX]) {
+            for id in [0, 63, 64, -1, -3, i32::MIN] {
+                for map in [OPEN, NO_MAP] {
+                    let answers = lent.answers(role, &map, id);
+                    assert_eq!(answers, [Err(Refusal::NotAllowed); 9]);
+                }
+                if role != BOARD {
+                    assert_eq!(lent.reads(role, id), [Err(Refusal::NotAllowed); 2]);
+                }
+                if role != id || role < 0 {
+                    assert_eq!(lent.input(role, id), Err(Refusal::NotAllowed));
+                }
+            }
+        }
+        assert_eq!(lent, before);
+    }
+}
+
+/// Where the role allows it, the length is asked next, then the id.
+#[test]
+fn lengths_come_next() {
+    let mut lent = Lent::shorter(1);
+    let before = lent.clone();
+    assert_eq!(
+        lent.answers(REFEREE, &NO_MAP, -1),
+        [Err(Refusal::BadLength); 9]
+    );
+    for role in [REFEREE, BOARD] {
+        assert_eq!(lent.reads(role, -1), [Err(Refusal::BadLength); 2]);
+    }
+    for id in [0, 64, i32::MAX] {
+        assert_eq!(lent.input(id, id), Err(Refusal::BadLength));
+    }
+    assert_eq!(lent, before);
+    let mut lent = Lent::shorter(0);
+    for id in [64, 65, i32::MAX] {
+        assert_eq!(lent.input(id, id), Err(Refusal::BadId));
+    }
+    assert_eq!(lent.reads(BOARD, -2), [Err(Refusal::BadId); 2]);
+}
+
+/// No seat's number is that of another role.
+#[test]
+fn a_seat_is_no_other_role() {
+    for id in 0..=u8::MAX {
+        let number = Role::Seat(id).number();
+        assert_eq!(number, i32::from(id));
+        assert!(number != REFEREE && number != BOARD);
+    }
+}
