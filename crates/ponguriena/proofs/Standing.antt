@@ -16,11 +16,11 @@ use Rattle.world.specs.declared.reading.Query.{Query}
 use Rattle.world.specs.declared.reading.Reading.{Reading}
 use Rattle.world.specs.declared.reading.Reading.the-variants as reading
 use Rattle.world.specs.declared.Stepped.{Stepped}
-use Rattle.world_roles.specs.Roles.{allowed, roleNumber, mayAsk, calledAs}
-use Rattle.world_roles.specs.declared.Ask.{Ask}
-use Rattle.world_roles.specs.declared.Ask.the-variants as ask
-use Rattle.world_roles.specs.declared.Role.{Role}
-use Rattle.world_roles.specs.declared.Role.the-variants.{Referee, Seat, Board}
+use Rattle.role_rule.specs.Roles.{allowed, roleNumber, mayAsk, calledAs}
+use Rattle.role_rule.specs.declared.Ask.{Ask}
+use Rattle.role_rule.specs.declared.Ask.the-variants as ask
+use Rattle.role_rule.specs.declared.Role.{Role}
+use Rattle.role_rule.specs.declared.Role.the-variants.{Referee, Seat, Board}
 use Rattle.world_numbers.specs.Decoding.{decoding}
 use Rattle.world_buffers.specs.Buffers.{Left, refusedIn}
 use Rattle.world_buffers.specs.Readers.{Told, untold, readingTold, readIn}

@@ -7,8 +7,8 @@ use Rattle.game_refusals.specs.Refusals.{notAllowed}
 use Rattle.world.specs.declared.call.Call.{Call}
 use Rattle.world.specs.declared.call.Call.the-variants.{Step}
 use Rattle.world.specs.declared.reading.Query.{Query}
-use Rattle.world_roles.specs.Roles.{mayAsk}
-use Rattle.world_roles.specs.declared.Ask.the-variants as ask
+use Rattle.role_rule.specs.Roles.{mayAsk}
+use Rattle.role_rule.specs.declared.Ask.the-variants as ask
 use Rattle.world_buffers.specs.Buffers.{Left, refusedIn}
 use Rattle.world_buffers.specs.Readers.{Told, untold}
 use Rattle.world_buffers.specs.Stepping.{StepBuffers, LeftByStep}

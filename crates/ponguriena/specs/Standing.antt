@@ -15,11 +15,11 @@ use Rattle.world.specs.Run.{inputOf, after}
 use Rattle.world.specs.declared.call.Call.{Call}
 use Rattle.world.specs.declared.call.Call.the-variants.{Join, Leave, Input, Step, Tune}
 use Rattle.world.specs.declared.reading.Query.{Query}
-use Rattle.world_roles.specs.Roles.{allowed, roleNumber, mayAsk, calledAs}
-use Rattle.world_roles.specs.Roles as roles
-use Rattle.world_roles.specs.declared.Ask.{Ask}
-use Rattle.world_roles.specs.declared.Ask.the-variants as ask
-use Rattle.world_roles.specs.declared.Role.{Role}
+use Rattle.role_rule.specs.Roles.{allowed, roleNumber, mayAsk, calledAs}
+use Rattle.role_rule.specs.Roles as roles
+use Rattle.role_rule.specs.declared.Ask.{Ask}
+use Rattle.role_rule.specs.declared.Ask.the-variants as ask
+use Rattle.role_rule.specs.declared.Role.{Role}
 use Rattle.world_numbers.specs.Encoding.{worldCount, recordsCount, encoding}
 use Rattle.world_numbers.specs.Decoding.{decoding}
 use Rattle.world_buffers.specs.Buffers.{Left, joinIn, leaveIn, inputIn, tuneIn}

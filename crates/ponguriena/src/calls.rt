@@ -2,9 +2,9 @@
 use game_records::PlayerInput;
 use game_refusals::NOT_ALLOWED;
 use map_tiles::Sides;
+use role_calls::may_ask;
+use role_rule::Ask;
 use world::Call;
-use world_roles::Ask;
-use world_roles::may_ask;
 ghost use mathlib.Core.Path.{_≡_};
 ghost use Rattle.map_tiles.specs.Map.{sidesOf};
 ghost use Rattle.world.specs.Run.{inputOf};

@@ -1,8 +1,8 @@
 // What is read of a world that is kept as the numbers of a lent buffer, by the number of a role.
 use game_refusals::NOT_ALLOWED;
+use role_calls::may_ask;
+use role_rule::Ask;
 use world::Query;
-use world_roles::Ask;
-use world_roles::may_ask;
 ghost use mathlib.Core.List.{[], _∷_};
 ghost use mathlib.Core.Path.{_≡_};
 ghost use Rattle.world.specs.declared.reading.Query.the-variants as query;

@@ -1,9 +1,9 @@
 // A sender beside a world, by the number of a role, and a screen.
 use game_refusals::NOT_ALLOWED;
 use map_tiles::Sides;
+use role_calls::may_ask;
+use role_rule::Ask;
 use world::Call;
-use world_roles::Ask;
-use world_roles::may_ask;
 ghost use mathlib.Core.Path.{_≡_};
 ghost use Rattle.map_tiles.specs.Map.{sidesOf};
 ghost use Rattle.character.specs.Tick.{seats};

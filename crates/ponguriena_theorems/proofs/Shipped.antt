@@ -18,7 +18,7 @@ use Rattle.world_buffers.proofs.Stands.{calls-stand}
 use Rattle.world_buffers.proofs.Refusals.{refusals-leave}
 use Rattle.world_buffers.proofs.Reached.{buffer-follows}
 use Rattle.send_buffers.proofs.Reached.{link-follows}
-use Rattle.world_roles.proofs.Requests.{roles-hold}
+use Rattle.role_rule.proofs.Requests.{roles-hold}
 use Rattle.ponguriena.proofs.Standing.{roles-stand}
 use Rattle.session_laws.proofs.Whole.{whole-output}
 use Rattle.session_laws.proofs.Ends.{play-ends}

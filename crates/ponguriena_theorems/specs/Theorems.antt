@@ -15,7 +15,7 @@ use Rattle.send_alone.specs.Alone.{CopiesAlone}
 use Rattle.world_numbers.specs.Decoding.{ComesBack, AnyComesBack}
 use Rattle.world_buffers.specs.Following.{CallsStand, RefusalsLeave, BufferFollows}
 use Rattle.send_buffers.specs.Following.{LinkFollows}
-use Rattle.world_roles.specs.Requests.{Roles}
+use Rattle.role_rule.specs.Requests.{Roles}
 use Rattle.ponguriena.specs.Standing.{RolesStand}
 use Rattle.session_laws.specs.Played.{WholeOutput, PlayEnds}
 

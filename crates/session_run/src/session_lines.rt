@@ -1,13 +1,13 @@
 // A session, and what the next line of its text does to it.
 use game_refusals::BAD_TEXT;
 use map_tiles::Sides;
+use role_calls::call_as;
+use role_rule::Role;
 use text_reading::CallLine;
 use text_reading::next_call;
 use text_writing::put_answer;
 use text_writing::put_told;
 use world::World;
-use world_roles::Role;
-use world_roles::call_as;
 ghost use mathlib.Core.Path.{_≡_};
 ghost use Prim.Native.Nat.{_+_, _*_, _≤_};
 ghost use lib.ListN.{length};

@@ -5,6 +5,8 @@ mod digest;
 use digest::told_digest;
 use digest::world_digest;
 use map_tiles::Sides;
+use role_calls::call_as;
+use role_rule::Role;
 use test_common::AFTER_MAP;
 use test_common::Counts;
 use test_common::MOST_LINES;
@@ -23,8 +25,6 @@ use world::Call;
 use world::Stepped;
 use world::World;
 use world_calls::fresh;
-use world_roles::Role;
-use world_roles::call_as;
 
 // The length of a line.
 const LINE: usize = 181;

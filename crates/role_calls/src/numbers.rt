@@ -1,9 +1,9 @@
 // A role as one number, as C programs name it.
-use crate::Ask;
-use crate::Role;
 use crate::asking::allowed;
+use role_rule::Ask;
+use role_rule::Role;
 ghost use mathlib.Core.Path.{_≡_};
-ghost use Rattle.world_roles.specs.Roles.{mayAsk};
+ghost use Rattle.role_rule.specs.Roles.{mayAsk};
 
 // The numbers of the two roles that are no seat.
 pub const REFEREE: i32 = -1;

@@ -11,9 +11,9 @@ use borrow.Author.Tests.{le-leb}
 use mir.Facts.{fits-of-lt}
 use mir.Syntax.{w32}
 use mir.Val.{Fits}
-use Rattle.world_roles.specs.Roles.{isId, allowed, mayAsk}
-use Rattle.world_roles.specs.declared.Ask.{Ask}
-use Rattle.world_roles.specs.declared.Role.the-variants.{Seat}
+use Rattle.role_rule.specs.Roles.{isId, allowed, mayAsk}
+use Rattle.role_rule.specs.declared.Ask.{Ask}
+use Rattle.role_rule.specs.declared.Role.the-variants.{Seat}
 
 pub whole : (z : ℤ) → leZ (pos 0) z ≡ true → mag z < 2 ^ 31 → T (nonNeg z) × Fits w32 (natAbs z)
 whole (pos k) e h = (tt, fits-of-lt {w = w32} (lt-of-lt-of-le h (lit≤ tt)))

@@ -1,8 +1,8 @@
 // What each role may ask, and calls and reads by a role.
-use crate::Ask;
-use crate::Role;
 use game_refusals::NOT_ALLOWED;
 use map_tiles::Sides;
+use role_rule::Ask;
+use role_rule::Role;
 use world::Call;
 use world::Query;
 use world::Reading;
@@ -13,7 +13,7 @@ use world_step::refused;
 use world_step::run_call;
 ghost use mathlib.Core.Path.{_≡_};
 ghost use Rattle.character.specs.Tick.{seats};
-ghost use Rattle.world_roles.specs.Roles.{isInputFor, isShown, allowed, calledAs, readAs};
+ghost use Rattle.role_rule.specs.Roles.{isInputFor, isShown, allowed, calledAs, readAs};
 
 pub fn call_as(role: Role, world: World, sides: Sides, tiles: &[u8], call: Call) -> Stepped
     ensures { λ r. ⌜ r ≡ calledAs seats role sides (now (tiles .entry)) world call ⌝ }

@@ -1,10 +1,10 @@
--- `world_roles::asking::is_input_for` meets its contract. Assumes nothing.
+-- `role_calls::asking::is_input_for` meets its contract. Assumes nothing.
 use mathlib.Core.Path.{_∙_}
 use Rattle.num_convert.proofs.Signed.{read}
-use Rattle.world_roles.proofs.Ids.{whole, id-is, no-id}
+use Rattle.role_calls.proofs.Ids.{whole, id-is, no-id}
 use borrow.Author.Needs.{needs}
-use Rattle.world_roles.proofs.asking.is_input_for.Statement.{statement}
-use Rattle.world_roles.proofs.asking.is_input_for.Tie as tie
+use Rattle.role_calls.proofs.asking.is_input_for.Statement.{statement}
+use Rattle.role_calls.proofs.asking.is_input_for.Tie as tie
 
 enum-told : tie.Need-enum-told
 enum-told c = search needs

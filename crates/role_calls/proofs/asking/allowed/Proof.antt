@@ -1,7 +1,7 @@
--- `world_roles::asking::allowed` meets its contract. Assumes nothing.
+-- `role_calls::asking::allowed` meets its contract. Assumes nothing.
 use borrow.Author.Needs.{needs}
-use Rattle.world_roles.proofs.asking.allowed.Statement.{statement}
-use Rattle.world_roles.proofs.asking.allowed.Tie as tie
+use Rattle.role_calls.proofs.asking.allowed.Statement.{statement}
+use Rattle.role_calls.proofs.asking.allowed.Tie as tie
 
 enum-told : tie.Need-enum-told
 enum-told c = search needs

@@ -1,15 +1,15 @@
--- `world_roles::numbers::may_ask` meets its contract. Assumes nothing.
+-- `role_calls::numbers::may_ask` meets its contract. Assumes nothing.
 use mathlib.Core.Path.{_≡_, sym, ap, _∙_}
 use lib.IntN.{ℤ, negsuc, natAbs}
 use mir.Facts.{toZ-ofZ}
 use mir.Syntax.{w32}
 use mir.Val.{toZ, ofZ}
-use Rattle.world_roles.specs.Roles.{allowed, mayAsk}
-use Rattle.world_roles.specs.declared.Role.the-variants.{Seat}
-use Rattle.world_roles.proofs.Ids.{whole, seat-asks, nobody-asks}
+use Rattle.role_rule.specs.Roles.{allowed, mayAsk}
+use Rattle.role_rule.specs.declared.Role.the-variants.{Seat}
+use Rattle.role_calls.proofs.Ids.{whole, seat-asks, nobody-asks}
 use borrow.Author.Needs.{needs}
-use Rattle.world_roles.proofs.numbers.may_ask.Statement.{statement}
-use Rattle.world_roles.proofs.numbers.may_ask.Tie as tie
+use Rattle.role_calls.proofs.numbers.may_ask.Statement.{statement}
+use Rattle.role_calls.proofs.numbers.may_ask.Tie as tie
 
 cast-t4 : tie.Need-cast-t4
 cast-t4 c =

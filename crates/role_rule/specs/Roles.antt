@@ -17,10 +17,10 @@ use Rattle.world.specs.declared.reading.Reading.{Reading}
 use Rattle.world.specs.declared.reading.Reading.the-variants as reading
 use Rattle.world.specs.declared.Stepped.{Stepped}
 use Rattle.world.specs.declared.World.{World}
-use Rattle.world_roles.specs.declared.Ask.{Ask}
-use Rattle.world_roles.specs.declared.Ask.the-variants as ask
-use Rattle.world_roles.specs.declared.Role.{Role}
-use Rattle.world_roles.specs.declared.Role.the-variants.{Referee, Seat, Board}
+use Rattle.role_rule.specs.declared.Ask.{Ask}
+use Rattle.role_rule.specs.declared.Ask.the-variants as ask
+use Rattle.role_rule.specs.declared.Role.{Role}
+use Rattle.role_rule.specs.declared.Role.the-variants.{Referee, Seat, Board}
 
 -- ---- what each may ask
 

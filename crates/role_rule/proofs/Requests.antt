@@ -27,12 +27,12 @@ use Rattle.world.specs.declared.Stepped.{Stepped}
 use Rattle.world.specs.declared.World.{World}
 use Rattle.world.proofs.Outcomes.{Seated, input-outcome, outcome-kept}
 use Rattle.world.proofs.Seats.{present-within}
-use Rattle.world_roles.specs.Roles.{isId, allowed}
-use Rattle.world_roles.specs.Requests.{Request, Said, called, read, Reply, replyTo, replied, worldAfter, saidTo, isAllowed, struckOut, saidToOthers, refusedAs, BeyondRefused, CountsForNothing, withStored, SeatsOwn, BoardsNothing, byReferee, RefereeAsBefore, Roles}
-use Rattle.world_roles.specs.declared.Ask.{Ask}
-use Rattle.world_roles.specs.declared.Ask.the-variants as ask
-use Rattle.world_roles.specs.declared.Role.{Role}
-use Rattle.world_roles.specs.declared.Role.the-variants.{Seat, Board}
+use Rattle.role_rule.specs.Roles.{isId, allowed}
+use Rattle.role_rule.specs.Requests.{Request, Said, called, read, Reply, replyTo, replied, worldAfter, saidTo, isAllowed, struckOut, saidToOthers, refusedAs, BeyondRefused, CountsForNothing, withStored, SeatsOwn, BoardsNothing, byReferee, RefereeAsBefore, Roles}
+use Rattle.role_rule.specs.declared.Ask.{Ask}
+use Rattle.role_rule.specs.declared.Ask.the-variants as ask
+use Rattle.role_rule.specs.declared.Role.{Role}
+use Rattle.role_rule.specs.declared.Role.the-variants.{Seat, Board}
 
 module _ (n : ℕ) (s : Sides) (ts : List ℕ) where
   -- ---- beyond its role

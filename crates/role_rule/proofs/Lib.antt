@@ -1,2 +1,1 @@
-pub mod Ids
 pub mod Requests
