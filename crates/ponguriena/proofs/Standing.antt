@@ -2,7 +2,7 @@
 use Prim.Native.Nat.{ℕ, zero, suc}
 use mathlib.Core.Bool.{Bool, true, false, cond}
 use mathlib.Core.List.{List, [], _∷_}
-use mathlib.Core.Path.{_≡_, refl, sym, ap, _∙_}
+use mathlib.Core.Path.{_≡_, refl, ap, _∙_}
 use lib.IntN.{ℤ, pos, negsuc}
 use Rattle.game_refusals.specs.Refusals.{notAllowed}
 use Rattle.map_tiles.specs.declared.tiles.Sides.{Sides}
@@ -12,25 +12,25 @@ use Rattle.world.specs.Run.{ran}
 use Rattle.world.specs.Step.{stepRefused}
 use Rattle.world.specs.declared.call.Call.{Call}
 use Rattle.world.specs.declared.call.Call.the-variants.{Join, Leave, Input, Step, Tune}
-use Rattle.world.specs.declared.reading.Query.{Query}
-use Rattle.world.specs.declared.reading.Reading.{Reading}
 use Rattle.world.specs.declared.reading.Reading.the-variants as reading
-use Rattle.world.specs.declared.Stepped.{Stepped}
-use Rattle.role_rule.specs.Roles.{allowed, roleNumber, mayAsk, calledAs}
+use Rattle.role_rule.specs.Roles.{allowed, roleNumber, mayAsk}
 use Rattle.role_rule.specs.declared.Ask.{Ask}
 use Rattle.role_rule.specs.declared.Ask.the-variants as ask
 use Rattle.role_rule.specs.declared.Role.{Role}
 use Rattle.role_rule.specs.declared.Role.the-variants.{Referee, Seat, Board}
 use Rattle.world_numbers.specs.Decoding.{decoding}
-use Rattle.world_buffers.specs.Buffers.{Left, refusedIn}
-use Rattle.world_buffers.specs.Readers.{Told, untold, readingTold, readIn}
-use Rattle.world_buffers.specs.Stepping.{StepBuffers, LeftByStep, stepIn}
-use Rattle.world_buffers.specs.Following.{leftOf, leftBy, leftByAll, CallsStand}
+use Rattle.world_buffers.specs.Buffers.{Left, refusedIn, leaveIn, tuneIn}
+use Rattle.world_buffers.specs.Readers.{untold, readingTold, readIn}
+use Rattle.world_buffers.specs.Stepping.{StepBuffers, stepIn}
+use Rattle.world_buffers.specs.Following.{leftOf, leftBy, leftByAll}
+use Rattle.send_buffers.specs.Sends.{LeftBySend, LeftBySendStep, sendIn, sendStepIn}
+use Rattle.send_buffers.specs.Following.{LinkNumbers, Lent, senderLent, afterSend, afterStep, linkLeft, linkLeftAll}
+use Rattle.send_buffers.proofs.Reached.{link-follows}
 use Rattle.world_buffers.proofs.Readings.{right-lengths}
 use Rattle.world_buffers.proofs.Stands.{calls-stand}
 use Rattle.world_buffers.proofs.Reached.{buffer-follows}
-use Rattle.ponguriena.specs.ByRole.{callAs, stepAs, readAs}
-use Rattle.ponguriena.specs.Standing.{RoleNumbers, leftAs, StandsAs, RoleCallsStand, RoleReadsStand, RoleCall, leftAsAll, allowedCalls, RoleBufferFollows, RolesStand}
+use Rattle.ponguriena.specs.ByRole.{callAs, stepAs}
+use Rattle.ponguriena.specs.Standing.{leftAs, StandsAs, RoleReadsStand, RoleCall, leftAsAll, allowedCalls, linkLeftAs, linkLeftAsAll, RolesStand}
 
 -- ---- the number of a role
 role-asks : (r : Role) (a : Ask) → mayAsk (roleNumber r) a ≡ allowed r a
@@ -89,6 +89,37 @@ module _ (s : Sides) (ts : List ℕ) (b : StepBuffers) where
       go true h = h (leftBy s ts b l (r .call) .world)
       go false h = h l
 
+-- ---- beside a sender and a screen
+module _ (s : Sides) (ts : List ℕ) (b : Lent) where
+  -- a call on the world alone
+  alone-left : (role : ℤ) (x : LinkNumbers) (c : Call) (m : Bool) → mayAsk role (ask.Call c) ≡ m → record { world = leftAs s ts (b .told) role (x .world) c .world; sender = x .sender; screen = x .screen } ≡ cond m (record { world = leftBy s ts (b .told) (x .world) c .world; sender = x .sender; screen = x .screen }) x
+  alone-left role x c true e = ap (λ (y : Left). record { world = y .world; sender = x .sender; screen = x .screen }) (left-as s ts (b .told) role (x .world) c ∙ ap (λ (k : Bool). cond k (leftBy s ts (b .told) (x .world) c) (refusedIn (x .world) notAllowed)) e)
+  alone-left role x c false e = ap (λ (y : Left). record { world = y .world; sender = x .sender; screen = x .screen }) (left-as s ts (b .told) role (x .world) c ∙ ap (λ (k : Bool). cond k (leftBy s ts (b .told) (x .world) c) (refusedIn (x .world) notAllowed)) e)
+
+  -- a leave or a tune, and a step
+  sent-left : (x : LinkNumbers) (y : LeftBySend) (m : Bool) → afterSend s ts b x (cond m y (record { left = refusedIn (x .world) notAllowed; sent = senderLent b x })) ≡ cond m (afterSend s ts b x y) x
+  sent-left x y true = refl
+  sent-left x y false = refl
+
+  stepped-left : (x : LinkNumbers) (y : LeftBySendStep) (m : Bool) → afterStep s ts b x (cond m y (record { left = record { number = notAllowed; world = x .world; told = b .told }; sent = senderLent b x })) ≡ cond m (afterStep s ts b x y) x
+  stepped-left x y true = refl
+  stepped-left x y false = refl
+
+  link-left : (role : ℤ) (x : LinkNumbers) (c : Call) → linkLeftAs s ts b role x c ≡ cond (mayAsk role (ask.Call c)) (linkLeft s ts b x c) x
+  link-left role x (Join id u v) = alone-left role x (Join id u v) (mayAsk role (ask.Call (Join id u v))) refl
+  link-left role x (Leave id) = sent-left x (sendIn (Leave id) (leaveIn (x .world) id) (x .world) (senderLent b x)) (mayAsk role (ask.Call (Leave id)))
+  link-left role x (Input id d u v j h) = alone-left role x (Input id d u v j h) (mayAsk role (ask.Call (Input id d u v j h))) refl
+  link-left role x (Tune index z) = sent-left x (sendIn (Tune index z) (tuneIn (x .world) index z) (x .world) (senderLent b x)) (mayAsk role (ask.Call (Tune index z)))
+  link-left role x Step = stepped-left x (sendStepIn s ts (x .world) (b .told) (senderLent b x)) (mayAsk role (ask.Call Step))
+
+  links-allowed : (rs : List RoleCall) (x : LinkNumbers) → linkLeftAsAll s ts b x rs ≡ linkLeftAll s ts b x (allowedCalls rs)
+  links-allowed [] x = refl
+  links-allowed (r ∷ rs) x = ap (λ (y : LinkNumbers). linkLeftAsAll s ts b y rs) (link-left (r .role) x (r .call)) ∙ go (mayAsk (r .role) (ask.Call (r .call))) (links-allowed rs)
+    where
+      go : (m : Bool) → ((y : LinkNumbers) → linkLeftAsAll s ts b y rs ≡ linkLeftAll s ts b y (allowedCalls rs)) → linkLeftAsAll s ts b (cond m (linkLeft s ts b x (r .call)) x) rs ≡ linkLeftAll s ts b x (cond m (r .call ∷ allowedCalls rs) (allowedCalls rs))
+      go true h = h (linkLeft s ts b x (r .call))
+      go false h = h x
+
 -- ---- a read
 reads-stand : RoleReadsStand
 reads-stand role q l out h g = ap (λ (m : Bool). cond m (readIn q l out) (untold out notAllowed)) (role-asks role (ask.Read q)) ∙ go (allowed role (ask.Read q))
@@ -103,4 +134,5 @@ roles-stand = record {
   calls = λ s ts b role l c h g d f. let e = calls-stand s ts b l c h g d f in stands-as s ts b role l c (e .number) (e .world);
   reads = reads-stand;
   follows = λ s ts b rs g d. all-allowed s ts b rs _ ∙ buffer-follows s ts b (allowedCalls rs) g d;
+  links = λ s ts b rs g d e. links-allowed s ts b rs _ ∙ link-follows s ts b (allowedCalls rs) g d e;
 }

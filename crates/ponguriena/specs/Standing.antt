@@ -26,7 +26,11 @@ use Rattle.world_buffers.specs.Buffers.{Left, joinIn, leaveIn, inputIn, tuneIn}
 use Rattle.world_buffers.specs.Readers.{queryCount, readingTold, readIn}
 use Rattle.world_buffers.specs.Stepping.{StepBuffers, stepIn}
 use Rattle.world_buffers.specs.Following.{leftOf}
-use Rattle.ponguriena.specs.ByRole.{callAs, stepAs, readAs}
+use Rattle.send_rule.specs.Link.{freshLink}
+use Rattle.send_numbers.specs.Passing.{passedCount}
+use Rattle.send_buffers.specs.Sends.{sendIn, sendStepIn}
+use Rattle.send_buffers.specs.Following.{LinkNumbers, Lent, linkNumbers, senderLent, afterSend, afterStep, calledAll}
+use Rattle.ponguriena.specs.ByRole.{callAs, stepAs, readAs, sendAs, sendStepAs}
 
 -- ---- the number of a role
 
@@ -79,9 +83,29 @@ allowedCalls (r ∷ rs) = cond (mayAsk (r .role) (ask.Call (r .call))) (r .call 
 abbrev pub RoleBufferFollows : Type 0
 RoleBufferFollows = (s : Sides) (ts : List ℕ) (b : StepBuffers) (rs : List RoleCall) → length (b .records) ≡ recordsCount → length (b .removed) ≡ seats → leftAsAll s ts b (encoding (fresh seats)) rs ≡ encoding (after seats s ts (fresh seats) (allowedCalls rs))
 
+-- ---- the same beside a sender and a screen
+
+-- the buffers of all three after a call; joins and inputs are calls on the world alone
+abbrev pub linkLeftAs : Sides → List ℕ → Lent → ℤ → LinkNumbers → Call → LinkNumbers
+linkLeftAs s ts b role x (Join id u v) = record { world = leftAs s ts (b .told) role (x .world) (Join id u v) .world; sender = x .sender; screen = x .screen }
+linkLeftAs s ts b role x (Leave id) = afterSend s ts b x (sendAs role (Leave id) (x .world) (senderLent b x) (sendIn (Leave id) (leaveIn (x .world) id) (x .world) (senderLent b x)))
+linkLeftAs s ts b role x (Input id d u v j h) = record { world = leftAs s ts (b .told) role (x .world) (Input id d u v j h) .world; sender = x .sender; screen = x .screen }
+linkLeftAs s ts b role x (Tune index z) = afterSend s ts b x (sendAs role (Tune index z) (x .world) (senderLent b x) (sendIn (Tune index z) (tuneIn (x .world) index z) (x .world) (senderLent b x)))
+linkLeftAs s ts b role x Step = afterStep s ts b x (sendStepAs role (x .world) (b .told) (senderLent b x) (sendStepIn s ts (x .world) (b .told) (senderLent b x)))
+
+-- after all calls of a list
+abbrev pub linkLeftAsAll : Sides → List ℕ → Lent → LinkNumbers → List RoleCall → LinkNumbers
+linkLeftAsAll s ts b x [] = x
+linkLeftAsAll s ts b x (r ∷ rs) = linkLeftAsAll s ts b (linkLeftAs s ts b (r .role) x (r .call)) rs
+
+-- the numbers of a fresh link become those of the link after the allowed calls
+abbrev pub RoleLinkFollows : Type 0
+RoleLinkFollows = (s : Sides) (ts : List ℕ) (b : Lent) (rs : List RoleCall) → length (b .told .records) ≡ recordsCount → length (b .told .removed) ≡ seats → length (b .passed) ≡ passedCount → linkLeftAsAll s ts b (linkNumbers (freshLink seats)) rs ≡ linkNumbers (calledAll seats s ts (freshLink seats) (allowedCalls rs))
+
 -- request 8 on numbers
 pub record RolesStand : Type 0 where
   pub numbers : RoleNumbers
   pub calls : RoleCallsStand
   pub reads : RoleReadsStand
   pub follows : RoleBufferFollows
+  pub links : RoleLinkFollows

@@ -14,7 +14,6 @@ use Rattle.map_tiles.specs.declared.tiles.Sides.{Sides}
 use Rattle.character.specs.Slot.{withInput}
 use Rattle.character.specs.Tick.{slotAt, nowhere}
 use Rattle.character.specs.declared.Slot.{Slot}
-use Rattle.world.specs.World.{withSlot}
 use Rattle.world.specs.Calls.{placeOf, input}
 use Rattle.world.specs.Readers.{readOf}
 use Rattle.world.specs.Run.{inputOf, ran, after, toldBy, told}
@@ -22,13 +21,12 @@ use Rattle.world.specs.Step.{stepRefused}
 use Rattle.world.specs.declared.call.Call.{Call}
 use Rattle.world.specs.declared.call.Call.the-variants.{Join, Leave, Input, Step, Tune}
 use Rattle.world.specs.declared.reading.Reading.the-variants as reading
-use Rattle.world.specs.declared.Answer.{Answer}
 use Rattle.world.specs.declared.Stepped.{Stepped}
 use Rattle.world.specs.declared.World.{World}
-use Rattle.world.proofs.Outcomes.{Seated, input-outcome, outcome-kept}
+use Rattle.world.proofs.Outcomes.{input-outcome, outcome-kept}
 use Rattle.world.proofs.Seats.{present-within}
 use Rattle.role_rule.specs.Roles.{isId, allowed}
-use Rattle.role_rule.specs.Requests.{Request, Said, called, read, Reply, replyTo, replied, worldAfter, saidTo, isAllowed, struckOut, saidToOthers, refusedAs, BeyondRefused, CountsForNothing, withStored, SeatsOwn, BoardsNothing, byReferee, RefereeAsBefore, Roles}
+use Rattle.role_rule.specs.Requests.{Request, Said, called, read, Reply, replyTo, replied, worldAfter, saidTo, isAllowed, struckOut, saidToOthers, refusedAs, withStored, byReferee, Roles}
 use Rattle.role_rule.specs.declared.Ask.{Ask}
 use Rattle.role_rule.specs.declared.Ask.the-variants as ask
 use Rattle.role_rule.specs.declared.Role.{Role}

@@ -3,7 +3,6 @@ use mathlib.Core.Path.{_≡_, sym, ap, _∙_}
 use mir.Facts.{toZ-ofZ}
 use borrow.Author.Tests.{lt-ltb, le-ltb}
 use Rattle.character.specs.Tick.{seats, slotAt}
-use Rattle.character.specs.declared.Slot.{Slot}
 use Rattle.world.specs.Calls.{placeOf}
 use Rattle.world.specs.Readers.{seated}
 use Rattle.world_numbers.specs.Decoding.{decoding}
