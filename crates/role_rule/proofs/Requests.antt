@@ -7,7 +7,7 @@ use mathlib.Core.Path.{_≡_, refl, sym, ap, _∙_, subst}
 use lib.Dec.{ltb}
 use lib.IntN.{ℤ, pos, negsuc}
 use lib.Seq.{set-getD, getD-set-same}
-use borrow.Author.Tests.{eqb-true}
+use borrow.Author.Tests.{eqb-true, eq-eqb}
 use Rattle.game_refusals.specs.Refusals.{notAllowed}
 use Rattle.game_records.specs.declared.PlayerInput.{PlayerInput}
 use Rattle.map_tiles.specs.declared.tiles.Sides.{Sides}
@@ -30,7 +30,7 @@ use Rattle.role_rule.specs.Requests.{Request, Said, called, read, Reply,
 use Rattle.role_rule.specs.declared.Ask.{Ask}
 use Rattle.role_rule.specs.declared.Ask.the-variants as ask
 use Rattle.role_rule.specs.declared.Role.{Role}
-use Rattle.role_rule.specs.declared.Role.the-variants.{Seat, Board}
+use Rattle.role_rule.specs.declared.Role.the-variants.{Referee, Seat, Board}
 
 module _ (n : ℕ) (s : Sides) (ts : List ℕ) where
   -- ---- beyond its role
@@ -44,6 +44,10 @@ module _ (n : ℕ) (s : Sides) (ts : List ℕ) where
 
   beyond-world : (w : World) (r : Request) → isAllowed r ≡ false → replied n s ts w r .world ≡ w
   beyond-world w r e = ap (λ (a : Reply). a .world) (beyond w (r .role) (r .ask) e) ∙ refused-world w (r .ask)
+
+  within : (w : World) (role : Role) (a : Ask) → allowed role a ≡ true → replyTo n s ts w role a ≡ replyTo n s ts w Referee a
+  within w role (ask.Call c) e = ap (λ (b : Bool). let a = cond b (ran n s ts w c) (stepRefused n w notAllowed) in record { said = called (toldBy a); world = a .world }) e
+  within w role (ask.Read q) e = ap (λ (b : Bool). record { said = read (cond b (readOf n w q) (reading.Refused notAllowed)); world = w }) e
 
   -- ---- struck out
   world-struck : (rs : List Request) (w : World) → worldAfter n s ts w rs ≡ worldAfter n s ts w (struckOut rs)
@@ -121,5 +125,7 @@ roles-hold n = record {
   nothing = record { world = λ s ts w rs. world-struck n s ts rs w; said = λ s ts w rs. said-struck n s ts rs w };
   own = λ s ts. seat-own n s ts;
   boards = λ s ts. board-nothing n s ts;
+  may = λ k d x y j h. eq-eqb k k refl;
+  within = λ s ts. within n s ts;
   referee = record { world = λ s ts w cs. referee-world n s ts cs w; said = λ s ts w cs. referee-said n s ts cs w; reads = λ w q. refl };
 }

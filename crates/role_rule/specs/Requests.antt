@@ -1,8 +1,9 @@
 -- What a call beyond its role counts for, as claims about whole lists of calls and reads from every world. Definitions only; proofs/Requests.antt proves them.
 use Prim.Native.Nat.{ℕ}
-use mathlib.Core.Bool.{Bool, false, cond}
+use mathlib.Core.Bool.{Bool, true, false, cond}
 use mathlib.Core.List.{List, [], _∷_, map}
 use mathlib.Core.Path.{_≡_}
+use lib.IntN.{ℤ, pos}
 use Rattle.game_refusals.specs.Refusals.{notAllowed}
 use Rattle.game_records.specs.declared.PlayerInput.{PlayerInput}
 use Rattle.map_tiles.specs.declared.tiles.Sides.{Sides}
@@ -13,6 +14,7 @@ use Rattle.world.specs.Readers.{readOf}
 use Rattle.world.specs.Run.{after, Told, toldBy, told}
 use Rattle.world.specs.Step.{stepRefused}
 use Rattle.world.specs.declared.call.Call.{Call}
+use Rattle.world.specs.declared.call.Call.the-variants.{Input}
 use Rattle.world.specs.declared.reading.Query.{Query}
 use Rattle.world.specs.declared.reading.Reading.{Reading}
 use Rattle.world.specs.declared.reading.Reading.the-variants as reading
@@ -111,10 +113,20 @@ pub record RefereeAsBefore (n : ℕ) : Type 0 where
   pub said : (s : Sides) (ts : List ℕ) (w : World) (cs : List Call) → saidTo n s ts w (byReferee cs) ≡ map called (told n s ts w cs)
   pub reads : (w : World) (q : Query) → readAs n Referee w q ≡ readOf n w q
 
+-- what a role allows is answered as the referee is, so a role that may ask gets all of it
+abbrev pub AllowedAsReferee : ℕ → Type 0
+AllowedAsReferee n = (s : Sides) (ts : List ℕ) (w : World) (role : Role) (a : Ask) → allowed role a ≡ true → replyTo n s ts w role a ≡ replyTo n s ts w Referee a
+
+-- a seat may make input for its own id, whatever it is
+abbrev pub SeatsMay : Type 0
+SeatsMay = (k : ℕ) (d x y j h : ℤ) → allowed (Seat k) (ask.Call (Input (pos k) d x y j h)) ≡ true
+
 -- request 8
 pub record Roles (n : ℕ) : Type 0 where
   pub beyond : BeyondRefused n
   pub nothing : CountsForNothing n
   pub own : SeatsOwn n
   pub boards : BoardsNothing n
+  pub may : SeatsMay
+  pub within : AllowedAsReferee n
   pub referee : RefereeAsBefore n
