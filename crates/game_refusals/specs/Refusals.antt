@@ -53,6 +53,10 @@ badBytes = 12
 abbrev pub notAllowed : ℕ
 notAllowed = 13
 
+-- a rectangle that has no tiles, a rectangle or a tile that reaches outside the map, or totals that are not one entry for each tile
+abbrev pub badArea : ℕ
+badArea = 14
+
 -- a lent buffer of numbers that has another length than it must
 abbrev pub badLength : ℕ
 badLength = 17

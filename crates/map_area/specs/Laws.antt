@@ -1,0 +1,32 @@
+-- What is claimed of the calls. Definitions only; proofs/ proves each.
+use Prim.Native.Nat.{ℕ, suc, _+_, _%_, _^_, _≤_, _<_}
+use mathlib.Core.Bool.{false}
+use mathlib.Core.List.{List}
+use mathlib.Core.Logic.{_⊎_}
+use mathlib.Core.Path.{_≡_}
+use lib.Dec.{T}
+use lib.IntN.{ℤ, pos}
+use Rattle.map_tiles.specs.Map.{isMap, tileIn, solid, count}
+use Rattle.map_tiles.specs.declared.tiles.Sides.{Sides}
+use Rattle.map_area.specs.Area.{solidIn, totalsOf, entryAt, written, changeAt}
+use Rattle.map_area.specs.Calls.{isTotals, isArea, buildIn, areaIn, changeIn}
+
+-- on totals built from this map, the count of every rectangle is the number of solid tiles found by reading them all
+abbrev pub CountsSolid : Type 0
+CountsSolid = (s : Sides) (ts t : List ℕ) (left top columns rows : ℤ) (k : ℕ) → T (isMap s ts) → T (isTotals s t) → T (isArea s left top columns rows) → areaIn s ts (buildIn s ts t .totals) left top columns rows k ≡ record { number = 0; count = solidIn s ts (count left) (count top) (count columns) (count rows) }
+
+-- none are found just where no tile of the rectangle is solid
+abbrev pub ClearArea : Type 0
+ClearArea = (s : Sides) (ts : List ℕ) (left top columns rows : ℕ) → (solidIn s ts left top columns rows ≡ 0 → (i j : ℕ) → i < columns → j < rows → solid (tileIn s ts (left + i) (top + j)) ≡ false) × (((i j : ℕ) → i < columns → j < rows → solid (tileIn s ts (left + i) (top + j)) ≡ false) → solidIn s ts left top columns rows ≡ 0)
+
+-- totals that were right for the map before are right for the changed one
+abbrev pub ChangeFollows : Type 0
+ChangeFollows = (s : Sides) (ts : List ℕ) (column row : ℤ) (byte : ℕ) → T (isMap s ts) → T (isArea s column row (pos 1) (pos 1)) → let after = written s ts (count column) (count row) byte in changeIn s ts (totalsOf s ts) column row byte ≡ record { number = 0; tiles = after; totals = totalsOf s after }
+
+-- whatever the totals held, an entry whose column and row are both the tile's or greater gets the change in its count, and no other is touched
+abbrev pub ChangeReaches : Type 0
+ChangeReaches = (s : Sides) (ts t : List ℕ) (column row : ℤ) (byte c r : ℕ) → T (isMap s ts) → T (isTotals s t) → T (isArea s column row (pos 1) (pos 1)) → c < s .width → r < s .height →
+    let after = written s ts (count column) (count row) byte in
+    let left = changeIn s ts t column row byte .totals in
+    ((count column ≤ c) × (count row ≤ r) → entryAt s left (suc c) (suc r) ≡ (entryAt s t (suc c) (suc r) + changeAt s ts after (count column) (count row)) % 2 ^ 32)
+    × ((c < count column) ⊎ (r < count row) → entryAt s left (suc c) (suc r) ≡ entryAt s t (suc c) (suc r))

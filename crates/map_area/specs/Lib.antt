@@ -1,0 +1,3 @@
+pub mod Area
+pub mod Calls
+pub mod Laws
