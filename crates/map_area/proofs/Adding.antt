@@ -16,8 +16,8 @@ use borrow.Rule.Slice.PartMut.{midOf, putMid, same-len-mid}
 use Rattle.base_rows.specs.Put.{put}
 use Rattle.base_rows.proofs.Puts.{drop-put, put-else}
 use Rattle.map_tiles.specs.declared.tiles.Sides.{Sides}
-use Rattle.map_area.specs.Area.{byTile, added, reached, changedTotals}
-use Rattle.map_area.proofs.Tables.{length-byTile, at-byTile, all-byTile}
+use Rattle.map_totals.specs.Area.{byTile, added, reached, changedTotals}
+use Rattle.map_totals.proofs.Tables.{length-byTile, at-byTile, all-byTile}
 
 -- ---- a part of a list, each element of it replaced
 

@@ -1,8 +1,3 @@
-pub mod Sums
-pub mod Tables
-pub mod Areas
-pub mod Counts
-pub mod Changes
 pub mod Rows
-pub mod Adding
 pub mod Wraps
+pub mod Adding

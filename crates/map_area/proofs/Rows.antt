@@ -11,10 +11,10 @@ use lib.Seq.{take-suc, take-suc-set, getD-take}
 use Rattle.map_tiles.specs.Map.{isMap}
 use Rattle.map_tiles.specs.declared.tiles.Sides.{Sides}
 use Rattle.map_tiles.proofs.Maps.{is-map}
-use Rattle.map_area.specs.Area.{solidAt, sum, solidRow, solidIn, totalsOf, entryAt}
-use Rattle.map_area.proofs.Sums.{sum-le, solid-one, solid-small}
-use Rattle.map_area.proofs.Tables.{place-within}
-use Rattle.map_area.proofs.Counts.{length-totals, at-totals}
+use Rattle.map_totals.specs.Area.{solidAt, sum, solidRow, solidIn, totalsOf, entryAt}
+use Rattle.map_totals.proofs.Sums.{sum-le, solid-one, solid-small}
+use Rattle.map_totals.proofs.Tables.{place-within}
+use Rattle.map_totals.proofs.Counts.{length-totals, at-totals}
 
 module _ (s : Sides) (ts : List ℕ) where
   -- t has the totals of the first k tiles

@@ -2,7 +2,7 @@
 use Prim.Native.Nat.{ℕ, _+_, _%_, _^_, _<_}
 use mathlib.Core.Path.{_≡_}
 use native.Mathlib.Omega.{arith}
-use Rattle.map_area.specs.Area.{minus}
+use Rattle.map_totals.specs.Area.{minus}
 
 -- what b added to wraps back to a
 pub less : (a b x : ℕ) → a < 2 ^ 32 → b < 2 ^ 32 → x < 2 ^ 32 → (x + b) % 2 ^ 32 ≡ a → x ≡ (a + minus b) % 2 ^ 32

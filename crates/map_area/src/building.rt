@@ -10,8 +10,8 @@ ghost use Prim.Native.Nat.{suc, _*_, _<_};
 ghost use lib.Dec.{T};
 ghost use lib.ListN.{length, take};
 ghost use Rattle.map_tiles.specs.Map.{isMap};
-ghost use Rattle.map_area.specs.Area.{solidAt, totalsOf};
-ghost use Rattle.map_area.specs.Calls.{buildIn};
+ghost use Rattle.map_totals.specs.Area.{solidAt, totalsOf};
+ghost use Rattle.map_totals.specs.Calls.{buildIn};
 
 // Builds the totals of a map in a lent buffer, which has one entry for each tile.
 pub fn build(sides: Sides, tiles: &[u8], totals: &mut [u32]) -> u32

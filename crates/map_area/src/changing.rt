@@ -14,8 +14,8 @@ ghost use Prim.Native.Nat.{_*_, _<_};
 ghost use lib.Dec.{T};
 ghost use lib.ListN.{length};
 ghost use Rattle.map_tiles.specs.Map.{isMap};
-ghost use Rattle.map_area.specs.Area.{added, changedTotals};
-ghost use Rattle.map_area.specs.Calls.{changed, changeIn};
+ghost use Rattle.map_totals.specs.Area.{added, changedTotals};
+ghost use Rattle.map_totals.specs.Calls.{changed, changeIn};
 
 // Writes a tile's byte, and adds the change in its count to the totals that it is part of.
 pub fn change(

@@ -9,8 +9,8 @@ use std::num::wrapping_sub_u32;
 ghost use mathlib.Core.Path.{_≡_};
 ghost use Prim.Native.Nat.{_-_, _*_, _≤_};
 ghost use lib.ListN.{length};
-ghost use Rattle.map_area.specs.Area.{entryAt, countIn};
-ghost use Rattle.map_area.specs.Calls.{isSpan, isArea, areaIn};
+ghost use Rattle.map_totals.specs.Area.{entryAt, countIn};
+ghost use Rattle.map_totals.specs.Calls.{isSpan, isArea, areaIn};
 
 // Counts the solid tiles of a rectangle, into a lent place.
 pub fn area(

@@ -6,8 +6,8 @@ use Prim.Native.Nat.{ℕ}
 use denote.Floats.{passes}
 use borrow.Author.Tests.{not-true, not-false}
 use Rattle.map_tiles.specs.Map.{isMap}
-use Rattle.map_area.specs.Calls.{isTotals, buildIn}
-use Rattle.map_area.proofs.Areas.{is-totals, totals-right, totals-wrong}
+use Rattle.map_totals.specs.Calls.{isTotals, buildIn}
+use Rattle.map_totals.proofs.Areas.{is-totals, totals-right, totals-wrong}
 use borrow.Author.Needs.{needs}
 use Rattle.map_area.proofs.building.build.Statement.{statement}
 use Rattle.map_area.proofs.building.build.Tie as tie

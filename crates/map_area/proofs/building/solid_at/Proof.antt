@@ -1,5 +1,5 @@
 -- `map_area::building::solid_at` meets its contract. Assumes nothing.
-use Rattle.map_area.specs.Area.{solidAt}
+use Rattle.map_totals.specs.Area.{solidAt}
 use borrow.Author.Needs.{needs}
 use Rattle.map_area.proofs.building.solid_at.Statement.{statement}
 use Rattle.map_area.proofs.building.solid_at.Tie as tie

@@ -6,10 +6,10 @@ use native.Mathlib.Numerals.{add-one}
 use native.Mathlib.Omega.{arith}
 use borrow.Author.Needs.{needs}
 use lib.ListN.{length-set}
-use Rattle.map_area.specs.Area.{solidRow, entryAt}
+use Rattle.map_totals.specs.Area.{solidRow, entryAt}
 use Rattle.map_tiles.proofs.Maps.{is-map}
-use Rattle.map_area.proofs.Tables.{place-within}
-use Rattle.map_area.proofs.Areas.{map-small}
+use Rattle.map_totals.proofs.Tables.{place-within}
+use Rattle.map_totals.proofs.Areas.{map-small}
 use Rattle.map_area.proofs.Rows.{Upto, row-first, row-next, row-most, total-small, total-next}
 use Rattle.map_area.proofs.building.total_row.Statement.{statement}
 use Rattle.map_area.proofs.building.total_row.Tie as tie

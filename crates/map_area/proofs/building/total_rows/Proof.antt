@@ -6,8 +6,8 @@ use native.Mathlib.Numerals.{add-one}
 use native.Mathlib.Omega.{arith}
 use lib.Seq.{take-all}
 use borrow.Author.Needs.{needs}
-use Rattle.map_area.specs.Area.{totalsOf}
-use Rattle.map_area.proofs.Counts.{length-totals}
+use Rattle.map_totals.specs.Area.{totalsOf}
+use Rattle.map_totals.proofs.Counts.{length-totals}
 use Rattle.map_area.proofs.Rows.{Upto}
 use Rattle.map_area.proofs.building.total_rows.Statement.{statement}
 use Rattle.map_area.proofs.building.total_rows.Tie as tie

@@ -6,7 +6,7 @@ use native.Mathlib.Omega.{arith}
 use lib.ListN.{length, getD, set, length-set}
 use borrow.Author.Needs.{needs}
 use Rattle.base_turns.proofs.Mapped.{replaced, replaced-on, replaced-end}
-use Rattle.map_area.specs.Area.{added}
+use Rattle.map_totals.specs.Area.{added}
 use Rattle.map_area.proofs.changing.add_all.Statement.{statement}
 use Rattle.map_area.proofs.changing.add_all.Tie as tie
 

@@ -7,7 +7,7 @@ use lib.ListN.{length}
 use borrow.Author.Needs.{needs}
 use borrow.Rule.Slice.PartMut.{midOf, putMid}
 use Rattle.map_tiles.specs.Map.{sidesOf}
-use Rattle.map_area.specs.Area.{added}
+use Rattle.map_totals.specs.Area.{added}
 use Rattle.map_area.proofs.Adding.{partly, partly-first, partly-last, partly-next, row-ends, length-partly}
 use Rattle.map_area.proofs.changing.add_from.Statement.{statement}
 use Rattle.map_area.proofs.changing.add_from.Tie as tie

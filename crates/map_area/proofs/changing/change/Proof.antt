@@ -8,8 +8,8 @@ use lib.IntN.{pos}
 use mir.Facts.{toZ-ofZ}
 use borrow.Author.Tests.{not-true, not-false}
 use Rattle.map_tiles.specs.Map.{isMap, count}
-use Rattle.map_area.specs.Calls.{isTotals, isArea, changed, changeIn}
-use Rattle.map_area.proofs.Areas.{is-area, is-totals, totals-right, totals-wrong}
+use Rattle.map_totals.specs.Calls.{isTotals, isArea, changed, changeIn}
+use Rattle.map_totals.proofs.Areas.{is-area, is-totals, totals-right, totals-wrong}
 use borrow.Author.Needs.{needs}
 use Rattle.map_area.proofs.changing.change.Statement.{statement}
 use Rattle.map_area.proofs.changing.change.Tie as tie

@@ -6,10 +6,10 @@ use native.Mathlib.Omega.{arith}
 use lib.ListN.{set}
 use Rattle.map_tiles.specs.Map.{isMap}
 use Rattle.map_tiles.proofs.Maps.{is-map}
-use Rattle.map_area.specs.Area.{solidAt, minus, written, changeAt, changedTotals}
-use Rattle.map_area.specs.Calls.{changed}
-use Rattle.map_area.proofs.Areas.{map-small}
-use Rattle.map_area.proofs.Tables.{place-within}
+use Rattle.map_totals.specs.Area.{solidAt, minus, written, changeAt, changedTotals}
+use Rattle.map_totals.specs.Calls.{changed}
+use Rattle.map_totals.proofs.Areas.{map-small}
+use Rattle.map_totals.proofs.Tables.{place-within}
 use Rattle.map_area.proofs.Wraps.{less}
 use borrow.Author.Needs.{needs}
 use Rattle.map_area.proofs.changing.change_at.Statement.{statement}

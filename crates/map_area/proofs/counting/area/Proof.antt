@@ -7,9 +7,9 @@ use denote.Floats.{passes}
 use mir.Facts.{toZ-ofZ}
 use borrow.Author.Tests.{not-true, not-false}
 use Rattle.map_tiles.specs.Map.{isMap, count}
-use Rattle.map_area.specs.Area.{countIn}
-use Rattle.map_area.specs.Calls.{isArea, areaIn}
-use Rattle.map_area.proofs.Areas.{is-area, is-totals, totals-right, totals-wrong}
+use Rattle.map_totals.specs.Area.{countIn}
+use Rattle.map_totals.specs.Calls.{isArea, areaIn}
+use Rattle.map_totals.proofs.Areas.{is-area, is-totals, totals-right, totals-wrong}
 use borrow.Author.Needs.{needs}
 use Rattle.map_area.proofs.counting.area.Statement.{statement}
 use Rattle.map_area.proofs.counting.area.Tie as tie

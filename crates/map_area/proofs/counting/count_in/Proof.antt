@@ -2,7 +2,7 @@
 use Prim.Native.Nat.{_+_, _-_}
 use mathlib.Core.Path.{_≡_}
 use native.Mathlib.Omega.{arith}
-use Rattle.map_area.specs.Area.{minus, countIn}
+use Rattle.map_totals.specs.Area.{minus, countIn}
 use Rattle.map_area.proofs.Wraps.{less, wraps}
 use borrow.Author.Needs.{needs}
 use Rattle.map_area.proofs.counting.count_in.Statement.{statement}

@@ -1,7 +1,7 @@
 -- `map_area::counting::entry_at` meets its contract. Assumes nothing.
 use native.Mathlib.Omega.{arith}
-use Rattle.map_area.specs.Area.{entryAt}
-use Rattle.map_area.proofs.Tables.{entry-within, entry-place, entry-above}
+use Rattle.map_totals.specs.Area.{entryAt}
+use Rattle.map_totals.proofs.Tables.{entry-within, entry-place, entry-above}
 use borrow.Author.Needs.{needs}
 use Rattle.map_area.proofs.counting.entry_at.Statement.{statement}
 use Rattle.map_area.proofs.counting.entry_at.Tie as tie

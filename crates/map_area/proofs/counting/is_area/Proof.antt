@@ -3,7 +3,7 @@ use mathlib.Core.Path.{_≡_, ap₂, _∙_}
 use lib.IntN.{ℤ}
 use mir.Facts.{toZ-ofZ}
 use borrow.Author.Tests.{not-true, not-false}
-use Rattle.map_area.specs.Calls.{isSpan, isArea}
+use Rattle.map_totals.specs.Calls.{isSpan, isArea}
 use borrow.Author.Needs.{needs}
 use Rattle.map_area.proofs.counting.is_area.Statement.{statement}
 use Rattle.map_area.proofs.counting.is_area.Tie as tie

@@ -11,7 +11,7 @@ use mir.Syntax.{w32}
 use mir.Val.{SFits, toZ, ofZ}
 use mir.Facts.{toZ-ofZ}
 use Rattle.map_tiles.specs.Map.{count}
-use Rattle.map_area.specs.Calls.{isSpan}
+use Rattle.map_totals.specs.Calls.{isSpan}
 use borrow.Author.Needs.{needs}
 use Rattle.map_area.proofs.counting.is_span.Statement.{statement}
 use Rattle.map_area.proofs.counting.is_span.Tie as tie

@@ -9,7 +9,7 @@ use lib.Arith.{digits-lt, digits-div, digits-mod}
 use lib.ListN.{length, getD, length-append, List·getD-append}
 use lib.Seq.{getD-at, ext-getD}
 use Rattle.map_tiles.specs.declared.tiles.Sides.{Sides}
-use Rattle.map_area.specs.Area.{table, byTile, entryAt}
+use Rattle.map_totals.specs.Area.{table, byTile, entryAt}
 
 length-table : (f : ℕ → ℕ) (n : ℕ) → length (table f n) ≡ n
 unfolding table

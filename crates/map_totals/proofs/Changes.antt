@@ -14,16 +14,16 @@ use lib.IntN.{ℤ, pos}
 use lib.ListN.{length, getD}
 use lib.Seq.{getD-set-other}
 use borrow.Author.Tests.{le-leb, lt-leb}
-use Rattle.map_tiles.specs.Map.{isMap, tileIn, solid, tileOfByte, count}
+use Rattle.map_tiles.specs.Map.{isMap, tileIn, count}
 use Rattle.map_tiles.specs.declared.tiles.Sides.{Sides}
 use Rattle.map_tiles.proofs.Maps.{is-map}
-use Rattle.map_area.specs.Area.{solidAt, solidRow, solidIn, totalsOf, entryAt, written, changeAt, added, reached, changedTotals}
-use Rattle.map_area.specs.Calls.{isTotals, isArea, LeftChange, changed, changeIn}
-use Rattle.map_area.specs.Laws.{ChangeFollows, ChangeReaches}
-use Rattle.map_area.proofs.Sums.{sum-same, sum-but-one, solid-one, solid-small}
-use Rattle.map_area.proofs.Tables.{length-byTile, at-byTile, all-byTile}
-use Rattle.map_area.proofs.Areas.{is-area}
-use Rattle.map_area.proofs.Counts.{are-totals, at-totals}
+use Rattle.map_totals.specs.Area.{solidAt, solidRow, solidIn, totalsOf, entryAt, written, changeAt, added, reached, changedTotals}
+use Rattle.map_totals.specs.Calls.{isTotals, isArea, LeftChange, changed, changeIn}
+use Rattle.map_totals.specs.Laws.{ChangeFollows, ChangeReaches}
+use Rattle.map_totals.proofs.Sums.{sum-same, sum-but-one, solid-one, solid-small}
+use Rattle.map_totals.proofs.Tables.{length-byTile, at-byTile, all-byTile}
+use Rattle.map_totals.proofs.Areas.{is-area}
+use Rattle.map_totals.proofs.Counts.{are-totals, at-totals}
 
 -- ---- what is solid in the changed map
 
@@ -31,10 +31,10 @@ module _ (s : Sides) (ts : List ℕ) (column row byte : ℕ) (narrow : column < 
   abbrev after : List ℕ
   after = written s ts column row byte
 
-  -- no other tile is
+  -- no other tile is changed
   else-solid : (c r : ℕ) → c < s .width → (c ≢ column) ⊎ (r ≢ row) → solidAt s after c r ≡ solidAt s ts c r
   unfolding written solidAt tileIn
-  else-solid c r h other = ap (λ (b : ℕ). cond (solid (tileOfByte b)) 1 0) (getD-set-other ts (row * s .width + column) (r * s .width + c) byte 0 apart)
+  else-solid c r h other = rw (getD-set-other ts (row * s .width + column) (r * s .width + c) byte 0 apart) refl
     where
       apart : r * s .width + c ≢ row * s .width + column
       apart e =

@@ -8,8 +8,8 @@ use lib.Dec.{T}
 use lib.IntN.{ℤ, pos}
 use Rattle.map_tiles.specs.Map.{isMap, tileIn, solid, count}
 use Rattle.map_tiles.specs.declared.tiles.Sides.{Sides}
-use Rattle.map_area.specs.Area.{solidIn, totalsOf, entryAt, written, changeAt}
-use Rattle.map_area.specs.Calls.{isTotals, isArea, buildIn, areaIn, changeIn}
+use Rattle.map_totals.specs.Area.{solidIn, totalsOf, entryAt, written, changeAt}
+use Rattle.map_totals.specs.Calls.{isTotals, isArea, buildIn, areaIn, changeIn}
 
 -- on totals built from this map, the count of every rectangle is the number of solid tiles found by reading them all
 abbrev pub CountsSolid : Type 0

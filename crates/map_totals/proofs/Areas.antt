@@ -14,7 +14,7 @@ use lib.ListN.{length}
 use Rattle.map_tiles.specs.Map.{isMap, count}
 use Rattle.map_tiles.specs.declared.tiles.Sides.{Sides}
 use Rattle.map_tiles.proofs.Maps.{is-map}
-use Rattle.map_area.specs.Calls.{isSpan, isArea, isTotals}
+use Rattle.map_totals.specs.Calls.{isSpan, isArea, isTotals}
 
 pub is-span : (from n : ℤ) (side : ℕ) → T (isSpan from n side) → (1 ≤ count n) × (count from + count n ≤ side)
 unfolding isSpan

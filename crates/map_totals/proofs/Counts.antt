@@ -12,12 +12,12 @@ use borrow.Author.Tests.{eq-eqb}
 use Rattle.map_tiles.specs.Map.{isMap, tileIn, solid, count}
 use Rattle.map_tiles.specs.declared.tiles.Sides.{Sides}
 use Rattle.map_tiles.proofs.Maps.{is-map}
-use Rattle.map_area.specs.Area.{solidAt, sum, solidRow, solidIn, totalsOf, entryAt, countIn}
-use Rattle.map_area.specs.Calls.{isTotals, isArea, buildIn, areaIn}
-use Rattle.map_area.specs.Laws.{CountsSolid, ClearArea}
-use Rattle.map_area.proofs.Sums.{solid-none, solid-small, solid-four}
-use Rattle.map_area.proofs.Tables.{length-byTile, at-byTile}
-use Rattle.map_area.proofs.Areas.{is-area}
+use Rattle.map_totals.specs.Area.{solidAt, sum, solidRow, solidIn, totalsOf, entryAt, countIn}
+use Rattle.map_totals.specs.Calls.{isTotals, isArea, buildIn, areaIn}
+use Rattle.map_totals.specs.Laws.{CountsSolid, ClearArea}
+use Rattle.map_totals.proofs.Sums.{solid-none, solid-small, solid-four}
+use Rattle.map_totals.proofs.Tables.{length-byTile, at-byTile}
+use Rattle.map_totals.proofs.Areas.{is-area}
 
 module _ (s : Sides) (ts : List ℕ) where
   pub length-totals : length (totalsOf s ts) ≡ s .width * s .height
@@ -50,7 +50,7 @@ module _ (s : Sides) (ts : List ℕ) where
       let inside = solid-small s ts left top columns rows (omega arith) (omega arith) in
       let near = solid-small s ts 0 0 left (top + rows) (omega arith) (omega arith) in
       let over = solid-small s ts 0 0 (left + columns) top (omega arith) (omega arith) in
-      rw (all, beside, above, both) (omega arith)
+      omega arith
 
 pub counts-solid : CountsSolid
 unfolding buildIn areaIn

@@ -8,7 +8,7 @@ use lib.ListN.{length}
 use Rattle.game_refusals.specs.Refusals.{badMap, badArea}
 use Rattle.map_tiles.specs.Map.{isMap, count}
 use Rattle.map_tiles.specs.declared.tiles.Sides.{Sides}
-use Rattle.map_area.specs.Area.{totalsOf, countIn, written, changeAt, changedTotals}
+use Rattle.map_totals.specs.Area.{totalsOf, countIn, written, changeAt, changedTotals}
 
 -- ---- 14
 

@@ -8,7 +8,7 @@ use native.Mathlib.Nat.{zero-add, add-zero, add-suc, suc-mul, eq-or-lt-of-le, le
 use native.Mathlib.Omega.{arith}
 use Rattle.map_tiles.specs.Map.{tileIn, solid}
 use Rattle.map_tiles.specs.declared.tiles.Sides.{Sides}
-use Rattle.map_area.specs.Area.{solidAt, sum, solidRow, solidIn}
+use Rattle.map_totals.specs.Area.{solidAt, sum, solidRow, solidIn}
 
 -- ---- sums
 

@@ -1,0 +1,5 @@
+pub mod Sums
+pub mod Tables
+pub mod Areas
+pub mod Counts
+pub mod Changes
