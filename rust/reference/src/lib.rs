@@ -4,6 +4,7 @@
 
 mod aim;
 pub mod aim_edges;
+pub mod area;
 mod bits;
 pub mod edges;
 pub mod packed;
