@@ -7,7 +7,7 @@ use map_tiles::is_map;
 use std::num::wrapping_add_u32;
 use std::num::wrapping_sub_u32;
 ghost use mathlib.Core.Path.{_≡_};
-ghost use Prim.Native.Nat.{_-_, _*_, _≤_};
+ghost use Prim.Native.Nat.{_+_, _*_, _≤_};
 ghost use lib.ListN.{length};
 ghost use Rattle.map_totals.specs.Area.{entryAt, countIn};
 ghost use Rattle.map_totals.specs.Calls.{isSpan, isArea, areaIn};
@@ -34,15 +34,13 @@ pub fn area(
     if !is_area(sides, left, top, columns, rows) {
         return BAD_AREA;
     }
-    let l = whole(left) as usize;
-    let t = whole(top) as usize;
     *count = count_in(
         sides,
         totals,
-        l,
-        t,
-        l + whole(columns) as usize,
-        t + whole(rows) as usize,
+        whole(left) as usize,
+        whole(top) as usize,
+        whole(columns) as usize,
+        whole(rows) as usize,
     );
     0
 }
@@ -70,18 +68,20 @@ fn is_span(from: i32, n: i32, side: u32) -> bool
     whole(from) + whole(n) <= side as u64
 }
 
-// The sum and difference of the entries at a rectangle's four corners.
+// The sum and difference of four entries: where the rectangle ends, beside it, above it, and both.
 fn count_in(
     sides: Sides,
     totals: &[u32],
     left: usize,
     top: usize,
-    right: usize,
-    bottom: usize,
+    columns: usize,
+    rows: usize,
 ) -> u32
-    requires { ⌜ (left ≤ right) × (right ≤ sides .width) × (top ≤ bottom) × (bottom ≤ sides .height) × (length (now totals) ≡ sides .width * sides .height) ⌝ }
-    ensures { λ r. ⌜ r ≡ countIn sides (now (totals .entry)) left top (right - left) (bottom - top) ⌝ }
+    requires { ⌜ (left + columns ≤ sides .width) × (top + rows ≤ sides .height) × (length (now totals) ≡ sides .width * sides .height) ⌝ }
+    ensures { λ r. ⌜ r ≡ countIn sides (now (totals .entry)) left top columns rows ⌝ }
 {
+    let right = left + columns;
+    let bottom = top + rows;
     let all = entry_at(sides, totals, right, bottom);
     let beside = entry_at(sides, totals, left, bottom);
     let above = entry_at(sides, totals, right, top);

@@ -19,7 +19,7 @@ pub fn draw_tiles(tiles: &mut [u8], seed: u32) {
     }
 }
 
-// Two in ten are 0, 1, 2 and 3 each or more, one is 255.
+// One in ten is 255, the others are 0 to 3.
 fn drawn_byte(seed: u32, drawn: u32) -> u8 {
     if seed < ALONE {
         return seed as u8;

@@ -12,6 +12,16 @@ use borrow.Author.Needs.{needs}
 use Rattle.map_area.proofs.building.build.Statement.{statement}
 use Rattle.map_area.proofs.building.build.Tie as tie
 
+-- ---- what is known where a refusal is past
+
+the-map : (c : tie.Else1) → let a = c .before .before .before .before .args in isMap (a .sides) (a .tiles .now) ≡ true
+the-map c = sym (c .before .is-map .ensures) ∙ not-false (c .before .is-map .result) (c .if1 .left)
+
+the-totals : (c : tie.Else2) → let a = c .before .before .before .before .before .args in isTotals (a .sides) (a .totals .now) ≡ true
+the-totals c = let a = c .before .before .before .before .before .args in totals-right (a .sides) (a .tiles .now) (a .totals .now) (the-map (c .before)) (c .if2 .left)
+
+-- ---- the needs
+
 is-map-requires : tie.Need-is-map-requires
 is-map-requires c κs = search needs
 
@@ -21,26 +31,19 @@ returns c = simp (← c .before .is-map .ensures, not-true (c .before .is-map .r
 
 returns-2 : tie.Need-returns-2
 unfolding buildIn
-returns-2 c =
-    let a = c .before .before .before .before .before .args in
-    let m : isMap (a .sides) (a .tiles .now) ≡ true = sym (c .before .before .is-map .ensures) ∙ not-false (c .before .before .is-map .result) (c .before .if1 .left) in
-    simp (m, totals-wrong (a .sides) (a .tiles .now) (a .totals .now) m (c .if2 .taken))
+returns-2 c = let a = c .before .before .before .before .before .args in simp (the-map (c .before), totals-wrong (a .sides) (a .tiles .now) (a .totals .now) (the-map (c .before)) (c .if2 .taken))
 
 total-rows-requires : tie.Need-total-rows-requires
 total-rows-requires c κs =
     let a = c .before .before .before .before .before .before .args in
-    let m : isMap (a .sides) (a .tiles .now) ≡ true = sym (c .before .before .before .is-map .ensures) ∙ not-false (c .before .before .before .is-map .result) (c .before .before .if1 .left) in
-    (passes (isMap (a .sides) (a .tiles .now)) m, is-totals (a .sides) (a .totals .now) (passes (isTotals (a .sides) (a .totals .now)) (totals-right (a .sides) (a .tiles .now) (a .totals .now) m (c .before .if2 .left))))
+    (passes (isMap (a .sides) (a .tiles .now)) (the-map (c .before .before)), is-totals (a .sides) (a .totals .now) (passes (isTotals (a .sides) (a .totals .now)) (the-totals (c .before))))
 
 same-length : tie.Need-same-length
 same-length c = search needs
 
 returns-3 : tie.Need-returns-3
 unfolding buildIn
-returns-3 c =
-    let a = c .before .before .before .before .before .before .before .before .before .args in
-    let m : isMap (a .sides) (a .tiles .now) ≡ true = sym (c .before .before .before .before .before .before .is-map .ensures) ∙ not-false (c .before .before .before .before .before .before .is-map .result) (c .before .before .before .before .before .if1 .left) in
-    simp (m, totals-right (a .sides) (a .tiles .now) (a .totals .now) m (c .before .before .before .before .if2 .left)) (ap (λ (t : List ℕ). record { number = 0; totals = t }) (sym (c .before .before .total-rows .ensures)))
+returns-3 c = simp (the-map (c .before .before .before .before .before), the-totals (c .before .before .before .before)) (ap (λ (t : List ℕ). record { number = 0; totals = t }) (sym (c .before .before .total-rows .ensures)))
 
 pub build-spec : {M : Type 1} → statement M
 build-spec =

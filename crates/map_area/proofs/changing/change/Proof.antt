@@ -14,6 +14,27 @@ use borrow.Author.Needs.{needs}
 use Rattle.map_area.proofs.changing.change.Statement.{statement}
 use Rattle.map_area.proofs.changing.change.Tie as tie
 
+-- ---- what is known where a refusal is past
+
+the-map : (c : tie.Else1) → let a = c .before .before .before .before .before .args in isMap (a .sides) (a .tiles .now) ≡ true
+the-map c = sym (c .before .is-map .ensures) ∙ not-false (c .before .is-map .result) (c .if1 .left)
+
+the-totals : (c : tie.Else2) → let a = c .before .before .before .before .before .before .args in isTotals (a .sides) (a .totals .now) ≡ true
+the-totals c = let a = c .before .before .before .before .before .before .args in totals-right (a .sides) (a .tiles .now) (a .totals .now) (the-map (c .before)) (c .if2 .left)
+
+told-area : (c : tie.After-is-area) → let a = c .before .before .before .before .before .before .before .args in c .is-area .result ≡ isArea (a .sides) (a .column) (a .row) (pos 1) (pos 1)
+told-area c = let f = c .before .before .before .before .before .before .before .fits in simp (toZ-ofZ (f .column), toZ-ofZ (f .row)) at (c .is-area .ensures)
+
+the-area : (c : tie.Else3) → let a = c .before .before .before .before .before .before .before .before .args in isArea (a .sides) (a .column) (a .row) (pos 1) (pos 1) ≡ true
+the-area c = sym (told-area (c .before)) ∙ not-false (c .before .is-area .result) (c .if3 .left)
+
+the-counts : (c : tie.After-count2) → let a = c .before .before .before .before .before .before .before .before .before .before .before .before .args in (c .before .count .result ≡ count (a .column)) × (c .count2 .result ≡ count (a .row))
+the-counts c =
+    let f = c .before .before .before .before .before .before .before .before .before .before .before .before .fits in
+    (c .before .count .ensures .0 ∙ ap count (toZ-ofZ (f .column)), c .count2 .ensures .0 ∙ ap count (toZ-ofZ (f .row)))
+
+-- ---- the needs
+
 is-map-requires : tie.Need-is-map-requires
 is-map-requires c κs = search needs
 
@@ -29,10 +50,7 @@ same-length-2 c = search needs
 
 returns-2 : tie.Need-returns-2
 unfolding changeIn
-returns-2 c =
-    let a = c .before .before .before .before .before .before .args in
-    let m : isMap (a .sides) (a .tiles .now) ≡ true = sym (c .before .before .is-map .ensures) ∙ not-false (c .before .before .is-map .result) (c .before .if1 .left) in
-    simp (m, totals-wrong (a .sides) (a .tiles .now) (a .totals .now) m (c .if2 .taken))
+returns-2 c = let a = c .before .before .before .before .before .before .args in simp (the-map (c .before), totals-wrong (a .sides) (a .tiles .now) (a .totals .now) (the-map (c .before)) (c .if2 .taken))
 
 is-area-requires : tie.Need-is-area-requires
 is-area-requires c κs = search needs
@@ -42,13 +60,7 @@ same-length-3 c = search needs
 
 returns-3 : tie.Need-returns-3
 unfolding changeIn
-returns-3 c =
-    let a = c .before .before .before .before .before .before .before .before .args in
-    let m : isMap (a .sides) (a .tiles .now) ≡ true = sym (c .before .before .before .before .is-map .ensures) ∙ not-false (c .before .before .before .before .is-map .result) (c .before .before .before .if1 .left) in
-    let f = c .before .before .before .before .before .before .before .before .fits in
-    let t = totals-right (a .sides) (a .tiles .now) (a .totals .now) m (c .before .before .if2 .left) in
-    let e : c .before .is-area .result ≡ isArea (a .sides) (a .column) (a .row) (pos 1) (pos 1) = simp (toZ-ofZ (f .column), toZ-ofZ (f .row)) at (c .before .is-area .ensures) in
-    simp (m, t, ← e, not-true (c .before .is-area .result) (c .if3 .taken))
+returns-3 c = simp (the-map (c .before .before .before), the-totals (c .before .before), ← told-area (c .before), not-true (c .before .is-area .result) (c .if3 .taken))
 
 count-requires : tie.Need-count-requires
 count-requires c κs = search needs
@@ -65,15 +77,9 @@ cast-change-at-2 c = search needs
 change-at-requires : tie.Need-change-at-requires
 change-at-requires c κs =
     let a = c .before .before .before .before .before .before .before .before .before .before .before .before .args in
-    let m : isMap (a .sides) (a .tiles .now) ≡ true = sym (c .before .before .before .before .before .before .before .before .is-map .ensures) ∙ not-false (c .before .before .before .before .before .before .before .before .is-map .result) (c .before .before .before .before .before .before .before .if1 .left) in
-    let f = c .before .before .before .before .before .before .before .before .before .before .before .before .fits in
-    let t = totals-right (a .sides) (a .tiles .now) (a .totals .now) m (c .before .before .before .before .before .before .if2 .left) in
-    let e : c .before .before .before .before .before .is-area .result ≡ isArea (a .sides) (a .column) (a .row) (pos 1) (pos 1) = simp (toZ-ofZ (f .column), toZ-ofZ (f .row)) at (c .before .before .before .before .before .is-area .ensures) in
-    let d : isArea (a .sides) (a .column) (a .row) (pos 1) (pos 1) ≡ true = sym e ∙ not-false (c .before .before .before .before .before .is-area .result) (c .before .before .before .before .if3 .left) in
-    let x : c .before .count .result ≡ count (a .column) = c .before .count .ensures .0 ∙ ap count (toZ-ofZ (f .column)) in
-    let y : c .count2 .result ≡ count (a .row) = c .count2 .ensures .0 ∙ ap count (toZ-ofZ (f .row)) in
-    let area = is-area (a .sides) (a .column) (a .row) (pos 1) (pos 1) (passes (isArea (a .sides) (a .column) (a .row) (pos 1) (pos 1)) d) in
-    (passes (isMap (a .sides) (a .tiles .now)) m, omega (arith, area .narrow), omega (arith, area .low), is-totals (a .sides) (a .totals .now) (passes (isTotals (a .sides) (a .totals .now)) t))
+    let e = the-counts c in
+    let area = is-area (a .sides) (a .column) (a .row) (pos 1) (pos 1) (passes (isArea (a .sides) (a .column) (a .row) (pos 1) (pos 1)) (the-area (c .before .before .before .before))) in
+    (passes (isMap (a .sides) (a .tiles .now)) (the-map (c .before .before .before .before .before .before .before)), omega (arith, area .narrow), omega (arith, area .low), is-totals (a .sides) (a .totals .now) (passes (isTotals (a .sides) (a .totals .now)) (the-totals (c .before .before .before .before .before .before))))
 
 same-length-4 : tie.Need-same-length-4
 same-length-4 c = search needs
@@ -85,14 +91,8 @@ returns-4 : tie.Need-returns-4
 unfolding changeIn
 returns-4 c =
     let a = c .before .before .before .before .before .before .before .before .before .before .before .before .before .before .before .before .before .args in
-    let m : isMap (a .sides) (a .tiles .now) ≡ true = sym (c .before .before .before .before .before .before .before .before .before .before .before .before .before .is-map .ensures) ∙ not-false (c .before .before .before .before .before .before .before .before .before .before .before .before .before .is-map .result) (c .before .before .before .before .before .before .before .before .before .before .before .before .if1 .left) in
-    let f = c .before .before .before .before .before .before .before .before .before .before .before .before .before .before .before .before .before .fits in
-    let t = totals-right (a .sides) (a .tiles .now) (a .totals .now) m (c .before .before .before .before .before .before .before .before .before .before .before .if2 .left) in
-    let e : c .before .before .before .before .before .before .before .before .before .before .is-area .result ≡ isArea (a .sides) (a .column) (a .row) (pos 1) (pos 1) = simp (toZ-ofZ (f .column), toZ-ofZ (f .row)) at (c .before .before .before .before .before .before .before .before .before .before .is-area .ensures) in
-    let d : isArea (a .sides) (a .column) (a .row) (pos 1) (pos 1) ≡ true = sym e ∙ not-false (c .before .before .before .before .before .before .before .before .before .before .is-area .result) (c .before .before .before .before .before .before .before .before .before .if3 .left) in
-    let x : c .before .before .before .before .before .before .count .result ≡ count (a .column) = c .before .before .before .before .before .before .count .ensures .0 ∙ ap count (toZ-ofZ (f .column)) in
-    let y : c .before .before .before .before .before .count2 .result ≡ count (a .row) = c .before .before .before .before .before .count2 .ensures .0 ∙ ap count (toZ-ofZ (f .row)) in
-    simp (m, t, d) (ap₂ (λ (i j : ℕ). changed (a .sides) (a .tiles .now) (a .totals .now) i j (a .byte)) (sym x) (sym y) ∙ c .before .before .before .before .change-at .ensures)
+    let e = the-counts (c .before .before .before .before .before) in
+    simp (the-map (c .before .before .before .before .before .before .before .before .before .before .before .before), the-totals (c .before .before .before .before .before .before .before .before .before .before .before), the-area (c .before .before .before .before .before .before .before .before .before)) (ap₂ (λ (i j : ℕ). changed (a .sides) (a .tiles .now) (a .totals .now) i j (a .byte)) (sym (e .0)) (sym (e .1)) ∙ c .before .before .before .before .change-at .ensures)
 
 pub change-spec : {M : Type 1} → statement M
 change-spec =

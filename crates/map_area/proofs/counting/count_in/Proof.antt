@@ -1,12 +1,16 @@
 -- `map_area::counting::count_in` meets its contract. Assumes nothing.
-use Prim.Native.Nat.{_+_, _-_}
-use mathlib.Core.Path.{_≡_}
 use native.Mathlib.Omega.{arith}
 use Rattle.map_totals.specs.Area.{minus, countIn}
 use Rattle.map_area.proofs.Wraps.{less, wraps}
 use borrow.Author.Needs.{needs}
 use Rattle.map_area.proofs.counting.count_in.Statement.{statement}
 use Rattle.map_area.proofs.counting.count_in.Tie as tie
+
+add-right : tie.Need-add-right
+add-right c = search needs
+
+add-bottom : tie.Need-add-bottom
+add-bottom c = search needs
 
 entry-at-requires : tie.Need-entry-at-requires
 entry-at-requires c κs = search needs
@@ -32,8 +36,6 @@ wrapping-add-u32-requires c κs = search needs
 returns : tie.Need-returns
 unfolding countIn
 returns c =
-    let a = c .before .before .before .before .before .before .before .before .args in
-    let pre = c .before .before .before .before .before .before .before .before .pre in
     let all = c .before .before .before .before .before .before .entry-at in
     let beside = c .before .before .before .before .before .entry-at2 in
     let above = c .before .before .before .before .entry-at3 in
@@ -41,9 +43,7 @@ returns c =
     let x = c .before .before .wrapping-sub-u32 in
     let y = c .before .wrapping-sub-u322 in
     let z = c .wrapping-add-u32 in
-    let r : a .left + (a .right - a .left) ≡ a .right = omega arith in
-    let b : a .top + (a .bottom - a .top) ≡ a .bottom = omega arith in
-    rw (r, b, ← all .ensures, ← beside .ensures, ← above .ensures, ← both .ensures)
+    rw (← all .ensures, ← beside .ensures, ← above .ensures, ← both .ensures)
     (wraps (all .result) (minus (beside .result)) (minus (above .result)) (both .result) (x .result) (y .result) (z .result)
     (less (all .result) (beside .result) (x .result) (omega arith) (omega arith) (omega arith) (x .ensures))
     (less (x .result) (above .result) (y .result) (omega arith) (omega arith) (omega arith) (y .ensures))
@@ -53,6 +53,8 @@ pub count-in-spec : {M : Type 1} → statement M
 count-in-spec =
     tie.close
     (tie.spec
+    add-right
+    add-bottom
     entry-at-requires
     entry-at-requires-2
     entry-at-requires-3
