@@ -1,6 +1,6 @@
 -- On totals built from a map, the count is the number of solid tiles found by reading them all. Assumes nothing.
 use Prim.Native.Nat.{ℕ, zero, suc, _+_, _*_, _≤_, _<_}
-use mathlib.Core.Bool.{Bool, true, false, cond}
+use mathlib.Core.Bool.{true, false, true≢false}
 use mathlib.Core.List.{List}
 use mathlib.Core.Logic.{⊎-elim}
 use mathlib.Core.Path.{_≡_, refl, sym, ap}
@@ -10,9 +10,11 @@ use denote.Floats.{is-true}
 use lib.ListN.{length, getD}
 use borrow.Author.Tests.{eq-eqb}
 use Rattle.map_tiles.specs.Map.{isMap, tileIn, solid, count}
+use Rattle.map_tiles.specs.declared.point.Tile.{Tile}
+use Rattle.map_tiles.specs.declared.point.Tile.the-variants.{Open, Normal, Deadly, Unhookable}
 use Rattle.map_tiles.specs.declared.tiles.Sides.{Sides}
 use Rattle.map_tiles.proofs.Maps.{is-map}
-use Rattle.map_totals.specs.Area.{solidAt, sum, solidRow, solidIn, totalsOf, entryAt, countIn}
+use Rattle.map_totals.specs.Area.{countOf, solidAt, sum, solidRow, solidIn, totalsOf, entryAt, countIn}
 use Rattle.map_totals.specs.Calls.{isTotals, isArea, buildIn, areaIn}
 use Rattle.map_totals.specs.Laws.{CountsSolid, ClearArea}
 use Rattle.map_totals.proofs.Sums.{solid-none, solid-small, solid-four}
@@ -74,10 +76,23 @@ unfolding sum
 each-none f i zero e = refl
 each-none f i (suc n) e = let p = each-none f i n (λ k h. e k (omega arith)) in omega (arith, e n (omega arith))
 
+-- a tile counts nothing just where it is not solid
+counts-none : (x : Tile) → countOf x ≡ 0 → solid x ≡ false
+counts-none Open e = refl
+counts-none Normal e = absurd (omega arith)
+counts-none Deadly e = refl
+counts-none Unhookable e = absurd (omega arith)
+
+none-counts : (x : Tile) → solid x ≡ false → countOf x ≡ 0
+none-counts Open e = refl
+none-counts Normal e = absurd (true≢false e)
+none-counts Deadly e = refl
+none-counts Unhookable e = absurd (true≢false e)
+
 pub clear-area : ClearArea
 unfolding solidIn solidRow solidAt
-clear-area s ts left top columns rows = (λ e i j h g. none (solid (tileIn s ts (left + i) (top + j))) (none-each (λ column. solidAt s ts column (top + j)) left columns (none-each (solidRow s ts left columns) top rows e j g) i h), λ e. each-none (solidRow s ts left columns) top rows (λ j g. each-none (λ column. solidAt s ts column (top + j)) left columns (λ i h. ap (λ (b : Bool). cond b 1 0) (e i j h g))))
-  where
-    none : (b : Bool) → _≡_ {A = ℕ} (cond b 1 0) 0 → b ≡ false
-    none true e = absurd (omega arith)
-    none false e = refl
+clear-area s ts left top columns rows =
+    let line : ℕ → ℕ → ℕ = λ row column. solidAt s ts column row in (
+      λ e i j h g. counts-none (tileIn s ts (left + i) (top + j)) (none-each (line (top + j)) left columns (none-each (solidRow s ts left columns) top rows e j g) i h),
+      λ e. each-none (solidRow s ts left columns) top rows (λ j g. each-none (line (top + j)) left columns (λ i h. none-counts (tileIn s ts (left + i) (top + j)) (e i j h g))),
+    )

@@ -1,14 +1,15 @@
 -- Laws of sums, and the solid tiles of a rectangle by those of larger ones. Assumes nothing.
 use Prim.Native.Nat.{ℕ, zero, suc, _+_, _*_, _^_, _≤_, _<_}
-use mathlib.Core.Bool.{Bool, true, false, cond}
 use mathlib.Core.List.{List}
 use mathlib.Core.Logic.{⊎-elim, _≢_}
 use mathlib.Core.Path.{_≡_, refl, sym, ap, ap₂, _∙_}
 use native.Mathlib.Nat.{zero-add, add-zero, add-suc, suc-mul, eq-or-lt-of-le, le-of-suc-le-suc, le-trans, mul-le-mul-left, mul-le-mul-right}
 use native.Mathlib.Omega.{arith}
-use Rattle.map_tiles.specs.Map.{tileIn, solid}
+use Rattle.map_tiles.specs.Map.{tileIn}
+use Rattle.map_tiles.specs.declared.point.Tile.{Tile}
+use Rattle.map_tiles.specs.declared.point.Tile.the-variants.{Open, Normal, Deadly, Unhookable}
 use Rattle.map_tiles.specs.declared.tiles.Sides.{Sides}
-use Rattle.map_totals.specs.Area.{solidAt, sum, solidRow, solidIn}
+use Rattle.map_totals.specs.Area.{countOf, solidAt, sum, solidRow, solidIn}
 
 -- ---- sums
 
@@ -67,11 +68,13 @@ sum-but-one f g p (suc n) h e =
 module _ (s : Sides) (ts : List ℕ) where
   pub solid-one : (column row : ℕ) → solidAt s ts column row ≤ 1
   unfolding solidAt
-  solid-one column row = one (solid (tileIn s ts column row))
+  solid-one column row = one (tileIn s ts column row)
     where
-      one : (b : Bool) → cond b 1 0 ≤ 1
-      one true = omega arith
-      one false = omega arith
+      one : (x : Tile) → countOf x ≤ 1
+      one Open = omega arith
+      one Normal = omega arith
+      one Deadly = omega arith
+      one Unhookable = omega arith
 
   -- at most as many as there are tiles
   solid-most : (left top columns rows : ℕ) → solidIn s ts left top columns rows ≤ rows * columns

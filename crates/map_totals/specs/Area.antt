@@ -5,13 +5,18 @@ use mathlib.Core.List.{List, [], _∷_, _++_}
 use lib.Dec.{leb}
 use lib.ListN.{getD, set}
 use Rattle.map_tiles.specs.Map.{tileIn, solid}
+use Rattle.map_tiles.specs.declared.point.Tile.{Tile}
 use Rattle.map_tiles.specs.declared.tiles.Sides.{Sides}
 
 -- ---- by reading them all
 
 -- a solid tile counts 1, any other 0
+abbrev pub countOf : Tile → ℕ
+countOf x = cond (solid x) 1 0
+
+-- so does the tile in a column and a row
 unfoldable pub solidAt : Sides → List ℕ → ℕ → ℕ → ℕ
-solidAt s ts column row = cond (solid (tileIn s ts column row)) 1 0
+solidAt s ts column row = countOf (tileIn s ts column row)
 
 -- the sum of f over n numbers from i on
 unfoldable pub sum : (ℕ → ℕ) → ℕ → ℕ → ℕ
