@@ -1,27 +1,26 @@
--- After a change, totals that were right for the map before are those built afresh; whatever they held, no other entry is touched. Assumes nothing.
-use Prim.Native.Nat.{ℕ, suc, _+_, _*_, _/_, _%_, _≤_, _<_}
+-- A change writes one byte; totals that were right for the map before are then those built afresh, and whatever they held, no other entry is touched. Assumes nothing.
+use Prim.Native.Nat.{ℕ, suc, _+_, _*_, _≤_, _<_}
 use mathlib.Core.Bool.{Bool, true, false, cond, _&&_}
 use mathlib.Core.List.{List}
 use mathlib.Core.Logic.{_⊎_, inl, inr, ⊎-elim, _≢_}
-use mathlib.Core.Path.{_≡_, refl, sym, ap, _∙_}
+use mathlib.Core.Path.{_≡_, refl, sym, ap, ap₂, _∙_}
 use native.Mathlib.Decide.{decLe}
 use native.Mathlib.Nat.{lt-of-not-le}
 use native.Mathlib.Omega.{arith}
 use denote.Floats.{is-true}
-use lib.Arith.{digits-div, digits-mod}
 use lib.Dec.{T, leb}
 use lib.IntN.{ℤ, pos}
-use lib.ListN.{length, getD}
-use lib.Seq.{getD-set-other}
+use lib.ListN.{length, getD, set, length-set}
+use lib.Seq.{getD-set-same, getD-set-other}
 use borrow.Author.Tests.{le-leb, lt-leb}
 use Rattle.map_tiles.specs.Map.{isMap, tileIn, count}
 use Rattle.map_tiles.specs.declared.tiles.Sides.{Sides}
 use Rattle.map_tiles.proofs.Maps.{is-map}
 use Rattle.map_totals.specs.Area.{solidAt, solidRow, solidIn, totalsOf, entryAt, written, changeAt, added, reached, changedTotals}
 use Rattle.map_totals.specs.Calls.{isTotals, isArea, LeftChange, changed, changeIn}
-use Rattle.map_totals.specs.Laws.{ChangeFollows, ChangeReaches}
+use Rattle.map_totals.specs.Laws.{ChangeWrites, ChangeFollows, ChangeReaches}
 use Rattle.map_totals.proofs.Sums.{sum-same, sum-but-one, solid-one, solid-small}
-use Rattle.map_totals.proofs.Tables.{length-byTile, at-byTile, all-byTile}
+use Rattle.map_totals.proofs.Tables.{place-within, place-apart, length-byTile, at-byTile, all-byTile}
 use Rattle.map_totals.proofs.Areas.{is-area}
 use Rattle.map_totals.proofs.Counts.{are-totals, at-totals}
 
@@ -34,13 +33,7 @@ module _ (s : Sides) (ts : List ℕ) (column row byte : ℕ) (narrow : column < 
   -- no other tile is changed
   else-solid : (c r : ℕ) → c < s .width → (c ≢ column) ⊎ (r ≢ row) → solidAt s after c r ≡ solidAt s ts c r
   unfolding written solidAt tileIn
-  else-solid c r h other = rw (getD-set-other ts (row * s .width + column) (r * s .width + c) byte 0 apart) refl
-    where
-      apart : r * s .width + c ≢ row * s .width + column
-      apart e =
-          let p : c ≡ column = sym (digits-mod r h) ∙ ap (λ (k : ℕ). k % s .width) e ∙ digits-mod row narrow in
-          let q : r ≡ row = sym (digits-div r h) ∙ ap (λ (k : ℕ). k / s .width) e ∙ digits-div row narrow in
-          ⊎-elim (λ n. n p) (λ n. n q) other
+  else-solid c r h other = rw (getD-set-other ts (row * s .width + column) (r * s .width + c) byte 0 (place-apart s c r column row h narrow other)) refl
 
   else-row : (columns r : ℕ) → columns ≤ s .width → (columns ≤ column) ⊎ (r ≢ row) → solidRow s after 0 columns r ≡ solidRow s ts 0 columns r
   unfolding solidRow
@@ -118,6 +111,21 @@ module _ (s : Sides) (ts t : List ℕ) (column row : ℤ) (byte : ℕ) (m : T (i
   taken : changeIn s ts t column row byte ≡ changed s ts t (count column) (count row) byte
   unfolding changeIn
   taken = simp (is-true (isMap s ts) m, l, is-true (isArea s column row (pos 1) (pos 1)) a)
+
+pub change-writes : ChangeWrites
+unfolding changed written
+change-writes s ts t column row byte c r m l a w h =
+    let map = is-map s ts m in
+    let area = is-area s column row (pos 1) (pos 1) a in
+    let narrow : count column < s .width = omega (arith, area .narrow) in
+    let low : count row < s .height = omega (arith, area .low) in
+    let place = place-within s (count column) (count row) narrow low in
+    let e = ap (λ (x : LeftChange). x .tiles) (taken s ts t column row byte m (is-true (isTotals s t) l) a) in
+    let at = ap (λ (x : List ℕ). getD x (r * s .width + c) 0) e in (
+      ap length e ∙ length-set ts (count row * s .width + count column) byte,
+      λ q. at ∙ ap₂ (λ (x y : ℕ). getD (set ts (count row * s .width + count column) byte) (y * s .width + x) 0) (q .0) (q .1) ∙ getD-set-same ts (count row * s .width + count column) byte 0 (omega (arith, map .bytes)),
+      λ q. at ∙ getD-set-other ts (count row * s .width + count column) (r * s .width + c) byte 0 (place-apart s c r (count column) (count row) w narrow q),
+    )
 
 pub change-follows : ChangeFollows
 unfolding changed

@@ -1,7 +1,7 @@
 -- Laws of a list that has an entry for each tile. Assumes nothing.
 use Prim.Native.Nat.{ℕ, zero, suc, _+_, _-_, _*_, _/_, _%_, _≤_, _<_}
 use mathlib.Core.List.{List, [], _∷_, _++_}
-use mathlib.Core.Logic.{⊎-elim, _≢_}
+use mathlib.Core.Logic.{_⊎_, ⊎-elim, _≢_}
 use mathlib.Core.Path.{_≡_, refl, sym, ap, ap₂, _∙_}
 use native.Mathlib.Nat.{mul-comm, zero-mul, mod-lt, div-add-mod', div-lt-iff-lt-mul, eq-zero-or-pos, eq-or-lt-of-le, le-of-suc-le-suc}
 use native.Mathlib.Omega.{arith}
@@ -41,6 +41,13 @@ module _ (s : Sides) where
   at-byTile f column row c r =
       at-table (λ k. f (k % s .width) (k / s .width)) (s .width * s .height) (row * s .width + column) (place-within column row c r)
       ∙ ap₂ f (digits-mod row c) (digits-div row c)
+
+  -- two tiles have two places
+  pub place-apart : (c r column row : ℕ) → c < s .width → column < s .width → (c ≢ column) ⊎ (r ≢ row) → r * s .width + c ≢ row * s .width + column
+  place-apart c r column row h narrow other e =
+      let p : c ≡ column = sym (digits-mod r h) ∙ ap (λ (k : ℕ). k % s .width) e ∙ digits-mod row narrow in
+      let q : r ≡ row = sym (digits-div r h) ∙ ap (λ (k : ℕ). k / s .width) e ∙ digits-div row narrow in
+      ⊎-elim (λ n. n p) (λ n. n q) other
 
   -- each place is that of a tile
   record Tile (k : ℕ) : Type 0 where

@@ -14,7 +14,7 @@ use Rattle.map_tiles.specs.declared.tiles.Sides.{Sides}
 abbrev pub countOf : Tile → ℕ
 countOf x = cond (solid x) 1 0
 
--- so does the tile in a column and a row
+-- what the tile in a column and a row counts
 unfoldable pub solidAt : Sides → List ℕ → ℕ → ℕ → ℕ
 solidAt s ts column row = countOf (tileIn s ts column row)
 

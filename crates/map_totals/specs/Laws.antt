@@ -1,11 +1,12 @@
 -- What is claimed of the calls. Definitions only; proofs/ proves each.
-use Prim.Native.Nat.{ℕ, suc, _+_, _%_, _^_, _≤_, _<_}
+use Prim.Native.Nat.{ℕ, suc, _+_, _*_, _%_, _^_, _≤_, _<_}
 use mathlib.Core.Bool.{false}
 use mathlib.Core.List.{List}
-use mathlib.Core.Logic.{_⊎_}
+use mathlib.Core.Logic.{_⊎_, _≢_}
 use mathlib.Core.Path.{_≡_}
 use lib.Dec.{T}
 use lib.IntN.{ℤ, pos}
+use lib.ListN.{length, getD}
 use Rattle.map_tiles.specs.Map.{isMap, tileIn, solid, count}
 use Rattle.map_tiles.specs.declared.tiles.Sides.{Sides}
 use Rattle.map_totals.specs.Area.{solidIn, totalsOf, entryAt, written, changeAt}
@@ -18,6 +19,14 @@ CountsSolid = (s : Sides) (ts t : List ℕ) (left top columns rows : ℤ) (k : �
 -- none are found just where no tile of the rectangle is solid
 abbrev pub ClearArea : Type 0
 ClearArea = (s : Sides) (ts : List ℕ) (left top columns rows : ℕ) → (solidIn s ts left top columns rows ≡ 0 → (i j : ℕ) → i < columns → j < rows → solid (tileIn s ts (left + i) (top + j)) ≡ false) × (((i j : ℕ) → i < columns → j < rows → solid (tileIn s ts (left + i) (top + j)) ≡ false) → solidIn s ts left top columns rows ≡ 0)
+
+-- a change writes the tile's byte, and no other
+abbrev pub ChangeWrites : Type 0
+ChangeWrites = (s : Sides) (ts t : List ℕ) (column row : ℤ) (byte c r : ℕ) → T (isMap s ts) → T (isTotals s t) → T (isArea s column row (pos 1) (pos 1)) → c < s .width → r < s .height →
+    let left = changeIn s ts t column row byte .tiles in
+    (length left ≡ length ts)
+    × ((c ≡ count column) × (r ≡ count row) → getD left (r * s .width + c) 0 ≡ byte)
+    × ((c ≢ count column) ⊎ (r ≢ count row) → getD left (r * s .width + c) 0 ≡ getD ts (r * s .width + c) 0)
 
 -- totals that were right for the map before are right for the changed one
 abbrev pub ChangeFollows : Type 0
