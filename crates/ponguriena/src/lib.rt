@@ -1,10 +1,14 @@
 // The C interface of the calls on a world, a sender and a screen that are kept as the numbers of lent buffers. Their answers are a refusal's number, or 0.
 // What takes a world names a role first: 13 comes before every other refusal.
+mod area;
 mod calls;
 mod packed;
 mod readers;
 mod sending;
 
+pub use area::ponguriena_area_build;
+pub use area::ponguriena_area_change;
+pub use area::ponguriena_area_count;
 pub use calls::ponguriena_fresh;
 pub use calls::ponguriena_input;
 pub use calls::ponguriena_join;
