@@ -32,6 +32,8 @@ enum {
     PONGURIENA_BAD_BYTES = 12,    /* a packed number is not in its shortest form, or too large */
     PONGURIENA_NOT_ALLOWED = 13,  /* the role does not allow it; comes before the others: who may
                                      not call is told nothing of what was lent */
+    PONGURIENA_BAD_AREA = 14,     /* a rectangle has no tiles, it or a tile reaches outside the map,
+                                     or the totals are not one for each tile */
     PONGURIENA_BAD_LENGTH = 17    /* a buffer of the wrong length; comes before the others but 13:
                                      without a world there is no call to decline */
 };
@@ -199,6 +201,28 @@ uint32_t ponguriena_receive(int32_t *screen, size_t screen_length, uint32_t widt
  * copy. */
 uint32_t ponguriena_shown(const int32_t *screen, size_t screen_length, int32_t id, int32_t *record,
                           size_t record_length);
+
+/* Is this area clear? How many tiles of a rectangle are solid, from running totals that the caller
+ * keeps: one for each tile of a map as above, row by row, of the solid tiles from the map's corner
+ * to there. Any numbers are taken for totals; sums and differences are modulo 2^32. A deadly tile is
+ * not solid. Each call answers 0, 1 or 14. */
+
+/* Builds the totals of a map. */
+uint32_t ponguriena_area_build(uint32_t width, uint32_t height, const uint8_t *tiles,
+                               size_t tiles_length, uint32_t *totals, size_t totals_length);
+
+/* Counts the solid tiles of a rectangle from four of the totals, in the same time for each. */
+uint32_t ponguriena_area_count(uint32_t width, uint32_t height, const uint8_t *tiles,
+                               size_t tiles_length, const uint32_t *totals, size_t totals_length,
+                               int32_t left, int32_t top, int32_t columns, int32_t rows,
+                               uint32_t *count);
+
+/* Writes a tile's byte into the map, and adds the change in its count to each of the totals whose
+ * column and row are both the tile's or greater. What was right for the map before is right for it
+ * afterwards. */
+uint32_t ponguriena_area_change(uint32_t width, uint32_t height, uint8_t *tiles,
+                                size_t tiles_length, uint32_t *totals, size_t totals_length,
+                                int32_t column, int32_t row, uint8_t byte);
 
 /* Tiles of a map as above, and walks over it. */
 

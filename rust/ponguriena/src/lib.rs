@@ -1,13 +1,15 @@
 //! Safe Rust functions over the static libraries of two Rattle crates. Of `ponguriena`:
 //! the [`World`] of characters with its calls, each for whoever has the [`Role`] to make it,
 //! what goes from there to the screens ([`Sender`] and [`Screen`]), the same calls on lent
-//! numbers ([`buffers`] and [`send_buffers`]), and records as packed bytes ([`packed`]). Of
-//! `ponguriena_parts` what they are made of: the tiles of a [`Map`] and walks over it, the aim
-//! angle, the velocity ramp, the root and the conversions. `include/ponguriena.h` is for C.
+//! numbers ([`buffers`] and [`send_buffers`]), records as packed bytes ([`packed`]), and how
+//! many tiles of an [`Area`] are solid ([`Totals`]). Of `ponguriena_parts` what they are made
+//! of: the tiles of a [`Map`] and walks over it, the aim angle, the velocity ramp, the root and
+//! the conversions. `include/ponguriena.h` is for C.
 
 // Nothing checks the declarations in these modules against the Rattle source: a
 // change of a signature there must be repeated here by hand.
 mod aim;
+pub mod area;
 pub mod buffers;
 mod floats;
 pub mod packed;
@@ -22,6 +24,7 @@ mod walks;
 mod world;
 
 pub use aim::{Scan, net_angle, scan_angle, velocity_ramp};
+pub use area::{Area, Totals};
 pub use buffers::SEATS;
 pub use floats::{
     from_256ths, hundredths_to_f32, i32_to_f32, quantize, quantize_256ths, root, round_to_i32,

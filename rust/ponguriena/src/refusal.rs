@@ -32,6 +32,9 @@ pub enum Refusal {
     BadBytes,
     /// 13: the [`Role`](crate::Role) does not allow it. Comes before all others.
     NotAllowed,
+    /// 14: a rectangle that has no tiles, a rectangle or a tile that reaches outside the map, or
+    /// totals that are not one for each tile.
+    BadArea,
     /// 17: a buffer of the wrong length. Comes before all others but 13.
     BadLength,
     /// A number that has no name here. No function of this library gives one: who
@@ -57,6 +60,7 @@ impl Refusal {
             11 => Refusal::BytesEnd,
             12 => Refusal::BadBytes,
             13 => Refusal::NotAllowed,
+            14 => Refusal::BadArea,
             17 => Refusal::BadLength,
             other => Refusal::Unnamed(other),
         })
@@ -78,6 +82,7 @@ impl Refusal {
             Refusal::BytesEnd => 11,
             Refusal::BadBytes => 12,
             Refusal::NotAllowed => 13,
+            Refusal::BadArea => 14,
             Refusal::BadLength => 17,
             Refusal::Unnamed(number) => number,
         }
@@ -100,6 +105,7 @@ impl Display for Refusal {
             Refusal::BytesEnd => "the bytes end before the record does",
             Refusal::BadBytes => "a packed number is not as it should be",
             Refusal::NotAllowed => "the role does not allow it",
+            Refusal::BadArea => "the area is not one of the map, or its totals do not fit",
             Refusal::BadLength => "a buffer has the wrong length",
             Refusal::Unnamed(_) => "refused",
         };

@@ -1,8 +1,9 @@
 //! Time per call, in throughput, of the port and of the reference.
 
-use ponguriena::{CharacterCore, packed};
+use ponguriena::{Area, CharacterCore, Map, area, packed};
 use reference::Xorshift;
 use reference::aim_edges::game_ramp;
+use reference::area::Rectangle;
 use timing::{print_heading, print_row};
 
 const INPUTS: usize = 4096;
@@ -12,6 +13,11 @@ const PASSES: usize = 32;
 const GAME_LIMIT: f32 = 20000.0;
 
 const POSITIVE_INFINITY: u32 = 0x7f80_0000;
+
+/// The sides of the largest map.
+const SIDE: u32 = 1024;
+
+const LARGEST: (u32, u32) = (SIDE, SIDE);
 
 /// A value with start, range and curvature.
 type Ramp = (f32, [i32; 3]);
@@ -48,6 +54,21 @@ fn main() {
     print_ramps("game", &inputs(|| game_ramp(&mut random)));
     print_ramps("steep", &inputs(|| steep_ramp(&mut random)));
     print_packed("game", &inputs(|| record(&mut random)));
+    let tiles: Vec<u8> = (0..SIDE * SIDE)
+        .map(|_| (random.pattern() % 4) as u8)
+        .collect();
+    let map = Map {
+        width: SIDE,
+        height: SIDE,
+        tiles: &tiles,
+    };
+    let totals = print_built(&map);
+    for (kind, side) in [("1", 1), ("512", SIDE / 2), ("1,024", SIDE)] {
+        print_counts(kind, &map, &totals, &inputs(|| square(&mut random, side)));
+    }
+    for (kind, place, passes) in [("first", 0, 1), ("last", SIDE as i32 - 1, 10_000)] {
+        print_changes(kind, passes, &map, &totals, (place, place));
+    }
 }
 
 /// A target with coordinates of `32 - shift` bits.
@@ -131,6 +152,71 @@ fn print_packed(kind: &str, records: &[[i32; 15]]) {
             Some((CharacterCore::from_numbers(numbers), used))
         },
     );
+}
+
+/// A square of the largest map, of a given side.
+fn square(random: &mut Xorshift, side: u32) -> [i32; 4] {
+    let mut place = || (random.pattern() % (SIDE - side + 1)) as i32;
+    [place(), place(), side as i32, side as i32]
+}
+
+/// The totals of the largest map, one build a round.
+fn print_built(map: &Map) -> Vec<u32> {
+    let mut totals = vec![0; map.tiles.len()];
+    let mut plain = totals.clone();
+    print_row(
+        "area_build",
+        "1,024",
+        1,
+        &[()],
+        |()| area::build(map, &mut totals).is_ok(),
+        |()| reference::area::build(LARGEST, map.tiles, &mut plain).is_ok(),
+    );
+    assert_eq!(totals, plain);
+    totals
+}
+
+/// Squares of one size, at drawn places.
+fn print_counts(kind: &str, map: &Map, totals: &[u32], areas: &[[i32; 4]]) {
+    print_row(
+        "area_count",
+        kind,
+        PASSES,
+        areas,
+        |[left, top, columns, rows]| {
+            let area = Area {
+                left,
+                top,
+                columns,
+                rows,
+            };
+            area::count(map, totals, area).ok()
+        },
+        |[left, top, columns, rows]| {
+            let area = Rectangle {
+                left,
+                top,
+                columns,
+                rows,
+            };
+            reference::area::count(LARGEST, map.tiles, totals, area).ok()
+        },
+    );
+}
+
+/// A tile becomes open and solid in turn.
+fn print_changes(kind: &str, passes: usize, map: &Map, totals: &[u32], tile: (i32, i32)) {
+    let mut ours = (map.tiles.to_vec(), totals.to_vec());
+    let mut plain = ours.clone();
+    print_row(
+        "area_change",
+        kind,
+        passes,
+        &[0, 1, 0, 1],
+        |byte| area::change(LARGEST, &mut ours.0, &mut ours.1, tile, byte).is_ok(),
+        |byte| reference::area::change(LARGEST, &mut plain.0, &mut plain.1, tile, byte).is_ok(),
+    );
+    assert!(ours == plain);
 }
 
 fn inputs<A>(random: impl FnMut() -> A) -> Vec<A> {

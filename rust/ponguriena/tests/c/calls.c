@@ -511,6 +511,32 @@ static void packing(void) {
     same("short record", ponguriena_unpack(bytes, count, back, 14, &used), PONGURIENA_BAD_LENGTH);
 }
 
+/* Three solid tiles in the last row; one above becomes solid. What is refused writes nothing. */
+static void areas(void) {
+    uint8_t tiles[9];
+    uint32_t totals[9] = {0};
+    uint32_t count = 77;
+    memcpy(tiles, FLOOR_TILES, sizeof tiles);
+    same("build", ponguriena_area_build(3, 3, tiles, 9, totals, 9), 0);
+    same("all", totals[8], 3);
+    same("above", ponguriena_area_count(3, 3, tiles, 9, totals, 9, 0, 0, 3, 2, &count), 0);
+    same("clear", count, 0);
+    same("below", ponguriena_area_count(3, 3, tiles, 9, totals, 9, 1, 1, 2, 2, &count), 0);
+    same("not clear", count, 2);
+    same("change", ponguriena_area_change(3, 3, tiles, 9, totals, 9, 2, 1, 3), 0);
+    same("the byte", tiles[5], 3);
+    same("above", ponguriena_area_count(3, 3, tiles, 9, totals, 9, 0, 0, 3, 2, &count), 0);
+    same("no more clear", count, 1);
+    same("no map", ponguriena_area_count(4, 3, tiles, 9, totals, 8, 0, 0, 0, 1, &count),
+         PONGURIENA_BAD_MAP);
+    same("no tiles", ponguriena_area_count(3, 3, tiles, 9, totals, 9, 0, 0, 0, 1, &count),
+         PONGURIENA_BAD_AREA);
+    same("count after refusals", count, 1);
+    same("few totals", ponguriena_area_build(3, 3, tiles, 9, totals, 8), PONGURIENA_BAD_AREA);
+    same("outside", ponguriena_area_change(3, 3, tiles, 9, totals, 9, 3, 1, 0),
+         PONGURIENA_BAD_AREA);
+}
+
 int main(void) {
     a_fall();
     an_input();
@@ -530,5 +556,6 @@ int main(void) {
     walks();
     numbers();
     packing();
+    areas();
     return differences != 0;
 }
