@@ -37,6 +37,7 @@ pub record LeftTotals : Type 0 where
   pub number : ℕ
   pub totals : List ℕ
 
+-- the totals of the map
 unfoldable pub buildIn : Sides → List ℕ → List ℕ → LeftTotals
 buildIn s ts t =
     onMap s ts (isTotals s t) (λ n. record { number = n; totals = t })
@@ -49,6 +50,7 @@ pub record LeftCount : Type 0 where
   pub number : ℕ
   pub count : ℕ
 
+-- the count of a rectangle, whatever the totals hold
 unfoldable pub areaIn : Sides → List ℕ → List ℕ → ℤ → ℤ → ℤ → ℤ → ℕ → LeftCount
 areaIn s ts t left top columns rows k =
     onMap s ts (isTotals s t && isArea s left top columns rows) (λ n. record { number = n; count = k })
@@ -68,6 +70,7 @@ changed s ts t column row byte =
     let after = written s ts column row byte in
     record { number = 0; tiles = after; totals = changedTotals s t column row (changeAt s ts after column row) }
 
+-- one tile is changed
 unfoldable pub changeIn : Sides → List ℕ → List ℕ → ℤ → ℤ → ℕ → LeftChange
 changeIn s ts t column row byte =
     onMap s ts (isTotals s t && isArea s column row (pos 1) (pos 1)) (λ n. record { number = n; tiles = ts; totals = t })

@@ -20,6 +20,8 @@ use Rattle.world_buffers.proofs.Reached.{buffer-follows}
 use Rattle.send_buffers.proofs.Reached.{link-follows}
 use Rattle.role_rule.proofs.Requests.{roles-hold}
 use Rattle.ponguriena.proofs.Standing.{roles-stand}
+use Rattle.map_totals.proofs.Counts.{counts-solid, clear-area}
+use Rattle.map_totals.proofs.Changes.{change-writes, change-follows, change-reaches}
 use Rattle.session_laws.proofs.Whole.{whole-output}
 use Rattle.session_laws.proofs.Ends.{play-ends}
 use Rattle.ponguriena_theorems.specs.Theorems.{Theorems, Shipped}
@@ -46,4 +48,16 @@ all-theorems n = record {
 }
 
 pub shipped : Shipped
-shipped = record { theorems = all-theorems seats; stand = calls-stand; refusals = refusals-leave; buffers = buffer-follows; links = link-follows; byRole = roles-stand }
+shipped = record {
+  theorems = all-theorems seats;
+  stand = calls-stand;
+  refusals = refusals-leave;
+  buffers = buffer-follows;
+  links = link-follows;
+  byRole = roles-stand;
+  solids = counts-solid;
+  clear = clear-area;
+  writes = change-writes;
+  follows = change-follows;
+  reaches = change-reaches;
+}

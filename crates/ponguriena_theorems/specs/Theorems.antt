@@ -17,6 +17,7 @@ use Rattle.world_buffers.specs.Following.{CallsStand, RefusalsLeave, BufferFoll
 use Rattle.send_buffers.specs.Following.{LinkFollows}
 use Rattle.role_rule.specs.Requests.{Roles}
 use Rattle.ponguriena.specs.Standing.{RolesStand}
+use Rattle.map_totals.specs.Laws.{CountsSolid, ClearArea, ChangeWrites, ChangeFollows, ChangeReaches}
 use Rattle.session_laws.specs.Played.{WholeOutput, PlayEnds}
 
 -- of a world of n seats
@@ -59,3 +60,9 @@ pub record Shipped : Type 0 where
   pub links : LinkFollows
   -- calls and reads by the number of a role are those by the role
   pub byRole : RolesStand
+  -- request 9: the solid tiles of an area by running totals, and the totals after a change
+  pub solids : CountsSolid
+  pub clear : ClearArea
+  pub writes : ChangeWrites
+  pub follows : ChangeFollows
+  pub reaches : ChangeReaches
