@@ -1,0 +1,6 @@
+pub mod Turns
+pub mod Free
+pub mod Seat
+pub mod Step
+pub mod Calls
+pub mod Solo

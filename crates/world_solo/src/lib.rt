@@ -1,0 +1,1 @@
+// Solo heats: what other players do changes nothing of one id. No code.
