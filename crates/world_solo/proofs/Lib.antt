@@ -3,4 +3,5 @@ pub mod Free
 pub mod Seat
 pub mod Step
 pub mod Calls
+pub mod Seatless
 pub mod Solo

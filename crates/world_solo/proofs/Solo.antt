@@ -3,8 +3,10 @@ use Prim.Native.Nat.{ℕ, _<_}
 use mathlib.Core.Bool.{Bool, true, false, cond}
 use mathlib.Core.List.{List, [], _∷_, _++_}
 use mathlib.Core.Path.{_≡_, refl, sym, ap, _∙_, subst}
+use lib.Dec.{ltb}
 use lib.IntN.{ℤ}
 use lib.ListN.{getD-replicate}
+use borrow.Author.Tests.{ltb-true, ltb-false}
 use Rattle.map_tiles.specs.declared.tiles.Sides.{Sides}
 use Rattle.character.specs.Slot.{emptySlot}
 use Rattle.character.specs.Tick.{slotAt, nowhere}
@@ -18,6 +20,7 @@ use Rattle.world.proofs.Settled.{answer-settled, after-settled}
 use Rattle.world_solo.specs.Solo.{forOther, struckOut, SoloHeat, Seen, seen, Solo}
 use Rattle.world_solo.proofs.Calls.{Left, leftBy, other-call, alone, own-call, free-next}
 use Rattle.world_solo.proofs.Free.{Free, empty-free}
+use Rattle.world_solo.proofs.Seatless.{nobody, seen-seatless}
 
 module _ (n : ℕ) (s : Sides) (ts : List ℕ) (k : ℕ) (l : k < n) where
   -- what calls show of the id k from its slot and the tunings alone
@@ -44,8 +47,16 @@ fresh-free : (n k : ℕ) → k < n → Free (slotAt (fresh n .slots) k)
 unfolding fresh
 fresh-free n k l = subst Free (sym (getD-replicate n k emptySlot nowhere l)) empty-free
 
+-- of an id that has a slot, and of one that has none, both lists are seen as what is left of them
 pub solo : (n : ℕ) → Solo n
-solo n s ts k l cs ds e h i =
-    let g = after-settled n s ts [] in
-    let f = fresh-free n k l in
-    seen-alone n s ts k l cs (fresh n) g f h ∙ ap (seenAlone n s ts k l (slotAt (fresh n .slots) k) (fresh n .tunings)) e ∙ sym (seen-alone n s ts k l ds (fresh n) g f i)
+solo n s ts k cs ds e h i = go (ltb k n) refl
+  where
+    g : Settled n (fresh n)
+    g = after-settled n s ts []
+
+    go : (b : Bool) → ltb k n ≡ b → seen n s ts k (fresh n) cs ≡ seen n s ts k (fresh n) ds
+    go true q =
+        let l = ltb-true k n q in
+        let f = fresh-free n k l in
+        seen-alone n s ts k l cs (fresh n) g f h ∙ ap (seenAlone n s ts k l (slotAt (fresh n .slots) k) (fresh n .tunings)) e ∙ sym (seen-alone n s ts k l ds (fresh n) g f i)
+    go false q = let l = ltb-false k n q in seen-seatless n s ts k l cs (fresh n) g ∙ ap nobody e ∙ sym (seen-seatless n s ts k l ds (fresh n) g)

@@ -1,5 +1,5 @@
 -- Solo heats, as one claim about two lists of calls. Definitions only; proofs/Solo.antt proves it.
-use Prim.Native.Nat.{ℕ, _<_}
+use Prim.Native.Nat.{ℕ}
 use mathlib.Core.Bool.{Bool, false, cond, not}
 use mathlib.Core.List.{List, [], _∷_, _++_}
 use mathlib.Core.Path.{_≡_}
@@ -75,7 +75,7 @@ seen n s ts k w (c ∷ cs) = seenIn k (ran n s ts w c) c ++ seen n s ts k (ran n
 
 -- ---- the claim
 
--- every map, every id, and every two lists of calls from a fresh world of n slots that are solo heats, and the same once the calls for other ids are struck out
+-- every map, every id, and every two lists of calls from a fresh world of n slots that are solo heats and the same once the calls for other ids are struck out
 abbrev pub Solo : ℕ → Type 0
-Solo n = (s : Sides) (ts : List ℕ) (k : ℕ) → k < n → (cs ds : List Call) → struckOut n k cs ≡ struckOut n k ds
+Solo n = (s : Sides) (ts : List ℕ) (k : ℕ) (cs ds : List Call) → struckOut n k cs ≡ struckOut n k ds
     → SoloHeat n s ts (fresh n) cs → SoloHeat n s ts (fresh n) ds → seen n s ts k (fresh n) cs ≡ seen n s ts k (fresh n) ds
