@@ -5,3 +5,4 @@ pub mod Step
 pub mod Calls
 pub mod Seatless
 pub mod Solo
+pub mod Worked
