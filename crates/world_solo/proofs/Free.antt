@@ -2,7 +2,7 @@
 use Prim.Native.Nat.{ℕ}
 use mathlib.Core.Bool.{Bool, true, false, true≢false}
 use mathlib.Core.List.{List, []}
-use mathlib.Core.Path.{_≡_, refl, sym, ap, subst}
+use mathlib.Core.Path.{_≡_, refl, sym, ap}
 use Rattle.num_vec2.specs.declared.vec2.{vec2}
 use Rattle.map_tiles.specs.declared.tiles.Sides.{Sides}
 use Rattle.game_records.specs.declared.PlayerInput.{PlayerInput}
@@ -11,7 +11,7 @@ use Rattle.character_hook.specs.Hook.{holds}
 use Rattle.character_hook.specs.declared.hook.Hook.{Hook}
 use Rattle.character.specs.Character.{spawn, withHook}
 use Rattle.character.specs.Slot.{emptySlot, joinedSlot, withCharacter}
-use Rattle.character.specs.Tick.{slotAt, tickAt}
+use Rattle.character.specs.Tick.{tickAt}
 use Rattle.character.specs.declared.Character.{Character}
 use Rattle.character.specs.declared.Slot.{Slot}
 use Rattle.character_laws.proofs.Held.{Only, only-holds, tick-only}

@@ -5,4 +5,5 @@ pub mod Step
 pub mod Calls
 pub mod Seatless
 pub mod Solo
+pub mod Computed
 pub mod Worked

@@ -14,7 +14,7 @@ use Rattle.game_tuning.specs.declared.Tuning.{Tuning}
 use Rattle.character_hook.specs.Hook.{tickOf}
 use Rattle.character_motion.specs.declared.meeting.HookPull.{HookPull}
 use Rattle.character_motion.specs.declared.meeting.HookPull.the-variants.{Nobody}
-use Rattle.character.specs.Records.{coreOf, mostTick, toNet, fromNet}
+use Rattle.character.specs.Records.{mostTick, toNet, fromNet}
 use Rattle.character.specs.Slot.{withCharacter}
 use Rattle.character.specs.Tick.{slotAt, nowhere, afterPull, tickAt, tickedSlot}
 use Rattle.character.specs.Walk.{moveAt}

@@ -5,7 +5,7 @@ use mathlib.Core.Path.{_≡_}
 use lib.IntN.{ℤ, pos, negsuc}
 use Rattle.map_tiles.specs.declared.tiles.Sides.{Sides}
 use Rattle.world.specs.declared.call.Call.{Call}
-use Rattle.world.specs.declared.call.Call.the-variants.{Join, Leave, Input, Step, Tune}
+use Rattle.world.specs.declared.call.Call.the-variants.{Join, Input, Step, Tune}
 use Rattle.world.specs.World.{fresh}
 use Rattle.world_solo.specs.Solo.{struckOut, SoloHeat, Seen, seen}
 
