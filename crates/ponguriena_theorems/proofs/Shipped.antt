@@ -7,6 +7,7 @@ use Rattle.world.proofs.Marks.{marks-follow}
 use Rattle.world.proofs.Leave.{leave-releases}
 use Rattle.world.proofs.Held.{held-present}
 use Rattle.world.proofs.Deadly.{step-spikes}
+use Rattle.world_solo.proofs.Solo.{solo}
 use Rattle.send_rule.proofs.Shown.{screen-shows}
 use Rattle.send_rule.proofs.Sparing.{sender-spares}
 use Rattle.send_rule.proofs.Along.{sender-passes}
@@ -45,6 +46,7 @@ all-theorems n = record {
   stays = copy-stays n;
   alone = copies-alone n;
   roles = roles-hold n;
+  solo = solo n;
 }
 
 pub shipped : Shipped

@@ -7,6 +7,7 @@ use Rattle.world.specs.Marks.{MarksFollow}
 use Rattle.world.specs.Leave.{LeaveReleases}
 use Rattle.world.specs.Held.{HeldPresent}
 use Rattle.world.specs.Deadly.{StepSpikes}
+use Rattle.world_solo.specs.Solo.{Solo}
 use Rattle.send_rule.specs.Shown.{Shown}
 use Rattle.send_rule.specs.Sparing.{Sparing}
 use Rattle.send_rule.specs.Along.{Along}
@@ -48,6 +49,8 @@ pub record Theorems (n : ℕ) : Type 0 where
   pub alone : CopiesAlone n
   -- request 8: a call or a read beyond its role counts for nothing
   pub roles : Roles n
+  -- request 10: solo heats
+  pub solo : Solo n
 
 -- at the seats that there are; and that the numbers which C programs hold are those of the worlds and links that the theorems speak of
 pub record Shipped : Type 0 where
