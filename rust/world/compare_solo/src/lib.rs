@@ -3,5 +3,6 @@
 
 pub mod heats;
 pub mod pairs;
+pub mod recorded;
 #[cfg(test)]
 mod tests;

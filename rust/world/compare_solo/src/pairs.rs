@@ -23,7 +23,8 @@ pub struct Pair {
 /// That of a number. The two tunings have this value, 0 in a solo heat.
 pub fn drawn(seed: u64, number: u64, tuned: i32) -> Pair {
     let mut random = Xorshift::seeded(seed.wrapping_mul(1 << 32).wrapping_add(number));
-    let (width, height) = (3 + below(&mut random, 8), 3 + below(&mut random, 8));
+    // A line of vectors has room for 64 tiles.
+    let (width, height) = (3 + below(&mut random, 6), 3 + below(&mut random, 6));
     let share = pick(&mut random, &[0, 2, 6]);
     let map = random_map(width, height, share, &mut random);
     let id = any_id(SEATS, &mut random);
