@@ -28,7 +28,7 @@ use Rattle.world.specs.declared.World.{World}
 use Rattle.world.proofs.NextSlot.{join-slot, leave-slot, input-slot, tune-slot}
 use Rattle.world.proofs.Outcomes.{outcome-kept, join-outcome, leave-outcome, input-outcome}
 use Rattle.world.proofs.Seats.{by-test}
-use Rattle.world_solo.specs.Solo.{forOther, SoloStep, Seen, seenIn}
+use Rattle.world_solo.specs.Solo.{forOther, SoloStep, Seen, seenBy}
 use Rattle.world_solo.proofs.Free.{Free, empty-free, joined-free, free-released}
 use Rattle.world_solo.proofs.Step.{steppedSeat, stepped-free, step-seat, step-tunings}
 
@@ -39,7 +39,7 @@ pub record Left : Type 0 where
   pub tunings : List ℤ
 
 abbrev pub leftBy : ℕ → Stepped → Call → Left
-leftBy k a c = record { shown = seenIn k a c; slot = slotAt (a .world .slots) k; tunings = a .world .tunings }
+leftBy k a c = record { shown = seenBy k a c; slot = slotAt (a .world .slots) k; tunings = a .world .tunings }
 
 -- ---- in which number a call ends, by who is at the seat that it names
 module _ (n : ℕ) (w v : World) (id : ℤ) (same : slotAt (w .slots) (placeOf n id) .present ≡ slotAt (v .slots) (placeOf n id) .present) where

@@ -25,7 +25,7 @@ use Rattle.world.specs.declared.Stepped.{Stepped}
 use Rattle.world.specs.declared.World.{World}
 use Rattle.world.proofs.Seats.{by-test}
 use Rattle.world.proofs.Settled.{answer-settled}
-use Rattle.world_solo.specs.Solo.{forOther, struckOut, Seen, seenIn, seen}
+use Rattle.world_solo.specs.Solo.{forOther, struckOut, Seen, seenBy, seen}
 use Rattle.world_solo.proofs.Turns.{On}
 
 -- ---- a step has one record for each slot
@@ -61,20 +61,20 @@ module _ (n : ℕ) (s : Sides) (ts : List ℕ) (w : World) where
 
 -- ---- so none for an id past the slots
 
--- nobody, in a step
-abbrev pub nobodyIn : Call → List Seen
-nobodyIn (Join id x y) = []
-nobodyIn (Leave id) = []
-nobodyIn (Input id d x y j h) = []
-nobodyIn (Tune index z) = []
-nobodyIn Step = record { taken = unpublished; slot = nowhere } ∷ []
+-- nobody, by a step
+abbrev pub nobodyBy : Call → List Seen
+nobodyBy (Join id x y) = []
+nobodyBy (Leave id) = []
+nobodyBy (Input id d x y j h) = []
+nobodyBy (Tune index z) = []
+nobodyBy Step = record { taken = unpublished; slot = nowhere } ∷ []
 
 abbrev pub nobody : List Call → List Seen
 nobody [] = []
-nobody (c ∷ cs) = nobodyIn c ++ nobody cs
+nobody (c ∷ cs) = nobodyBy c ++ nobody cs
 
 module _ (n : ℕ) (s : Sides) (ts : List ℕ) (k : ℕ) (l : n ≤ k) where
-  shows-nobody : (w : World) (c : Call) → Settled n w → seenIn k (ran n s ts w c) c ≡ nobodyIn c
+  shows-nobody : (w : World) (c : Call) → Settled n w → seenBy k (ran n s ts w c) c ≡ nobodyBy c
   shows-nobody w (Join id x y) g = refl
   shows-nobody w (Leave id) g = refl
   shows-nobody w (Input id d x y j h) g = refl
@@ -90,7 +90,7 @@ module _ (n : ℕ) (s : Sides) (ts : List ℕ) (k : ℕ) (l : n ≤ k) where
   seen-nobody (c ∷ cs) w g = ap₂ (λ (a b : List Seen). a ++ b) (shows-nobody w c g) (seen-nobody cs (ran n s ts w c .world) (answer-settled n s ts w c g))
 
 -- no step is struck out
-other-shows : (n k : ℕ) (c : Call) → forOther n k c ≡ true → nobodyIn c ≡ []
+other-shows : (n k : ℕ) (c : Call) → forOther n k c ≡ true → nobodyBy c ≡ []
 other-shows n k (Join id x y) e = refl
 other-shows n k (Leave id) e = refl
 other-shows n k (Input id d x y j h) e = refl
@@ -99,9 +99,9 @@ other-shows n k Step e = absurd (true≢false (sym e))
 
 struck-nobody : (n k : ℕ) (cs : List Call) → nobody cs ≡ nobody (struckOut n k cs)
 struck-nobody n k [] = refl
-struck-nobody n k (c ∷ cs) = ap (λ (b : List Seen). nobodyIn c ++ b) (struck-nobody n k cs) ∙ go (forOther n k c) refl
+struck-nobody n k (c ∷ cs) = ap (λ (b : List Seen). nobodyBy c ++ b) (struck-nobody n k cs) ∙ go (forOther n k c) refl
   where
-    go : (b : Bool) → forOther n k c ≡ b → nobodyIn c ++ nobody (struckOut n k cs) ≡ nobody (cond b (struckOut n k cs) (c ∷ struckOut n k cs))
+    go : (b : Bool) → forOther n k c ≡ b → nobodyBy c ++ nobody (struckOut n k cs) ≡ nobody (cond b (struckOut n k cs) (c ∷ struckOut n k cs))
     go true e = ap (λ (a : List Seen). a ++ nobody (struckOut n k cs)) (other-shows n k c e)
     go false e = refl
 

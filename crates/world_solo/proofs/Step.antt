@@ -29,7 +29,7 @@ use Rattle.world.specs.declared.World.{World}
 use Rattle.world.proofs.Removal.{dying-are, removed-kept}
 use Rattle.world.proofs.Seats.{by-test, Same, Settling, ticks-same, moves-settle}
 use Rattle.world.proofs.Vacated.{vacated-at, vacated-others, vacated-length}
-use Rattle.world_solo.specs.Solo.{playerHooking, SoloStep, Seen}
+use Rattle.world_solo.specs.Solo.{playerHooking, SoloStep, Seen, seenIn}
 use Rattle.world_solo.proofs.Free.{Free, empty-free, free-released}
 use Rattle.world_solo.proofs.Seat.{seenAt, tickedSeat, movedSeat, ticked-free, moved-free, ticks-seat, moves-seat}
 use Rattle.world_solo.proofs.Turns.{On}
@@ -87,16 +87,12 @@ removed-at k (i ∷ ids) w l f =
 
 -- ---- a step
 
--- what is seen of k in a step's answer
-abbrev seenOf : ℕ → Stepped → Seen
-seenOf k a = record { taken = recordAt (a .records) k; slot = slotAt (a .world .slots) k }
-
 module _ (n : ℕ) (s : Sides) (ts : List ℕ) (k : ℕ) (l : k < n) (w : World) (full : length (w .slots) ≡ n) (free : Free (slotAt (w .slots) k)) where
   abbrev t : Tuning
   t = tuningOf (w .tunings)
 
   abbrev Seats : Stepped → Type 0
-  Seats a = a .number ≡ 0 → seenOf k a ≡ steppedSeat n s ts k (w .tunings) (slotAt (w .slots) k)
+  Seats a = a .number ≡ 0 → seenIn k a ≡ steppedSeat n s ts k (w .tunings) (slotAt (w .slots) k)
 
   moved : (us : List Slot) → length us ≡ n → (a : Turn Moving ℕ) → Ends (Settling n s ts t us n) (λ r. 0 < r) a → On (λ m. seenAt k m ≡ walkedSeat n s ts k (w .tunings) (slotAt (w .slots) k)) a → Seats (stepAnswer n w s ts a)
   moved us z (stop r) g h e = absurd (omega arith)
@@ -109,7 +105,7 @@ module _ (n : ℕ) (s : Sides) (ts : List ℕ) (k : ℕ) (l : k < n) (w : World)
       removed = removed-at k (dying n s ts (m .slots)) (record { slots = m .slots; tunings = w .tunings }) size (subst (λ (y : Seen). Free (y .slot)) (sym h) (walked-free n s ts k (w .tunings) (slotAt (w .slots) k) free)) ∙ ap (λ (b : Bool). cond b emptySlot (slotAt (m .slots) k)) (dying-are n s ts (m .slots) k l)
 
   -- the record and the slot of k
-  pub step-seat : SoloStep n s ts w → seenOf k (step n w s ts) ≡ steppedSeat n s ts k (w .tunings) (slotAt (w .slots) k)
+  pub step-seat : SoloStep n s ts w → seenIn k (step n w s ts) ≡ steppedSeat n s ts k (w .tunings) (slotAt (w .slots) k)
   unfolding step stepOn
   step-seat h = by-test Seats (isMap s ts) (λ m. ticks (tickAll n (w .slots) s ts t) (ticks-same n s ts t (w .slots)) (ticks-seat n s ts t c d k l (w .slots))) (λ m e. absurd (omega arith)) (h .accepted)
     where

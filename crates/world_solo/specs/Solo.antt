@@ -31,7 +31,7 @@ forOther n k (Input id d x y j h) = not (eqb (placeOf n id) k)
 forOther n k (Tune index z) = false
 forOther n k Step = false
 
--- the other calls of a list, in the same order
+-- what is left of a list without them, in the same order
 abbrev pub struckOut : ℕ → ℕ → List Call → List Call
 struckOut n k [] = []
 struckOut n k (c ∷ cs) = cond (forOther n k c) (struckOut n k cs) (c ∷ struckOut n k cs)
@@ -55,23 +55,27 @@ SoloHeat n s ts w (c ∷ cs) = (c ≡ Step → SoloStep n s ts w) × SoloHeat n 
 
 -- ---- what is seen of an id
 
--- the record that a step took, and the slot after the step: whether somebody is there, the floor mark, and what a record would be made of
+-- the record that a step took, and the slot after it: whether somebody is there, the floor mark, the input, and the character that a record is made of
 pub record Seen : Type 0 where
   pub taken : Published
   pub slot : Slot
 
--- of the id k, in a call that answered a: in a step, and in no other call
-abbrev pub seenIn : ℕ → Stepped → Call → List Seen
-seenIn k a (Join id x y) = []
-seenIn k a (Leave id) = []
-seenIn k a (Input id d x y j h) = []
-seenIn k a (Tune index z) = []
-seenIn k a Step = record { taken = recordAt (a .records) k; slot = slotAt (a .world .slots) k } ∷ []
+-- of the id k, in a step that answered a
+abbrev pub seenIn : ℕ → Stepped → Seen
+seenIn k a = record { taken = recordAt (a .records) k; slot = slotAt (a .world .slots) k }
+
+-- in a call: only a step shows anything
+abbrev pub seenBy : ℕ → Stepped → Call → List Seen
+seenBy k a (Join id x y) = []
+seenBy k a (Leave id) = []
+seenBy k a (Input id d x y j h) = []
+seenBy k a (Tune index z) = []
+seenBy k a Step = seenIn k a ∷ []
 
 -- in the steps of a list, one after another
 abbrev pub seen : ℕ → Sides → List ℕ → ℕ → World → List Call → List Seen
 seen n s ts k w [] = []
-seen n s ts k w (c ∷ cs) = seenIn k (ran n s ts w c) c ++ seen n s ts k (ran n s ts w c .world) cs
+seen n s ts k w (c ∷ cs) = seenBy k (ran n s ts w c) c ++ seen n s ts k (ran n s ts w c .world) cs
 
 -- ---- the claim
 
