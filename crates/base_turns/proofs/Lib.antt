@@ -3,3 +3,4 @@ pub mod Kept
 pub mod Last
 pub mod Mapped
 pub mod Parts
+pub mod Own

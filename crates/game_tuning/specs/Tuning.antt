@@ -19,6 +19,9 @@ tuningCount = 18
 abbrev pub playerCollision : ℕ
 playerCollision = 16
 
+abbrev pub playerHooking : ℕ
+playerHooking = 17
+
 -- the float of the tuning with the index i
 unfoldable pub tuningAt : List ℤ → ℕ → Float
 tuningAt ts i = hundredthsToF32 (getD ts i (pos 0))

@@ -3,6 +3,8 @@
 // the steps of the second list of a pair have the words of those of the first.
 use character::SEATS;
 use map_tiles::Sides;
+use role_calls::call_as;
+use role_rule::Role;
 use test_common::AFTER_MAP;
 use test_common::Counts;
 use test_common::MOST_LINES;
@@ -25,7 +27,6 @@ use world::World;
 use world_calls::fresh;
 use world_numbers::flag;
 use world_numbers::record_numbers;
-use world_step::run_call;
 
 // The length of a line.
 const LINE: usize = 181;
@@ -105,7 +106,13 @@ fn answer(world: World, line: &[u8], words: &[u8], call: Call) -> Stepped {
         height: nth(words, SIDES + 1),
     };
     let tiles = tiles_of(line);
-    run_call(world, sides, first(&tiles, tile_count(line)), call)
+    call_as(
+        Role::Referee,
+        world,
+        sides,
+        first(&tiles, tile_count(line)),
+        call,
+    )
 }
 
 fn answer_agrees(stepped: Stepped, words: &[u8]) -> bool {

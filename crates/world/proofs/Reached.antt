@@ -5,7 +5,7 @@ use mathlib.Core.Bool.{Bool, true, false, cond, _&&_, true≢false}
 use mathlib.Core.List.{List}
 use mathlib.Core.Path.{_≡_, refl, sym, ap, _∙_, subst}
 use lib.Dec.{T}
-use lib.Ieee.{binary32, ofBits, ofInt, round, div, ne}
+use lib.Ieee.{binary32, ne}
 use lib.Ieee.Fits.{nan-fits}
 use lib.Ieee.Bits.{ofBits-fits}
 use lib.IntN.{ℤ, pos}
@@ -13,10 +13,10 @@ use lib.ListN.{getD}
 use Rattle.base_turns.specs.Turns.{Turn, more, stop, next, run}
 use Rattle.base_turns.proofs.Kept.{Ends}
 use Rattle.num_convert.specs.Number.{c0}
-use Rattle.num_convert.specs.Convert.{hundredthsToF32}
 use Rattle.map_tiles.specs.Map.{isMap}
 use Rattle.map_tiles.specs.declared.tiles.Sides.{Sides}
-use Rattle.game_tuning.specs.Tuning.{tuningAt, tuningOf}
+use Rattle.game_tuning.specs.Tuning.{tuningOf}
+use Rattle.game_tuning.proofs.Off.{collision-off}
 use Rattle.game_tuning.specs.declared.Tuning.{Tuning}
 use Rattle.character.specs.Slot.{emptySlot}
 use Rattle.character.specs.Character.{spawn}
@@ -36,11 +36,6 @@ use Rattle.world.proofs.Removal.{dying-are, listed-ids, removed-kept}
 use Rattle.world.proofs.Vacated.{vacated-every}
 use Rattle.world.proofs.Standing.{Standing, Stands, ticks-stand}
 use Rattle.world.proofs.Moves.{Sofar, moves-sofar}
-
--- player collision of 0 hundredths is no collision
-collision-off : (tunings : List ℤ) → getD tunings playerCollision (pos 0) ≡ pos 0 → ne (tuningOf tunings .«player_collision») c0 ≡ false
-unfolding tuningOf tuningAt hundredthsToF32 ofBits ofInt round div ne
-collision-off tunings e = rw e refl
 
 module _ (n : ℕ) (s : Sides) (ts : List ℕ) where
   -- z is player collision

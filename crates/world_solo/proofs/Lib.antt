@@ -1,4 +1,3 @@
-pub mod Turns
 pub mod Free
 pub mod Seat
 pub mod Step

@@ -37,7 +37,7 @@ use Rattle.world.specs.declared.Recorded.the-variants.{Refused, Core}
 use Rattle.world.proofs.Seats.{by-test, present-within}
 use Rattle.world_solo.specs.Solo.{Seen}
 use Rattle.world_solo.proofs.Free.{FreeHook, Free, tick-free}
-use Rattle.world_solo.proofs.Turns.{On, on-map, run-own}
+use Rattle.base_turns.proofs.Own.{On, on-map, run-own}
 
 -- ---- a seat alone
 

@@ -26,7 +26,7 @@ use Rattle.world.specs.declared.World.{World}
 use Rattle.world.proofs.Seats.{by-test}
 use Rattle.world.proofs.Settled.{answer-settled}
 use Rattle.world_solo.specs.Solo.{forOther, struckOut, Seen, seenBy, seen}
-use Rattle.world_solo.proofs.Turns.{On}
+use Rattle.base_turns.proofs.Own.{On}
 
 -- ---- a step has one record for each slot
 module _ (n : ℕ) (s : Sides) (ts : List ℕ) (w : World) where

@@ -5,18 +5,18 @@ use mathlib.Core.Bool.{Bool, true, false, cond, _||_}
 use mathlib.Core.List.{List, [], _∷_}
 use mathlib.Core.Path.{_≡_, refl, sym, ap, _∙_, subst}
 use lib.Dec.{eqb}
-use lib.IntN.{ℤ, pos}
-use lib.Ieee.{ofBits, ofInt, round, div, ne}
-use lib.ListN.{length, getD}
+use lib.IntN.{ℤ}
+use lib.Ieee.{ne}
+use lib.ListN.{length}
 use borrow.Author.Tests.{eqb-true, eqb-false}
 use Rattle.base_turns.specs.Turns.{Turn, more, stop, next}
 use Rattle.base_turns.proofs.Kept.{Ends}
-use Rattle.num_convert.specs.Convert.{hundredthsToF32}
 use Rattle.num_convert.specs.Number.{c0}
 use Rattle.map_tiles.specs.Map.{isMap}
 use Rattle.map_tiles.specs.declared.tiles.Sides.{Sides}
-use Rattle.game_tuning.specs.Tuning.{playerCollision, tuningAt, tuningOf}
+use Rattle.game_tuning.specs.Tuning.{tuningOf}
 use Rattle.game_tuning.specs.declared.Tuning.{Tuning}
+use Rattle.game_tuning.proofs.Off.{collision-off, hooking-off}
 use Rattle.character.specs.Slot.{emptySlot}
 use Rattle.character.specs.Tick.{slotAt}
 use Rattle.character.specs.declared.Slot.{Slot}
@@ -29,19 +29,10 @@ use Rattle.world.specs.declared.World.{World}
 use Rattle.world.proofs.Removal.{dying-are, removed-kept}
 use Rattle.world.proofs.Seats.{by-test, Same, Settling, ticks-same, moves-settle}
 use Rattle.world.proofs.Vacated.{vacated-at, vacated-others, vacated-length}
-use Rattle.world_solo.specs.Solo.{playerHooking, SoloStep, Seen, seenIn}
+use Rattle.world_solo.specs.Solo.{SoloStep, Seen, seenIn}
 use Rattle.world_solo.proofs.Free.{Free, empty-free, free-released}
 use Rattle.world_solo.proofs.Seat.{seenAt, tickedSeat, movedSeat, ticked-free, moved-free, ticks-seat, moves-seat}
-use Rattle.world_solo.proofs.Turns.{On}
-
--- a tuning of 0 hundredths is no collision, and no hooking
-collision-off : (tunings : List ℤ) → getD tunings playerCollision (pos 0) ≡ pos 0 → ne (tuningOf tunings .«player_collision») c0 ≡ false
-unfolding tuningOf tuningAt hundredthsToF32 ofBits ofInt round div ne
-collision-off tunings e = rw e refl
-
-hooking-off : (tunings : List ℤ) → getD tunings playerHooking (pos 0) ≡ pos 0 → ne (tuningOf tunings .«player_hooking») c0 ≡ false
-unfolding tuningOf tuningAt hundredthsToF32 ofBits ofInt round div ne
-hooking-off tunings e = rw e refl
+use Rattle.base_turns.proofs.Own.{On}
 
 -- ---- a seat alone
 

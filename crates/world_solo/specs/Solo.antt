@@ -7,7 +7,7 @@ use lib.Dec.{eqb}
 use lib.IntN.{pos}
 use lib.ListN.{getD}
 use Rattle.map_tiles.specs.declared.tiles.Sides.{Sides}
-use Rattle.game_tuning.specs.Tuning.{playerCollision}
+use Rattle.game_tuning.specs.Tuning.{playerCollision, playerHooking}
 use Rattle.character.specs.Tick.{slotAt}
 use Rattle.character.specs.declared.Slot.{Slot}
 use Rattle.world.specs.declared.call.Call.{Call}
@@ -37,10 +37,6 @@ struckOut n k [] = []
 struckOut n k (c ∷ cs) = cond (forOther n k c) (struckOut n k cs) (c ∷ struckOut n k cs)
 
 -- ---- a solo heat
-
--- which tuning is player hooking
-abbrev pub playerHooking : ℕ
-playerHooking = 17
 
 -- when step is called on w: player collision and player hooking are zero, and the step is not refused
 pub record SoloStep (n : ℕ) (s : Sides) (ts : List ℕ) (w : World) : Type 0 where

@@ -3,7 +3,7 @@
 use crate::pairs::Pair;
 use compare_world::differs::{Differs, same};
 use harness::Call;
-use ponguriena::{CharacterCore, PlayerInput, Records, Refusal, World};
+use ponguriena::{CharacterCore, PlayerInput, Records, Refusal, Role, World};
 use port_calls::{call, lent};
 use tile_map::Map;
 
@@ -69,8 +69,8 @@ fn seen(world: &World, records: &Records, id: i32) -> Seen {
     let mut taken = records.iter().filter(|&(other, _)| other == id);
     Seen {
         taken: taken.next().map(|(_, core)| core),
-        record: world.record(id),
-        mark: world.floor_mark(id),
-        input: world.player_input(id),
+        record: world.record(Role::Board, id),
+        mark: world.floor_mark(Role::Board, id),
+        input: world.player_input(Role::Referee, id),
     }
 }
