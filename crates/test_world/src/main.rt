@@ -4,41 +4,26 @@ mod digest;
 
 use digest::told_digest;
 use digest::world_digest;
-use map_tiles::Sides;
-use role_calls::call_as;
-use role_rule::Role;
+use test_calls::ANSWER;
+use test_calls::BESIDES;
+use test_calls::LINE;
+use test_calls::called;
+use test_calls::world_before;
 use test_common::AFTER_MAP;
 use test_common::Counts;
 use test_common::MOST_LINES;
 use test_common::Outcome;
-use test_common::after;
-use test_common::first;
 use test_common::nth;
 use test_common::read_line;
-use test_common::read_numbers;
 use test_common::rest;
-use test_common::tile_count;
-use test_common::tiles_of;
-use text_reading::Decoded;
-use text_reading::decode;
-use world::Call;
 use world::Stepped;
 use world::World;
 use world_calls::fresh;
 
-// The length of a line.
-const LINE: usize = 181;
+// Where the digests of the world and of what was told stand among the words.
+const WORLD: usize = BESIDES;
 
-// Where the sides, the call's values, the answer and the digests stand among the words.
-const SIDES: usize = 0;
-
-const CALL: usize = 2;
-
-const ANSWER: usize = 9;
-
-const WORLD: usize = 10;
-
-const RECORDS: usize = 11;
+const RECORDS: usize = BESIDES + 1;
 
 // What came of a line, and the world that it left.
 pub struct Next {
@@ -74,43 +59,13 @@ fn next_line(world: World) -> Next {
     after_line(world_before(line[0], world), &line)
 }
 
-// A sequence begins with a fresh world.
-fn world_before(mark: u8, world: World) -> World {
-    if mark == b'n' { fresh() } else { world }
-}
-
-// Values that are no call agree with nothing.
 fn after_line(world: World, line: &[u8]) -> Next {
-    let words = rest(line, AFTER_MAP);
-    let mut values = [0i32; 7];
-    read_numbers(after(words, CALL), &mut values);
-    let Decoded::Call(call) = decode(values) else {
-        return Next {
-            outcome: Outcome::of(false, line),
-            world,
-        };
-    };
-    let stepped = answer(world, line, words, call);
+    let stepped = called(world, line);
     let left = stepped.world;
     Next {
-        outcome: Outcome::of(answer_agrees(stepped, words), line),
+        outcome: Outcome::of(answer_agrees(stepped, rest(line, AFTER_MAP)), line),
         world: left,
     }
-}
-
-fn answer(world: World, line: &[u8], words: &[u8], call: Call) -> Stepped {
-    let sides = Sides {
-        width: nth(words, SIDES),
-        height: nth(words, SIDES + 1),
-    };
-    let tiles = tiles_of(line);
-    call_as(
-        Role::Referee,
-        world,
-        sides,
-        first(&tiles, tile_count(line)),
-        call,
-    )
 }
 
 fn answer_agrees(stepped: Stepped, words: &[u8]) -> bool {
