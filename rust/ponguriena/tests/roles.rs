@@ -1,25 +1,12 @@
 //! Who may make which call: the safe types for each role, and the calls on lent numbers for
 //! every number that is named as one.
 
+mod common;
+
+use common::{HOOK, NO_MAP, OPEN};
 use ponguriena::buffers::{self, RECORDS_NUMBERS, SEATS, WORLD_NUMBERS};
 use ponguriena::send_buffers::{self, PASSED_NUMBERS, SENDER_NUMBERS};
 use ponguriena::{CORE_NUMBERS, INPUT_NUMBERS, Map, PlayerInput, Refusal, Role, Sender, World};
-
-const OPEN: Map = Map {
-    width: 3,
-    height: 3,
-    tiles: &[0; 9],
-};
-
-const NO_MAP: Map = Map { width: 2, ..OPEN };
-
-const HOOK: PlayerInput = PlayerInput {
-    direction: 0,
-    target_x: 1,
-    target_y: 0,
-    jump: 0,
-    hook: 1,
-};
 
 const REFEREE: i32 = Role::Referee.number();
 const BOARD: i32 = Role::Board.number();

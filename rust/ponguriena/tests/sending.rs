@@ -1,10 +1,12 @@
 //! What goes to the screens through the safe types: a screen shows what the steps took,
 //! and little is passed along.
 
+mod common;
+
+use common::{HOOK, NO_MAP, OPEN};
 use ponguriena::Role::Referee;
 use ponguriena::{
-    CharacterCore, Map, Passed, PassedAlong, PlayerInput, Records, Refusal, SEATS, Screen, Sender,
-    World,
+    CharacterCore, Map, Passed, PassedAlong, Records, Refusal, SEATS, Screen, Sender, World,
 };
 
 const FLOOR: Map = Map {
@@ -18,21 +20,6 @@ const SPIKED: Map = Map {
     width: 3,
     height: 3,
     tiles: &[0, 0, 2, 0, 0, 2, 0, 0, 2],
-};
-
-const OPEN: Map = Map {
-    tiles: &[0; 9],
-    ..SPIKED
-};
-
-const NO_MAP: Map = Map { width: 2, ..OPEN };
-
-const HOOK: PlayerInput = PlayerInput {
-    direction: 0,
-    target_x: 1,
-    target_y: 0,
-    jump: 0,
-    hook: 1,
 };
 
 const GRAVITY: i32 = 12;

@@ -1,13 +1,10 @@
 //! The calls of a world: what each does, and the lowest refusal first.
 
+mod common;
+
+use common::{HOOK, NO_MAP, OPEN};
 use ponguriena::Role::Referee;
 use ponguriena::{CharacterCore, Map, PlayerInput, Refusal, SEATS, World};
-
-const OPEN: Map = Map {
-    width: 3,
-    height: 3,
-    tiles: &[0; 9],
-};
 
 /// Its right column is solid.
 const WALLED: Map = Map {
@@ -27,16 +24,6 @@ const SPIKED: Map = Map {
     width: 3,
     height: 3,
     tiles: &[0, 0, 2, 0, 0, 2, 0, 0, 2],
-};
-
-const NO_MAP: Map = Map { width: 2, ..OPEN };
-
-const HOOK: PlayerInput = PlayerInput {
-    direction: 0,
-    target_x: 1,
-    target_y: 0,
-    jump: 0,
-    hook: 1,
 };
 
 const HOOK_LENGTH: i32 = 8;
