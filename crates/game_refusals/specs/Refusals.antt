@@ -57,6 +57,10 @@ notAllowed = 13
 abbrev pub badArea : ℕ
 badArea = 14
 
+-- a trial with no tunings or more than eight, or with a number of steps outside 0 to 3,000
+abbrev pub badTrial : ℕ
+badTrial = 15
+
 -- a lent buffer of numbers that has another length than it must
 abbrev pub badLength : ℕ
 badLength = 17
