@@ -1,0 +1,102 @@
+-- The trial as a call on lent buffers of numbers: what it answers, and what it leaves in the result. A refusal leaves it as it was. Definitions only.
+use Prim.Native.Nat.{ℕ, _+_, _*_, _/_}
+use mathlib.Core.Bool.{Bool, false, cond, _&&_}
+use mathlib.Core.List.{List, [], _∷_}
+use lib.Dec.{leb, eqb}
+use lib.IntN.{ℤ, pos, negsuc}
+use lib.ListN.{length, take, replicate}
+use Rattle.base_turns.specs.Turns.{Turn, more, stop}
+use Rattle.game_refusals.specs.Refusals.{badMap, badTrial, badLength}
+use Rattle.game_tuning.specs.Tuning.{tuningCount}
+use Rattle.map_tiles.specs.Map.{isMap, count}
+use Rattle.map_tiles.specs.declared.tiles.Sides.{Sides}
+use Rattle.world_numbers.specs.Encoding.{each}
+use Rattle.world_numbers.specs.Decoding.{eachIn}
+use Rattle.trial_rule.specs.Trial.{Entrant, trial}
+use Rattle.trial_rule.specs.declared.Player.{Player}
+use Rattle.trial_rule.specs.declared.Tried.{Tried}
+
+-- ---- how many numbers there are
+
+-- of a join: id, x and y
+abbrev pub joinCount : ℕ
+joinCount = 3
+
+-- of a target: column and row
+abbrev pub targetCount : ℕ
+targetCount = 2
+
+-- of a seat in the result: whether a player joined there, its smallest distance, and the first step that reached it
+abbrev pub toldCount : ℕ
+toldCount = 3
+
+-- of a tuning's row in the result: the steps done, then every seat
+abbrev pub rowCount : ℕ → ℕ
+rowCount n = 1 + toldCount * n
+
+-- how many tunings were lent
+abbrev pub tuningsIn : List ℤ → ℕ
+tuningsIn tunings = length tunings / tuningCount
+
+-- whole joins, a target for each, whole tunings and a row for each
+unfoldable pub areWhole : ℕ → List ℤ → List ℤ → List ℤ → List ℤ → Bool
+areWhole n joins targets tunings result =
+    let k = length joins / joinCount in
+    eqb (length joins) (joinCount * k) && eqb (length targets) (targetCount * k) && eqb (length tunings) (tuningCount * tuningsIn tunings) && eqb (length result) (rowCount n * tuningsIn tunings)
+
+-- ---- what they say
+
+-- each join with its target
+abbrev pub entrants : List ℤ → List ℤ → List Entrant
+entrants (id ∷ x ∷ y ∷ joins) (column ∷ row ∷ targets) = record { id = id; x = x; y = y; column = column; row = row } ∷ entrants joins targets
+entrants [] targets = []
+entrants (id ∷ []) targets = []
+entrants (id ∷ x ∷ []) targets = []
+entrants (id ∷ x ∷ y ∷ joins) [] = []
+entrants (id ∷ x ∷ y ∷ joins) (column ∷ []) = []
+
+-- each tuning
+abbrev pub tuningRows : List ℤ → List (List ℤ)
+tuningRows tunings = eachIn (take tuningCount) tuningCount (tuningsIn tunings) tunings
+
+-- zeros where nobody joined
+unfoldable pub playerNumbers : Player → List ℤ
+playerNumbers p = cond (p .joined) (pos 1 ∷ pos (p .distance) ∷ pos (p .step) ∷ []) (replicate toldCount (pos 0))
+
+-- the row of a run
+unfoldable pub triedNumbers : Tried → List ℤ
+triedNumbers r = pos (r .steps) ∷ each playerNumbers (r .players)
+
+-- ---- refusal 15
+
+-- at most as many steps as may be run
+abbrev pub isSteps : ℤ → Bool
+isSteps (pos m) = leb m 3000
+isSteps (negsuc m) = false
+
+-- one tuning to eight, and so many steps
+unfoldable pub isTrial : ℕ → ℤ → Bool
+isTrial tunings steps = leb 1 tunings && leb tunings 8 && isSteps steps
+
+-- ---- the call
+
+-- a number, and the result that is left
+pub record LeftTrial : Type 0 where
+  pub number : ℕ
+  pub result : List ℤ
+
+-- the rows of the runs, one after the other; where a join is refused, its number
+abbrev pub trialLeft : List ℤ → Turn (List Tried) ℕ → LeftTrial
+trialLeft result (more rs) = record { number = 0; result = each triedNumbers rs }
+trialLeft result (stop k) = record { number = k; result = result }
+
+-- refused with 17 where a buffer has another length, with 1 where there is no map, with 15 where there are no tunings, too many, or too many steps; then by its joins
+unfoldable pub trialIn : ℕ → Sides → List ℕ → List ℤ → List ℤ → List ℤ → ℤ → List ℤ → LeftTrial
+trialIn n s ts joins targets tunings steps result =
+    cond (areWhole n joins targets tunings result)
+    (cond (isMap s ts)
+    (cond (isTrial (tuningsIn tunings) steps)
+    (trialLeft result (trial n s ts (entrants joins targets) (tuningRows tunings) (count steps)))
+    (record { number = badTrial; result = result }))
+    (record { number = badMap; result = result }))
+    (record { number = badLength; result = result })
