@@ -1,5 +1,5 @@
 -- The trial as a call on lent buffers of numbers: what it answers, and what it leaves in the result. A refusal leaves it as it was. Definitions only.
-use Prim.Native.Nat.{ℕ, _+_, _*_, _/_}
+use Prim.Native.Nat.{ℕ, _+_, _*_, _/_, _%_}
 use mathlib.Core.Bool.{Bool, false, cond, _&&_}
 use mathlib.Core.List.{List, [], _∷_}
 use lib.Dec.{leb, eqb}
@@ -34,15 +34,10 @@ toldCount = 3
 abbrev pub rowCount : ℕ → ℕ
 rowCount n = 1 + toldCount * n
 
--- how many tunings were lent
-abbrev pub tuningsIn : List ℤ → ℕ
-tuningsIn tunings = length tunings / tuningCount
-
--- whole joins, a target for each, whole tunings and a row for each
-unfoldable pub areWhole : ℕ → List ℤ → List ℤ → List ℤ → List ℤ → Bool
+-- whole joins, a target for each, whole tunings and a row for each, by the lengths of the buffers
+unfoldable pub areWhole : ℕ → ℕ → ℕ → ℕ → ℕ → Bool
 areWhole n joins targets tunings result =
-    let k = length joins / joinCount in
-    eqb (length joins) (joinCount * k) && eqb (length targets) (targetCount * k) && eqb (length tunings) (tuningCount * tuningsIn tunings) && eqb (length result) (rowCount n * tuningsIn tunings)
+    eqb (joins % joinCount) 0 && eqb targets (targetCount * (joins / joinCount)) && eqb (tunings % tuningCount) 0 && eqb result (rowCount n * (tunings / tuningCount))
 
 -- ---- what they say
 
@@ -55,7 +50,11 @@ entrants (id ∷ x ∷ []) targets = []
 entrants (id ∷ x ∷ y ∷ joins) [] = []
 entrants (id ∷ x ∷ y ∷ joins) (column ∷ []) = []
 
--- each tuning
+-- how many tunings there are
+abbrev pub tuningsIn : List ℤ → ℕ
+tuningsIn tunings = length tunings / tuningCount
+
+-- each of them
 abbrev pub tuningRows : List ℤ → List (List ℤ)
 tuningRows tunings = eachIn (take tuningCount) tuningCount (tuningsIn tunings) tunings
 
@@ -93,7 +92,7 @@ trialLeft result (stop k) = record { number = k; result = result }
 -- refused with 17 where a buffer has another length, with 1 where there is no map, with 15 where there are no tunings, too many, or too many steps; then by its joins
 unfoldable pub trialIn : ℕ → Sides → List ℕ → List ℤ → List ℤ → List ℤ → ℤ → List ℤ → LeftTrial
 trialIn n s ts joins targets tunings steps result =
-    cond (areWhole n joins targets tunings result)
+    cond (areWhole n (length joins) (length targets) (length tunings) (length result))
     (cond (isMap s ts)
     (cond (isTrial (tuningsIn tunings) steps)
     (trialLeft result (trial n s ts (entrants joins targets) (tuningRows tunings) (count steps)))

@@ -9,7 +9,6 @@ use Rattle.base_turns.specs.Turns.{Turn, more, stop, next, run, fold}
 use Rattle.num_vec2.specs.declared.vec2.{vec2}
 use Rattle.map_corners.specs.Tile.{clampTo, tileAt}
 use Rattle.map_tiles.specs.declared.tiles.Sides.{Sides}
-use Rattle.game_records.specs.declared.CharacterCore.{CharacterCore}
 use Rattle.character.specs.Tick.{slotAt}
 use Rattle.world.specs.World.{fresh}
 use Rattle.world.specs.Calls.{placeOf, pointOf, join}
@@ -74,23 +73,23 @@ entered s e = record {
   step = 0;
 }
 
--- after the step k, whose record is c: a smaller distance is kept with its step
-unfoldable pub noted : Sides → ℕ → CharacterCore → Player → Player
-noted s k c p =
-    let d = distanceTo s (p .column) (p .row) (pointOf (c .x) (c .y)) in
+-- after the step k, whose record is at x and y: a smaller distance is kept with its step
+unfoldable pub noted : Sides → ℕ → ℤ → ℤ → Player → Player
+noted s k x y p =
+    let d = distanceTo s (p .column) (p .row) (pointOf x y) in
     record {
       joined = p .joined;
       column = p .column;
       row = p .row;
-      x = c .x;
-      stayed = sameNumber (p .x) (c .x);
+      x = x;
+      stayed = sameNumber (p .x) x;
       distance = cond (ltb d (p .distance)) d (p .distance);
       step = cond (ltb d (p .distance)) k (p .step);
     }
 
 -- the seat j, where the step took a record
 abbrev pub noteTurn : Sides → ℕ → List Published → ℕ → List Player → List Player
-noteTurn s k rs j ps = cond (recordAt rs j .present) (set ps j (noted s k (recordAt rs j .core) (playerAt ps j))) ps
+noteTurn s k rs j ps = let r = recordAt rs j in cond (r .present) (set ps j (noted s k (r .core .x) (r .core .y) (playerAt ps j))) ps
 
 -- every seat, those of the removed included
 unfoldable pub notedAll : ℕ → Sides → ℕ → List Published → List Player → List Player

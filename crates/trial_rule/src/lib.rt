@@ -16,6 +16,6 @@ pub struct Player {
 
 // What the run of one tuning gives: the steps done, and the players.
 pub struct Tried {
-    pub steps: u32,
+    pub steps: u16,
     pub players: [Player; SEATS],
 }

@@ -47,7 +47,7 @@ module _ (n : ℕ) (s : Sides) (ts : List ℕ) (w : World) where
   unfolding moveAll
   moves-sized us = run-kept (moveTurn n s ts t) (λ i. Sized) (λ r. Unit {0}) move-turn n 0 (movingFrom n us) (length-replicate n unpublished)
 
-  step-sized : length (step n w s ts .records) ≡ n
+  pub step-sized : length (step n w s ts .records) ≡ n
   unfolding step stepOn
   step-sized = by-test (λ (a : Stepped). length (a .records) ≡ n) (isMap s ts) (λ e. ticks (tickAll n (w .slots) s ts t)) (λ e. length-replicate n unpublished)
     where

@@ -1,0 +1,44 @@
+// When a trial is refused before its joins.
+use crate::entering::JOIN;
+use crate::entering::TARGET;
+use crate::telling::ROW;
+use game_tuning::TUNINGS;
+ghost use mathlib.Core.Path.{_≡_};
+ghost use Rattle.character.specs.Tick.{seats};
+ghost use Rattle.trial_rule.specs.Calls.{areWhole, isTrial};
+
+// The most tunings, and the most steps.
+const MOST_TUNINGS: usize = 8;
+
+const MOST_STEPS: i32 = 3000;
+
+// Whether the lengths of the buffers fit each other.
+pub fn are_whole(joins: usize, targets: usize, tunings: usize, result: usize) -> bool
+    ensures { λ r. ⌜ r ≡ areWhole seats joins targets tunings result ⌝ }
+{
+    if joins % JOIN != 0 {
+        return false;
+    }
+    if targets != TARGET * (joins / JOIN) {
+        return false;
+    }
+    if tunings % TUNINGS != 0 {
+        return false;
+    }
+    if result % ROW != 0 {
+        return false;
+    }
+    result / ROW == tunings / TUNINGS
+}
+
+pub fn is_trial(tunings: usize, steps: i32) -> bool
+    ensures { λ r. ⌜ r ≡ isTrial tunings steps ⌝ }
+{
+    if tunings < 1 {
+        return false;
+    }
+    if tunings > MOST_TUNINGS {
+        return false;
+    }
+    0 <= steps && steps <= MOST_STEPS
+}
