@@ -1,10 +1,11 @@
-// The C interface of the calls on a world, a sender and a screen that are kept as the numbers of lent buffers, of packed records and of the areas of a map. Their answers are a refusal's number, or 0.
+// The C interface of the calls on a world, a sender and a screen that are kept as the numbers of lent buffers, of packed records, of the areas of a map and of trials. Their answers are a refusal's number, or 0.
 // What takes a world names a role first: 13 comes before every other refusal.
 mod area;
 mod calls;
 mod packed;
 mod readers;
 mod sending;
+mod trials;
 
 pub use area::ponguriena_area_build;
 pub use area::ponguriena_area_change;
@@ -28,3 +29,4 @@ pub use sending::ponguriena_send_step;
 pub use sending::ponguriena_send_tune;
 pub use sending::ponguriena_sender_fresh;
 pub use sending::ponguriena_shown;
+pub use trials::ponguriena_trial;
