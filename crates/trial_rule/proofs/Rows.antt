@@ -1,12 +1,11 @@
 -- The numbers of players and of runs, as rows of the result. Assumes nothing.
-use Prim.Native.Nat.{ℕ, _+_, _*_}
+use Prim.Native.Nat.{ℕ, _*_}
 use mathlib.Core.Bool.{Bool, true, false, cond}
-use mathlib.Core.List.{List, [], _∷_}
-use mathlib.Core.Path.{_≡_, refl, ap, _∙_}
+use mathlib.Core.List.{[], _∷_}
+use mathlib.Core.Path.{_≡_, refl, ap}
 use native.Mathlib.Omega.{arith}
-use lib.IntN.{ℤ, pos}
+use lib.IntN.{pos}
 use lib.ListN.{length, replicate}
-use Rattle.world_numbers.specs.Encoding.{each}
 use Rattle.world_numbers.proofs.Rows.{each-long}
 use Rattle.trial_rule.specs.Calls.{toldCount, rowCount, playerNumbers, triedNumbers}
 use Rattle.trial_rule.specs.declared.Player.{Player}

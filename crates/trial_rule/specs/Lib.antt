@@ -1,2 +1,4 @@
 pub mod Trial
 pub mod Calls
+pub mod Laws
+pub mod Worked

@@ -5,11 +5,10 @@ use mathlib.Core.List.{List}
 use mathlib.Core.Path.{_≡_, refl, sym, ap, _∙_}
 use native.Mathlib.Omega.{arith}
 use lib.IntN.{ℤ, pos}
-use lib.ListN.{length, getD, take, drop, set}
+use lib.ListN.{length, drop, set}
 use lib.Seq.{getD-drop, getD-take, set-getD}
 use Rattle.map_tiles.specs.declared.tiles.Sides.{Sides}
 use Rattle.game_records.specs.Numbers.{numberAt, coreNumbers}
-use Rattle.character.specs.Tick.{seats}
 use Rattle.world.specs.Demand3.{recordAt}
 use Rattle.world.specs.Step.{unpublished}
 use Rattle.world.specs.declared.Published.{Published}

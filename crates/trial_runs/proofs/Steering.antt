@@ -1,12 +1,12 @@
 -- The inputs before a step, on numbers: they are the calls of the rule on the world that the numbers stand for. Assumes nothing.
-use Prim.Native.Nat.{ℕ, zero, suc, _+_, _*_, _≤_, _<_}
+use Prim.Native.Nat.{ℕ, zero, suc, _+_, _<_}
 use mathlib.Core.Bool.{Bool, true, false, cond}
-use mathlib.Core.List.{List, [], _∷_, map}
-use mathlib.Core.Path.{_≡_, refl, sym, ap, ap₂, _∙_, subst}
+use mathlib.Core.List.{List, _∷_, map}
+use mathlib.Core.Path.{_≡_, refl, sym, ap, _∙_, subst}
 use native.Mathlib.Omega.{arith}
 use lib.IntN.{ℤ, pos}
 use lib.Ieee.{Float}
-use lib.ListN.{length, getD, drop}
+use lib.ListN.{length, drop}
 use lib.Seq.{getD-drop, drop-drop}
 use borrow.Author.Tests.{lt-ltb}
 use Rattle.base_rows.specs.Put.{put}
@@ -23,14 +23,14 @@ use Rattle.character.specs.Tick.{seats, slotAt}
 use Rattle.character.specs.declared.Slot.{Slot}
 use Rattle.world.specs.Calls.{placeOf}
 use Rattle.world.specs.Removal.{idsOf}
-use Rattle.world.specs.Run.{inputOf, ran, after}
+use Rattle.world.specs.Run.{inputOf, after}
 use Rattle.world.specs.declared.World.{World}
 use Rattle.world.specs.declared.call.Call.{Call}
 use Rattle.world_numbers.specs.Encoding.{recordCount, seatCount, worldCount, seatPlace, flag}
 use Rattle.world_numbers.specs.Decoding.{isSet, readable, seatOf, decoding}
 use Rattle.world_numbers.proofs.Seats.{seat-is}
 use Rattle.world_numbers.proofs.Written.{rowAt}
-use Rattle.world_buffers.specs.Buffers.{Left, acceptedIn, isThere, inputIn}
+use Rattle.world_buffers.specs.Buffers.{Left, isThere, inputIn}
 use Rattle.world_buffers.specs.Following.{leftBy}
 use Rattle.world_buffers.proofs.Answers.{nobody, somebody}
 use Rattle.world_buffers.proofs.Released.{first-in}

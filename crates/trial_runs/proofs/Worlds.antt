@@ -1,8 +1,7 @@
 -- The numbers of a world that calls can reach, and what calls make of them. Assumes nothing.
-use Prim.Native.Nat.{ℕ, _+_, _<_}
-use mathlib.Core.Bool.{true}
+use Prim.Native.Nat.{ℕ, _+_}
 use mathlib.Core.List.{List, _++_}
-use mathlib.Core.Path.{_≡_, refl, sym, ap, ap₂, _∙_, subst}
+use mathlib.Core.Path.{_≡_, refl, sym, ap, _∙_, subst}
 use native.Mathlib.Omega.{arith}
 use lib.IntN.{ℤ, pos}
 use lib.ListN.{length, replicate, drop, length-replicate}
@@ -12,13 +11,11 @@ use Rattle.base_rows.specs.Put.{put}
 use Rattle.game_tuning.specs.Tuning.{tuningCount}
 use Rattle.map_tiles.specs.declared.tiles.Sides.{Sides}
 use Rattle.character.specs.Tick.{seats}
-use Rattle.world.specs.World.{fresh}
 use Rattle.world.specs.Run.{ran}
 use Rattle.world.specs.Settled.{Settled}
 use Rattle.world.specs.Step.{step}
 use Rattle.world.specs.declared.World.{World}
 use Rattle.world.specs.declared.call.Call.{Call}
-use Rattle.world.specs.declared.call.Call.the-variants.{Step}
 use Rattle.world.proofs.Settled.{answer-settled}
 use Rattle.world_numbers.specs.Encoding.{worldCount, recordsCount, each, seatNumbers, encoding, recordsEncoding}
 use Rattle.world_numbers.specs.Decoding.{decoding}

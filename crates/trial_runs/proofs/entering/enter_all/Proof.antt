@@ -1,5 +1,5 @@
 -- `trial_runs::entering::enter_all` meets its contract. Assumes nothing.
-use Prim.Native.Nat.{ℕ, _+_, _*_, _-_, _/_, _<_}
+use Prim.Native.Nat.{ℕ, _-_, _/_, _<_}
 use mathlib.Core.Path.{_≡_, refl, sym, ap, ap₂, _∙_, subst}
 use native.Mathlib.Omega.{arith}
 use lib.ListN.{length, replicate, set}
@@ -8,7 +8,6 @@ use Rattle.character.specs.Tick.{seats}
 use Rattle.world.specs.Calls.{placeOf}
 use Rattle.trial_rule.specs.Trial.{noPlayer, entered, enterAll}
 use Rattle.trial_rule.specs.Calls.{joinCount, entrants}
-use Rattle.trial_rule.specs.declared.Player.{Player}
 use Rattle.trial_runs.proofs.Sides.{both-sides}
 use Rattle.world_buffers.specs.Buffers.{joinIn}
 use Rattle.trial_runs.proofs.Worlds.{world-long}

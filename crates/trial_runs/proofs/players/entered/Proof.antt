@@ -1,16 +1,13 @@
 -- `trial_runs::players::entered` meets its contract. Assumes nothing.
-use mathlib.Core.Path.{_≡_, ap, ap₂, _∙_}
+use mathlib.Core.Path.{_≡_, ap, _∙_}
 use Prim.Native.Nat.{ℕ}
 use native.Mathlib.Omega.{arith}
 use lib.IntN.{ℤ}
-use mir.Syntax.{w32}
-use mir.Val.{toZ, ofZ}
 use mir.Facts.{toZ-ofZ}
 use mathlib.Core.Bool.{true, false}
 use Rattle.map_tiles.specs.declared.tiles.Sides.{Sides}
 use Rattle.world.specs.Calls.{pointOf}
 use Rattle.trial_rule.specs.Trial.{Entrant, targetColumn, targetRow, distanceTo, entered}
-use Rattle.trial_rule.specs.declared.Player.{Player}
 use borrow.Author.Needs.{needs}
 use Rattle.trial_runs.proofs.players.entered.Statement.{statement}
 use Rattle.trial_runs.proofs.players.entered.Tie as tie

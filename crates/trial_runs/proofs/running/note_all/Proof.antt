@@ -1,10 +1,10 @@
 -- `trial_runs::running::note_all` meets its contract. Assumes nothing.
-use Prim.Native.Nat.{ℕ, _-_, _≤_}
+use Prim.Native.Nat.{_-_, _≤_}
 use mathlib.Core.List.{List}
-use mathlib.Core.Path.{_≡_, sym, ap, ap₂, _∙_}
+use mathlib.Core.Path.{sym, ap, _∙_}
 use native.Mathlib.Omega.{arith}
 use lib.IntN.{ℤ}
-use lib.ListN.{length, set, length-set}
+use lib.ListN.{set}
 use Rattle.base_turns.specs.Turns.{more}
 use Rattle.base_turns.proofs.Loop.{Left, always, fold-first, fold-end, turn-on}
 use Rattle.character.specs.Tick.{seats}

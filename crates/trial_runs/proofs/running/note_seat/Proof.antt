@@ -1,14 +1,14 @@
 -- `trial_runs::running::note_seat` meets its contract. Assumes nothing.
 use mathlib.Core.Bool.{true, false}
 use mathlib.Core.Path.{_≡_, sym, ap, ap₂, _∙_}
-use Prim.Native.Nat.{_+_, _*_}
+use Prim.Native.Nat.{_*_}
 use lib.IntN.{ℤ}
 use Rattle.game_records.specs.Numbers.{numberAt}
 use Rattle.game_records.proofs.Bits.{again}
 use Rattle.world_numbers.specs.Encoding.{recordCount}
 use Rattle.world_numbers.specs.Decoding.{isSet}
 use Rattle.trial_rule.specs.Trial.{noted}
-use Rattle.trial_runs.specs.InPlace.{xPlace, yPlace, notedAt}
+use Rattle.trial_runs.specs.InPlace.{notedAt}
 use borrow.Author.Needs.{needs}
 use Rattle.trial_runs.proofs.running.note_seat.Statement.{statement}
 use Rattle.trial_runs.proofs.running.note_seat.Tie as tie

@@ -8,7 +8,7 @@ use Rattle.game_records.proofs.Bits.{again}
 use Rattle.world_step.proofs.Listed.{as-i32}
 use Rattle.world_numbers.specs.Encoding.{seatPlace}
 use Rattle.world_numbers.specs.Decoding.{isSet}
-use Rattle.world_buffers.specs.Buffers.{Left, isThere, inputIn}
+use Rattle.world_buffers.specs.Buffers.{Left, inputIn}
 use Rattle.trial_runs.specs.InPlace.{xPlace, trialInput, steeredAt}
 use Rattle.trial_runs.proofs.Steering.{stays}
 use borrow.Author.Needs.{needs}

@@ -1,7 +1,6 @@
 -- `trial_runs::running::towards` meets its contract. Assumes nothing.
 use borrow.Author.Tests.{lt-ltb, le-ltb}
 use Rattle.trial_rule.specs.Trial.{towards}
-use borrow.Author.Needs.{needs}
 use Rattle.trial_runs.proofs.running.towards.Statement.{statement}
 use Rattle.trial_runs.proofs.running.towards.Tie as tie
 
