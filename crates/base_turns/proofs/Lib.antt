@@ -4,3 +4,4 @@ pub mod Last
 pub mod Mapped
 pub mod Parts
 pub mod Own
+pub mod Tests

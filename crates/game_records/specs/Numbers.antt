@@ -1,10 +1,19 @@
 -- A record and an input as lists of numbers, and back. Definitions only.
 use Prim.Native.Nat.{ℕ}
+use mathlib.Core.Bool.{Bool, false}
 use mathlib.Core.List.{List, [], _∷_}
-use lib.IntN.{ℤ, pos}
+use lib.Dec.{eqb}
+use lib.IntN.{ℤ, pos, negsuc}
 use lib.ListN.{getD}
 use Rattle.game_records.specs.declared.CharacterCore.{CharacterCore}
 use Rattle.game_records.specs.declared.PlayerInput.{PlayerInput}
+
+-- the same whole number
+abbrev pub sameNumber : ℤ → ℤ → Bool
+sameNumber (pos a) (pos b) = eqb a b
+sameNumber (negsuc a) (negsuc b) = eqb a b
+sameNumber (pos a) (negsuc b) = false
+sameNumber (negsuc a) (pos b) = false
 
 -- how many numbers a record has
 abbrev pub coreCount : ℕ

@@ -19,7 +19,7 @@ use Rattle.send_rule.specs.declared.Passed.{Passed}
 use Rattle.send_rule.specs.declared.Passed.the-variants as passed
 use Rattle.send_rule.specs.declared.Screen.{Screen}
 use Rattle.send_rule.proofs.Copies.{step-none, step-counts}
-use Rattle.send_rule.proofs.Tests.{either-way}
+use Rattle.base_turns.proofs.Tests.{either-way}
 use Rattle.send_numbers.specs.Copies.{copyCount, screenCount, screenEncoding, screenDecoding}
 use Rattle.send_numbers.proofs.ScreensBack.{screen-long, screen-comes-back}
 

@@ -29,7 +29,7 @@ use Rattle.send_rule.specs.declared.Passed.{Passed}
 use Rattle.send_rule.specs.declared.Passed.the-variants as passed
 use Rattle.send_rule.proofs.Messages.{messageOf}
 use Rattle.send_rule.proofs.Places.{fold-on}
-use Rattle.send_rule.proofs.Tests.{or-first, or-second}
+use Rattle.base_turns.proofs.Tests.{or-first, or-second}
 use Rattle.send_calls.proofs.Accepted.{lists-seats}
 use Rattle.send_numbers.specs.Reading.{Known}
 

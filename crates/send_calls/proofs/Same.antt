@@ -8,15 +8,9 @@ use mathlib.Core.Path.{_≡_, refl, sym, ap, _∙_}
 use lib.IntN.{ℤ, pos}
 use lib.ListN.{length, getD, drop}
 use lib.Seq.{drop-cons}
-use Rattle.send_rule.specs.Send.{sameNumber, sameNumbers}
-use Rattle.send_rule.proofs.Cores.{number-same, number-self}
-
-number-differs : (x y : ℤ) → (x ≡ y → ⊥) → sameNumber x y ≡ false
-number-differs x y h = go (sameNumber x y) refl
-  where
-    go : (b : Bool) → sameNumber x y ≡ b → b ≡ false
-    go true e = absurd (h (number-same x y e))
-    go false e = refl
+use Rattle.game_records.specs.Numbers.{sameNumber}
+use Rattle.game_records.proofs.Same.{number-self, number-differs}
+use Rattle.send_rule.specs.Send.{sameNumbers}
 
 module _ (a b : List ℤ) (i : ℕ) (l : i < length a) (n : length a ≡ length b) where
   abbrev x : ℤ

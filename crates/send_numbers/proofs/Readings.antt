@@ -10,13 +10,12 @@ use mir.Syntax.{w32}
 use mir.Val.{toZ, ofZ}
 use borrow.Author.Tests.{lt-ltb, le-ltb}
 use Rattle.game_refusals.specs.Refusals.{badLength}
-use Rattle.game_records.specs.Numbers.{numberAt}
+use Rattle.game_records.specs.Numbers.{sameNumber, numberAt}
 use Rattle.game_records.proofs.Bits.{again}
 use Rattle.world.specs.Calls.{placeOf}
-use Rattle.send_rule.specs.Send.{sameNumber}
 use Rattle.send_rule.specs.declared.Passed.{Passed}
-use Rattle.send_rule.proofs.Cores.{number-same, number-self}
-use Rattle.send_rule.proofs.Tests.{either-way}
+use Rattle.game_records.proofs.Same.{number-same, number-self}
+use Rattle.base_turns.proofs.Tests.{either-way}
 use Rattle.send_numbers.specs.Reading.{readPlace, isKind}
 use Rattle.send_numbers.specs.declared.reading.PassedRead.the-variants.{Refused, Of}
 

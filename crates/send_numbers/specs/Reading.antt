@@ -7,10 +7,9 @@ use lib.Dec.{eqb, ltb}
 use lib.IntN.{ℤ, pos}
 use lib.ListN.{length, drop}
 use Rattle.game_refusals.specs.Refusals.{badId, badTuning, badLength}
-use Rattle.game_records.specs.Numbers.{coreCount, numberAt, coreIn, inputIn}
+use Rattle.game_records.specs.Numbers.{sameNumber, coreCount, numberAt, coreIn, inputIn}
 use Rattle.game_tuning.specs.Tuning.{tuningCount}
 use Rattle.world.specs.Calls.{placeOf}
-use Rattle.send_rule.specs.Send.{sameNumber}
 use Rattle.send_rule.specs.declared.Passed.{Passed}
 use Rattle.send_rule.specs.declared.Passed.the-variants as passed
 use Rattle.send_numbers.specs.Passing.{messageCount, passedNumbers, allNumbers}

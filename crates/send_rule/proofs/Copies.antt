@@ -18,7 +18,7 @@ use Rattle.send_rule.specs.Link.{Link}
 use Rattle.send_rule.specs.Sparing.{orNone, Surprise, differs, refused, first, long}
 use Rattle.send_rule.specs.declared.Copy.{Copy}
 use Rattle.send_rule.specs.declared.Passed.{Passed}
-use Rattle.send_rule.proofs.Tests.{either-way, both, second-false, or-first, or-second, or-cases}
+use Rattle.base_turns.proofs.Tests.{either-way, both, second-false, or-first, or-second, or-cases}
 use Rattle.send_rule.proofs.Cores.{core-self, core-same}
 use Rattle.send_rule.proofs.Shown.{NotDue, not-due}
 

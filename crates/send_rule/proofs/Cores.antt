@@ -2,23 +2,13 @@
 use mathlib.Core.Bool.{true, true≢false}
 use mathlib.Core.List.{List, [], _∷_, _++_}
 use mathlib.Core.Path.{_≡_, refl, sym, ap, _∙_}
-use lib.IntN.{ℤ, pos, negsuc}
-use borrow.Author.Tests.{eqb-true, eq-eqb}
-use Rattle.game_records.specs.Numbers.{coreNumbers, coreIn}
+use lib.IntN.{ℤ}
+use Rattle.game_records.specs.Numbers.{sameNumber, coreNumbers, coreIn}
 use Rattle.game_records.specs.declared.CharacterCore.{CharacterCore}
 use Rattle.game_records.proofs.Back.{core-back}
-use Rattle.send_rule.specs.Send.{sameNumber, sameNumbers, sameCore}
-use Rattle.send_rule.proofs.Tests.{both}
-
-pub number-same : (x y : ℤ) → sameNumber x y ≡ true → x ≡ y
-number-same (pos a) (pos b) e = ap pos (eqb-true a b e)
-number-same (negsuc a) (negsuc b) e = ap negsuc (eqb-true a b e)
-number-same (pos a) (negsuc b) e = absurd (true≢false (sym e))
-number-same (negsuc a) (pos b) e = absurd (true≢false (sym e))
-
-pub number-self : (x : ℤ) → sameNumber x x ≡ true
-number-self (pos a) = eq-eqb a a refl
-number-self (negsuc a) = eq-eqb a a refl
+use Rattle.game_records.proofs.Same.{number-same, number-self}
+use Rattle.send_rule.specs.Send.{sameNumbers, sameCore}
+use Rattle.base_turns.proofs.Tests.{both}
 
 pub numbers-same : (xs ys : List ℤ) → sameNumbers xs ys ≡ true → xs ≡ ys
 numbers-same [] [] e = refl

@@ -1,4 +1,3 @@
-pub mod Tests
 pub mod Cores
 pub mod Places
 pub mod Steps

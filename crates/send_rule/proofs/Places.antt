@@ -15,7 +15,7 @@ use Rattle.character_laws.proofs.Slots.{set-others}
 use Rattle.world.specs.Removal.{isIn}
 use Rattle.send_rule.specs.Send.{noCopy, copyAt, stepCopy, stepTurn, stepCopies, dropped}
 use Rattle.send_rule.specs.declared.Copy.{Copy}
-use Rattle.send_rule.proofs.Tests.{neither}
+use Rattle.base_turns.proofs.Tests.{neither}
 
 -- what each turn keeps for the next index, the walk keeps for the one past its last
 pub fold-on : {S : Type 0} (f : ℕ → S → S) (P : ℕ → S → Type 0) → ((i : ℕ) (s : S) → P i s → P (suc i) (f i s)) → (n i : ℕ) (s : S) → P i s → P (n + i) (fold f n i s)

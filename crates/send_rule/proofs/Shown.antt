@@ -25,7 +25,7 @@ use Rattle.send_rule.specs.declared.Copy.{Copy}
 use Rattle.send_rule.specs.declared.Passed.{Passed}
 use Rattle.send_rule.specs.declared.Passed.the-variants as passed
 use Rattle.send_rule.specs.declared.Screen.{Screen}
-use Rattle.send_rule.proofs.Tests.{neither, second-false}
+use Rattle.base_turns.proofs.Tests.{neither, second-false}
 use Rattle.send_rule.proofs.Cores.{core-same}
 use Rattle.send_rule.proofs.Places.{drop-other}
 use Rattle.send_rule.proofs.Steps.{step-leaves}

@@ -32,7 +32,7 @@ use Rattle.send_rule.specs.Link.{Link, freshLink, sentOn, called, messag
 use Rattle.send_rule.specs.Sparing.{newAfter, orNone, sinceAfter, StepSparing, CallSparing, CallsSparing, Sparing}
 use Rattle.send_rule.specs.declared.Copy.{Copy}
 use Rattle.send_rule.specs.declared.Passed.{Passed}
-use Rattle.send_rule.proofs.Tests.{either-way, both}
+use Rattle.base_turns.proofs.Tests.{either-way, both}
 use Rattle.send_rule.proofs.Messages.{messageOf, itsCopy, hasMessage, sent-copy}
 use Rattle.send_rule.proofs.Linked.{Linked, linked-first, linked-next, sent-accepted, sent-refused}
 use Rattle.send_rule.proofs.Along.{drop-test, step-messages, copies}

@@ -7,7 +7,7 @@ use lib.IntN.{ℤ, pos, negsuc}
 use lib.ListN.{length, getD, take, set, replicate}
 use Rattle.base_turns.specs.Turns.{fold}
 use Rattle.game_refusals.specs.Refusals.{tooFar}
-use Rattle.game_records.specs.Numbers.{coreNumbers}
+use Rattle.game_records.specs.Numbers.{sameNumber, coreNumbers}
 use Rattle.game_records.specs.declared.CharacterCore.{CharacterCore}
 use Rattle.game_records.specs.declared.PlayerInput.{PlayerInput}
 use Rattle.game_tuning.specs.Tuning.{freshTunings, tuningCount}
@@ -101,13 +101,6 @@ dropped [] cs = cs
 dropped (k ∷ ks) cs = dropped ks (set cs k noCopy)
 
 -- ---- when a message is due
-
--- the same whole number
-abbrev pub sameNumber : ℤ → ℤ → Bool
-sameNumber (pos a) (pos b) = eqb a b
-sameNumber (negsuc a) (negsuc b) = eqb a b
-sameNumber (pos a) (negsuc b) = false
-sameNumber (negsuc a) (pos b) = false
 
 -- one by one
 abbrev pub sameNumbers : List ℤ → List ℤ → Bool

@@ -18,7 +18,7 @@ use Rattle.world.specs.declared.Published.{Published}
 use Rattle.world.specs.declared.call.Call.the-variants.{Input}
 use Rattle.world.proofs.Seats.{last-or-below}
 use Rattle.world_numbers.specs.Encoding.{flag}
-use Rattle.send_rule.specs.Send.{sameNumber}
+use Rattle.game_records.specs.Numbers.{sameNumber}
 use Rattle.trial_rule.specs.Trial.{Entrant, targetColumn, targetRow, distanceTo, Trying, noPlayer, playerAt, entered, noted, inputFor, stepFrom, towards, tried, nobodyYet, tunedTo}
 use Rattle.trial_rule.specs.Laws.{stateAfter, recordAfter, IsAfter, distanceOf, inputWith, Smallest, TellsSmallest, TellsNobody, JumpsAfterStay}
 use Rattle.trial_rule.specs.declared.Player.{Player}

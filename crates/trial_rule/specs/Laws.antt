@@ -19,7 +19,7 @@ use Rattle.world.specs.declared.call.Call.{Call}
 use Rattle.world.specs.declared.call.Call.the-variants.{Join, Input, Step, Tune}
 use Rattle.world.specs.declared.Published.{Published}
 use Rattle.world_numbers.specs.Encoding.{flag}
-use Rattle.send_rule.specs.Send.{sameNumber}
+use Rattle.game_records.specs.Numbers.{sameNumber}
 use Rattle.trial_rule.specs.Trial.{Entrant, targetColumn, targetRow, distanceTo, Trying, playerAt, inputFor, inputsFor, stepFrom, afterStep, towards, tried, enterAll, nobodyYet, tunedTo}
 use Rattle.trial_rule.specs.Calls.{rowCount, tuningsIn, entrants, triedNumbers, trialIn}
 use Rattle.trial_rule.specs.declared.Player.{Player}

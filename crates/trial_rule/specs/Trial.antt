@@ -21,7 +21,7 @@ use Rattle.world.specs.declared.call.Call.the-variants.{Input}
 use Rattle.world.specs.declared.Published.{Published}
 use Rattle.world.specs.declared.Stepped.{Stepped}
 use Rattle.world.specs.declared.World.{World}
-use Rattle.send_rule.specs.Send.{sameNumber}
+use Rattle.game_records.specs.Numbers.{sameNumber}
 use Rattle.world_numbers.specs.Encoding.{flag}
 use Rattle.trial_rule.specs.declared.Player.{Player}
 use Rattle.trial_rule.specs.declared.Tried.{Tried}

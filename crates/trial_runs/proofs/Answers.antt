@@ -21,7 +21,7 @@ use Rattle.character.specs.Tick.{seats}
 use Rattle.world.specs.World.{fresh}
 use Rattle.world.specs.Settled.{Settled}
 use Rattle.world.proofs.Settled.{after-settled}
-use Rattle.send_rule.proofs.Tests.{both}
+use Rattle.base_turns.proofs.Tests.{both}
 use Rattle.world_numbers.specs.Encoding.{worldCount, each, encoding}
 use Rattle.world_numbers.specs.Decoding.{decoding}
 use Rattle.world_numbers.proofs.Encoded.{decoding-encoding}

@@ -11,9 +11,9 @@ use borrow.Author.Tests.{lt-ltb, le-ltb, eq-eqb, ne-eqb}
 use Rattle.num_convert.proofs.Signed.{read}
 use Rattle.map_tiles.specs.declared.tiles.Sides.{Sides}
 use Rattle.world.specs.Calls.{pointOf}
-use Rattle.send_rule.specs.Send.{sameNumber}
-use Rattle.send_rule.proofs.Cores.{number-same, number-self}
-use Rattle.send_rule.proofs.Tests.{either-way}
+use Rattle.game_records.specs.Numbers.{sameNumber}
+use Rattle.game_records.proofs.Same.{number-same, number-self}
+use Rattle.base_turns.proofs.Tests.{either-way}
 use Rattle.trial_rule.specs.Trial.{distanceTo, noted}
 use Rattle.trial_rule.specs.declared.Player.{Player}
 use borrow.Author.Needs.{needs}
