@@ -34,6 +34,8 @@ enum {
                                      not call is told nothing of what was lent */
     PONGURIENA_BAD_AREA = 14,     /* a rectangle has no tiles, it or a tile reaches outside the map,
                                      or the totals are not one for each tile */
+    PONGURIENA_BAD_TRIAL = 15,    /* a trial with no tunings or more than 8, or with steps outside
+                                     0 to 3,000 */
     PONGURIENA_BAD_LENGTH = 17    /* a buffer of the wrong length; comes before the others but 13:
                                      without a world there is no call to decline */
 };
@@ -223,6 +225,39 @@ uint32_t ponguriena_area_count(uint32_t width, uint32_t height, const uint8_t *t
 uint32_t ponguriena_area_change(uint32_t width, uint32_t height, uint8_t *tiles,
                                 size_t tiles_length, uint32_t *totals, size_t totals_length,
                                 int32_t column, int32_t row, uint8_t byte);
+
+/* Trial players for a tuning: how near does each come to a tile of its own?
+ *
+ * For each tuning players join a fresh world and run, alone with each other. Before each step a
+ * player's direction is where its target's column is, seen from its own: -1, 0 or 1; jump is 1
+ * where its record's x stayed the same in the step before (in step 1, as at the join), and before
+ * step 1 it is 0; hook and aim are 0. A step that is refused with 9 ends that tuning's run and is
+ * not counted. A player's distance is columns plus rows between its record's tile and its target,
+ * and its join's place counts as step 0. Who is removed by a deadly tile keeps what it had, its
+ * last record included. */
+
+/* Limits, and lengths in numbers. */
+enum {
+    PONGURIENA_TRIAL_TUNINGS = 8,  /* at most, and at least one */
+    PONGURIENA_TRIAL_STEPS = 3000, /* at most */
+    PONGURIENA_TRIAL_JOIN = 3,     /* id, x, y */
+    PONGURIENA_TRIAL_TARGET = 2,   /* column, row */
+    PONGURIENA_TRIAL_NEAREST = 3,  /* 1, the smallest distance, the first step that reached it; or
+                                      zeros where nobody joined */
+    PONGURIENA_TRIAL_ROW = 1 + PONGURIENA_SEATS * PONGURIENA_TRIAL_NEAREST /* the steps that were
+                                      done, then for each seat */
+};
+
+/* Joins are PONGURIENA_TRIAL_JOIN numbers each, made in their order; targets are as many times
+ * PONGURIENA_TRIAL_TARGET, each clamped to the map; tunings are PONGURIENA_TUNINGS numbers each, of
+ * which any are taken. The result gets PONGURIENA_TRIAL_ROW numbers for each tuning. Answers 0, 1,
+ * 15, or 17; else the first join that is refused refuses the trial with its own number: 2, 4, 5 or
+ * 7. */
+uint32_t ponguriena_trial(uint32_t width, uint32_t height, const uint8_t *tiles,
+                          size_t tiles_length, const int32_t *joins, size_t joins_length,
+                          const int32_t *targets, size_t targets_length, const int32_t *tunings,
+                          size_t tunings_length, int32_t steps, int32_t *result,
+                          size_t result_length);
 
 /* Tiles of a map as above, and walks over it. */
 

@@ -1,10 +1,11 @@
 //! Safe Rust functions over the static libraries of two Rattle crates. Of `ponguriena`:
 //! the [`World`] of characters with its calls, each for whoever has the [`Role`] to make it,
 //! what goes from there to the screens ([`Sender`] and [`Screen`]), the same calls on lent
-//! numbers ([`buffers`] and [`send_buffers`]), records as packed bytes ([`packed`]), and how
-//! many tiles of an [`Area`] are solid ([`Totals`]). Of `ponguriena_parts` what they are made
-//! of: the tiles of a [`Map`] and walks over it, the aim angle, the velocity ramp, the root and
-//! the conversions. `include/ponguriena.h` is for C.
+//! numbers ([`buffers`] and [`send_buffers`]), records as packed bytes ([`packed`]), how many
+//! tiles of an [`Area`] are solid ([`Totals`]), and how near players come to a tile under a
+//! tuning ([`Trial`]). Of `ponguriena_parts` what they are made of: the tiles of a [`Map`] and
+//! walks over it, the aim angle, the velocity ramp, the root and the conversions.
+//! `include/ponguriena.h` is for C.
 
 // Nothing checks the declarations in these modules against the Rattle source: a
 // change of a signature there must be repeated here by hand.
@@ -20,6 +21,7 @@ mod screen;
 pub mod send_buffers;
 mod sender;
 mod snap_obj;
+pub mod trial;
 mod walks;
 mod world;
 
@@ -36,5 +38,6 @@ pub use role::Role;
 pub use screen::Screen;
 pub use sender::Sender;
 pub use snap_obj::{CORE_NUMBERS, CharacterCore, INPUT_NUMBERS, PlayerInput};
+pub use trial::{Nearest, Run, Trial};
 pub use walks::{Map, Tile, check_line, check_point, move_box};
 pub use world::{Records, RecordsIter, World};

@@ -35,6 +35,8 @@ pub enum Refusal {
     /// 14: a rectangle that has no tiles, a rectangle or a tile that reaches outside the map, or
     /// totals that are not one for each tile.
     BadArea,
+    /// 15: a trial with no tunings or more than eight, or with steps outside 0 to 3,000.
+    BadTrial,
     /// 17: a buffer of the wrong length. Comes before all others but 13.
     BadLength,
     /// A number that has no name here. No function of this library gives one: who
@@ -61,6 +63,7 @@ impl Refusal {
             12 => Refusal::BadBytes,
             13 => Refusal::NotAllowed,
             14 => Refusal::BadArea,
+            15 => Refusal::BadTrial,
             17 => Refusal::BadLength,
             other => Refusal::Unnamed(other),
         })
@@ -83,6 +86,7 @@ impl Refusal {
             Refusal::BadBytes => 12,
             Refusal::NotAllowed => 13,
             Refusal::BadArea => 14,
+            Refusal::BadTrial => 15,
             Refusal::BadLength => 17,
             Refusal::Unnamed(number) => number,
         }
@@ -106,6 +110,7 @@ impl Display for Refusal {
             Refusal::BadBytes => "a packed number is not as it should be",
             Refusal::NotAllowed => "the role does not allow it",
             Refusal::BadArea => "the area is not one of the map, or its totals do not fit",
+            Refusal::BadTrial => "the trial has too few or too many tunings or steps",
             Refusal::BadLength => "a buffer has the wrong length",
             Refusal::Unnamed(_) => "refused",
         };

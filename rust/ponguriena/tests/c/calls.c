@@ -537,6 +537,48 @@ static void areas(void) {
          PONGURIENA_BAD_AREA);
 }
 
+/* Under the game's tunings, and under those with the players' speed on the ground a tenth of it. */
+static int32_t trial_tunings[2 * PONGURIENA_TUNINGS];
+static int32_t trial_result[2 * PONGURIENA_TRIAL_ROW];
+
+static uint32_t trial(Map map, const int32_t *joins, size_t players, const int32_t *targets,
+                      size_t target_count, int32_t steps) {
+    return ponguriena_trial(map.width, map.height, map.tiles, map.length, joins,
+                            players * PONGURIENA_TRIAL_JOIN, targets,
+                            target_count * PONGURIENA_TRIAL_TARGET, trial_tunings,
+                            LENGTH(trial_tunings), steps, trial_result, LENGTH(trial_result));
+}
+
+/* Steps done, distance and step of the last seat. */
+static void same_row(const char *what, const int32_t *row, int32_t steps, int32_t distance,
+                     int32_t step) {
+    same(what, row[0], steps);
+    same(what, row[1], 0);
+    same(what, row[PONGURIENA_TRIAL_ROW - 3], 1);
+    same(what, row[PONGURIENA_TRIAL_ROW - 2], distance);
+    same(what, row[PONGURIENA_TRIAL_ROW - 1], step);
+}
+
+/* One runs to the right; what is refused writes nothing. */
+static void trials(void) {
+    static const int32_t joins[] = {LAST, 20, 49, LAST, 20, 49};
+    static const int32_t targets[] = {PONGURIENA_SEATS, 1, 0, 0};
+    const size_t tunings = PONGURIENA_TUNINGS * sizeof *world;
+    same("fresh", fresh(), PONGURIENA_ACCEPTED);
+    memcpy(trial_tunings, world, tunings);
+    memcpy(trial_tunings + PONGURIENA_TUNINGS, world, tunings);
+    trial_tunings[PONGURIENA_TUNINGS] /= 10;
+    same("trial", trial(FLOOR, joins, 1, targets, 1, 30), PONGURIENA_ACCEPTED);
+    same_row("under the game's tunings", trial_result, 30, 0, 7);
+    same_row("under slow ones", trial_result + PONGURIENA_TRIAL_ROW, 30, 1, 12);
+    same("no map", trial(NO_MAP, joins, 1, targets, 1, -1), PONGURIENA_BAD_MAP);
+    same("too many steps", trial(FLOOR, joins, 2, targets, 2, PONGURIENA_TRIAL_STEPS + 1),
+         PONGURIENA_BAD_TRIAL);
+    same("joined twice", trial(FLOOR, joins, 2, targets, 2, 1), PONGURIENA_PRESENT);
+    same("one target", trial(NO_MAP, joins, 2, targets, 1, 1), PONGURIENA_BAD_LENGTH);
+    same_row("after refusals", trial_result, 30, 0, 7);
+}
+
 int main(void) {
     a_fall();
     an_input();
@@ -557,5 +599,6 @@ int main(void) {
     numbers();
     packing();
     areas();
+    trials();
     return differences != 0;
 }
