@@ -1,8 +1,9 @@
 //! Time per step of a whole world, by the port through its C interface and by
 //! document 01's world over libtw2. The latter is timed with the aim angle found
 //! in three ways: by a scan of all entries, as document 01 says it, by halving, and
-//! by the port's own function. Ratios below 1 say that the port is faster. The last table
-//! has the port alone, with a sender beside its world and without.
+//! by the port's own function. Ratios below 1 say that the port is faster. The table of sending
+//! has the port alone, with a sender beside its world and without; that of trials has whole ones
+//! beside their steps alone, with the port's own angle.
 
 mod calls;
 mod play;
@@ -10,6 +11,8 @@ mod scene;
 mod scenes;
 mod sending;
 mod sides;
+mod trials;
+mod wholes;
 
 use original::find_angles_by;
 use play::{compare, per_step, times};
@@ -28,6 +31,8 @@ fn main() {
     calls::print_calls(&scenes::crowds(&mut random));
     println!();
     sending::print_sending(&games);
+    println!();
+    trials::print_trials(&mut random);
 }
 
 fn print_steps(scenes: &[Scene]) {

@@ -87,7 +87,7 @@ impl Plan<'_> {
             hundredths,
         };
         let mut calls: Vec<Call> = self.tunings.iter().map(tune).collect();
-        calls.extend((0..self.players as i32).map(|id| join(self.map, id, random)));
+        calls.extend(joins(self.map, self.players, random));
         calls
     }
 
@@ -98,6 +98,12 @@ impl Plan<'_> {
         };
         (0..self.players as i32).filter_map(input).collect()
     }
+}
+
+/// Of the first ids.
+pub fn joins(map: &Map, players: usize, random: &mut Xorshift) -> Vec<Call> {
+    let ids = 0..players as i32;
+    ids.map(|id| join(map, id, random)).collect()
 }
 
 /// Near the middle, where it is clear.

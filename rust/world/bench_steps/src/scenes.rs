@@ -91,7 +91,7 @@ pub fn by_speed(random: &mut Xorshift) -> Vec<Scene> {
 }
 
 /// Without spikes, so that everybody plays to the end.
-fn course(random: &mut Xorshift) -> Map {
+pub fn course(random: &mut Xorshift) -> Map {
     walled(WIDTH, HEIGHT, random).without_spikes()
 }
 

@@ -8,6 +8,7 @@ use harness::Call;
 use harness::roles::REFEREE;
 use harness::sending::SENDER_NUMBERS;
 use ponguriena::send_buffers::{self, PASSED_NUMBERS};
+use tile_map::Map;
 use timing::least_times;
 
 /// The port, whose leaves, tunes and steps go through its sender.
@@ -20,11 +21,11 @@ struct Sending<'a> {
 }
 
 impl<'a> Side<'a> for Sending<'a> {
-    fn on(scene: &'a Scene) -> Sending<'a> {
+    fn on(map: &'a Map) -> Sending<'a> {
         let mut sender = [0; SENDER_NUMBERS];
         send_buffers::fresh_sender(&mut sender).expect("the right length");
         Sending {
-            port: Port::on(scene),
+            port: Port::on(map),
             sender,
             passed: [0; PASSED_NUMBERS],
             count: 0,

@@ -17,11 +17,11 @@ pub type Numbers = (
 );
 
 pub trait Side<'a>: Sized {
-    fn on(scene: &'a Scene) -> Self;
+    fn on(map: &'a tile_map::Map) -> Self;
 
     /// After the joins.
     fn begun(scene: &'a Scene) -> Self {
-        let mut side = Self::on(scene);
+        let mut side = Self::on(&scene.map);
         scene.start.iter().for_each(|&call| side.call(call));
         side
     }
@@ -46,11 +46,11 @@ pub struct Original<'a> {
 }
 
 impl<'a> Side<'a> for Port<'a> {
-    fn on(scene: &'a Scene) -> Port<'a> {
+    fn on(map: &'a tile_map::Map) -> Port<'a> {
         let mut world = [0; WORLD_NUMBERS];
         buffers::fresh(&mut world).expect("the right length");
         Port {
-            map: lent(&scene.map),
+            map: lent(map),
             world,
             records: [0; RECORDS_NUMBERS],
             removed: [0; SEATS],
@@ -70,9 +70,9 @@ impl<'a> Side<'a> for Port<'a> {
 }
 
 impl<'a> Side<'a> for Original<'a> {
-    fn on(scene: &'a Scene) -> Original<'a> {
+    fn on(map: &'a tile_map::Map) -> Original<'a> {
         Original {
-            map: &scene.map,
+            map,
             world: harness::World::fresh(),
             published: harness::NOTHING,
         }

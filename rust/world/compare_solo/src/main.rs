@@ -4,17 +4,13 @@
 
 use compare_solo::heats::{Tally, compare};
 use compare_solo::pairs::drawn;
-use std::env;
+use compare_world::arguments::numbers;
 
 fn main() -> Result<(), String> {
-    let words: Vec<String> = env::args().skip(1).collect();
-    let numbers: Result<Vec<u64>, _> = words.iter().map(|word| word.parse()).collect();
-    let Ok([count, seed]) = numbers.as_deref() else {
-        return Err("two numbers are to be named: pairs, seed".into());
-    };
+    let [count, seed] = numbers("two", "pairs, seed")?;
     let mut tally = Tally::default();
-    for number in 0..*count {
-        compare(&drawn(*seed, number, 0), &mut tally)
+    for number in 0..count {
+        compare(&drawn(seed, number, 0), &mut tally)
             .map_err(|what| format!("pair {number} of seed {seed}: {what}"))?;
     }
     let Tally {

@@ -35,9 +35,6 @@ pub const LENGTHS: [usize; 5] = [
     INPUT_NUMBERS,
 ];
 
-/// That of a buffer of the wrong length.
-const BAD_LENGTH: u32 = 17;
-
 #[derive(Default)]
 pub struct Tally {
     calls: usize,
@@ -177,7 +174,7 @@ fn left_by_original(before: &Lent, turn: &Turn) -> Result<Lent, u32> {
     check_role(turn.role, turn.ask).map_err(Refusal::number)?;
     let is_right = |&place: &usize| before.buffers[place].len() == LENGTHS[place];
     if !places_lent(turn.ask).iter().all(is_right) {
-        return Err(BAD_LENGTH);
+        return Err(Refusal::Length.number());
     }
     let numbers: Numbers = before.buffers[0][..].try_into().expect("the right length");
     let mut world = decoded(&numbers);

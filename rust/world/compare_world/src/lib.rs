@@ -11,3 +11,4 @@ pub mod send_replay;
 pub mod sequences;
 #[cfg(test)]
 mod tests;
+pub mod trials;

@@ -2,9 +2,9 @@
 
 use crate::any_numbers::any;
 use crate::differs::{Differs, same, same_numbers};
-use harness::SEATS;
 use harness::sending::{MESSAGE_NUMBERS, Passed, SCREEN_NUMBERS, decoded_screen, encoded_screen};
 use harness::tunings::TUNINGS;
+use harness::{Refusal, SEATS};
 use original::{CORE_NUMBERS, core_numbers};
 use ponguriena::send_buffers;
 use port_calls::{lent, number};
@@ -18,9 +18,6 @@ type Numbers = [i32; SCREEN_NUMBERS];
 
 /// So many things arrive beside those that a call has passed along.
 const THINGS: usize = 4;
-
-/// That of a buffer of the wrong length.
-const BAD_LENGTH: u32 = 17;
 
 /// What a record holds before it is written.
 const UNWRITTEN: i32 = 77;
@@ -114,7 +111,7 @@ fn compare_first(
 /// The answer, how many numbers the first thing has, and the screen.
 fn received(before: Numbers, map: &Map, numbers: &[i32]) -> (u32, usize, Numbers) {
     let Some(passed) = Passed::first_of(numbers) else {
-        return (BAD_LENGTH, 0, before);
+        return (Refusal::Length.number(), 0, before);
     };
     let mut screen = decoded_screen(&before);
     match screen.receive(map, passed) {

@@ -2,6 +2,7 @@
 
 use crate::lent_asks::{LENGTHS, drawn_turn};
 use crate::sequences::drawn;
+use crate::trials;
 use harness::draw::FIRST_SEATS;
 use harness::roles::Role;
 use harness::{Call, Published, SEATS};
@@ -103,6 +104,13 @@ fn every_role_asks_everything() {
         }
     }
     assert_eq!(seen.len(), 9 * 4 * 2, "{seen:?}");
+}
+
+#[test]
+fn every_answer_of_a_trial_is_drawn() {
+    let trials = (0..4 * SEQUENCES).map(|number| trials::drawn(6, number));
+    let answers: BTreeSet<u32> = trials.map(|case| case.left().0).collect();
+    assert_eq!(answers, [0, 1, 2, 4, 5, 7, 15, 17].into());
 }
 
 #[test]

@@ -13,6 +13,7 @@ pub mod sending;
 mod slot;
 #[cfg(test)]
 mod tests;
+pub mod trial;
 pub mod tunings;
 mod walks;
 mod world;

@@ -14,6 +14,9 @@ pub enum Refusal {
     TooFar = 9,
     TickTooLarge = 10,
     NotAllowed = 13,
+    Trial = 15,
+    /// Of the C interface: a buffer that was lent.
+    Length = 17,
 }
 
 impl Refusal {

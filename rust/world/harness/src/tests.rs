@@ -6,6 +6,7 @@ mod screens;
 mod seats;
 mod sending;
 mod sending_lists;
+mod trials;
 
 use crate::encoding::encoded_removed;
 use crate::tunings::{GRAVITY, HOOK_FIRE_SPEED, HOOK_LENGTH, ORDINARY};

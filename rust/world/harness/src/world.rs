@@ -146,7 +146,7 @@ fn place(x: i32, y: i32) -> vec2 {
     vec2::new(x as f32, y as f32)
 }
 
-fn check_map(map: &Map) -> Result<(), Refusal> {
+pub fn check_map(map: &Map) -> Result<(), Refusal> {
     let fits = |side: usize| (1..=LONGEST_SIDE).contains(&side);
     Refusal::Map.when(!fits(map.width) || !fits(map.height))?;
     Refusal::Map.when(map.tiles.len() != map.width * map.height)

@@ -70,10 +70,16 @@ impl Map {
         vec2::new(along(index % self.width), along(index / self.width))
     }
 
+    /// The column and the row of a point, clamped to the map.
+    #[inline]
+    pub fn tile_of(&self, pos: vec2) -> (usize, usize) {
+        let column = tile_number(pos.x, self.width);
+        (column, tile_number(pos.y, self.height))
+    }
+
     #[inline]
     fn tile(&self, pos: vec2) -> u8 {
-        let column = tile_number(pos.x, self.width);
-        let row = tile_number(pos.y, self.height);
+        let (column, row) = self.tile_of(pos);
         self.tiles[row * self.width + column]
     }
 
