@@ -6,4 +6,7 @@ mod running;
 mod telling;
 mod trials;
 
+pub use entering::JOIN;
+pub use entering::TARGET;
+pub use telling::ROW;
 pub use trials::trial;
