@@ -8,6 +8,10 @@ use Rattle.world.proofs.Leave.{leave-releases}
 use Rattle.world.proofs.Held.{held-present}
 use Rattle.world.proofs.Deadly.{step-spikes}
 use Rattle.world_solo.proofs.Solo.{solo}
+use Rattle.trial_rule.proofs.Tables.{rows-tell, independent}
+use Rattle.trial_rule.proofs.Runs.{counts-steps}
+use Rattle.trial_rule.proofs.Told.{tells-smallest, tells-nobody, jumps-after-stay}
+use Rattle.trial_rule.proofs.ByCalls.{runs-by-calls}
 use Rattle.send_rule.proofs.Shown.{screen-shows}
 use Rattle.send_rule.proofs.Sparing.{sender-spares}
 use Rattle.send_rule.proofs.Along.{sender-passes}
@@ -47,6 +51,13 @@ all-theorems n = record {
   alone = copies-alone n;
   roles = roles-hold n;
   solo = solo n;
+  rows = rows-tell n;
+  independent = independent n;
+  steps = counts-steps n;
+  smallest = tells-smallest n;
+  nobody = tells-nobody n;
+  jumps = jumps-after-stay n;
+  trialCalls = runs-by-calls n;
 }
 
 pub shipped : Shipped

@@ -8,6 +8,7 @@ use Rattle.world.specs.Leave.{LeaveReleases}
 use Rattle.world.specs.Held.{HeldPresent}
 use Rattle.world.specs.Deadly.{StepSpikes}
 use Rattle.world_solo.specs.Solo.{Solo}
+use Rattle.trial_rule.specs.Laws.{RowsTell, Independent, CountsSteps, TellsSmallest, TellsNobody, JumpsAfterStay, RunsByCalls}
 use Rattle.send_rule.specs.Shown.{Shown}
 use Rattle.send_rule.specs.Sparing.{Sparing}
 use Rattle.send_rule.specs.Along.{Along}
@@ -51,6 +52,14 @@ pub record Theorems (n : ℕ) : Type 0 where
   pub roles : Roles n
   -- request 10: solo heats
   pub solo : Solo n
+  -- request 11: trials
+  pub rows : RowsTell n
+  pub independent : Independent n
+  pub steps : CountsSteps n
+  pub smallest : TellsSmallest n
+  pub nobody : TellsNobody n
+  pub jumps : JumpsAfterStay n
+  pub trialCalls : RunsByCalls n
 
 -- at the seats that there are; and that the numbers which C programs hold are those of the worlds and links that the theorems speak of
 pub record Shipped : Type 0 where
