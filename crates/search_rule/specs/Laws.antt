@@ -1,0 +1,85 @@
+-- What is claimed of the search, with no search in it. Definitions only; proofs/Laws.antt proves it.
+use Prim.Native.Nat.{ℕ, _<_}
+use mathlib.Core.Bool.{Bool, true, false, cond, not}
+use mathlib.Core.List.{List, [], _∷_}
+use mathlib.Core.Path.{_≡_}
+use lib.IntN.{ℤ, pos}
+use lib.ListN.{length}
+use Rattle.game_refusals.specs.Refusals.{badMap}
+use Rattle.game_records.specs.declared.PlayerInput.{PlayerInput}
+use Rattle.map_tiles.specs.Map.{isMap}
+use Rattle.map_tiles.specs.declared.tiles.Sides.{Sides}
+use Rattle.character.specs.Tick.{slotAt}
+use Rattle.world.specs.Calls.{placeOf, input}
+use Rattle.world.specs.Demand3.{recordAt}
+use Rattle.world.specs.Run.{Told, told}
+use Rattle.world.specs.Step.{unpublished}
+use Rattle.world.specs.declared.Published.{Published}
+use Rattle.world.specs.declared.World.{World}
+use Rattle.world.specs.declared.call.Call.{Call}
+use Rattle.world.specs.declared.call.Call.the-variants.{Input, Step}
+use Rattle.search_rule.specs.Ways.{Way, IsWay, Before}
+use Rattle.search_rule.specs.Search.{goalOf, counts, SearchAnswer, Refused, NoWay, WayTo, search}
+use Rattle.search_rule.specs.declared.Buttons.{Buttons}
+
+-- ---- a way as calls of the world itself
+
+-- before each step an input for the one id, with hook 0 and this target
+abbrev pub callsOf : ℤ → ℤ → ℤ → Way → List Call
+callsOf id x y [] = []
+callsOf id x y (b ∷ u) = Input id (b .direction) x y (b .jump) (pos 0) ∷ Step ∷ callsOf id x y u
+
+-- what these calls tell, given to the world w with the target that it stores
+abbrev pub toldAlong : ℕ → Sides → List ℕ → World → ℤ → Way → List Told
+toldAlong n s ts w id u = let i = slotAt (w .slots) (placeOf n id) .input in told n s ts w (callsOf id (i .«target_x») (i .«target_y») u)
+
+-- every call is accepted
+abbrev pub Accepted : List Told → Type 0
+Accepted [] = Unit {0}
+Accepted (t ∷ ts) = (t .number ≡ 0) × Accepted ts
+
+-- the record of the seat k that the last one told
+abbrev pub lastRecord : ℕ → List Told → Published
+lastRecord k [] = unpublished
+lastRecord k (t ∷ []) = recordAt (t .records) k
+lastRecord k (t ∷ v ∷ ts) = lastRecord k (v ∷ ts)
+
+-- a record of somebody, with that x and y
+abbrev pub HasPlace : ℤ → ℤ → Published → Type 0
+HasPlace x y p = (p .present ≡ true) × (p .core .x ≡ x) × (p .core .y ≡ y)
+
+-- the way leads there
+pub record Leads (n : ℕ) (s : Sides) (ts : List ℕ) (w : World) (id x y : ℤ) (u : Way) : Type 0 where
+  pub accepted : Accepted (toldAlong n s ts w id u)
+  pub arrived : HasPlace x y (lastRecord (placeOf n id) (toldAlong n s ts w id u))
+
+-- ---- the first, and none
+
+-- u leads there, and no way before it does: none that is shorter, and none of its length that is earlier
+pub record First (n : ℕ) (s : Sides) (ts : List ℕ) (w : World) (id x y : ℤ) (u : Way) : Type 0 where
+  pub way : IsWay u
+  pub leads : Leads n s ts w id x y u
+  pub first : (v : Way) → IsWay v → Before v u → Leads n s ts w id x y v → ⊥
+
+-- no way leads there
+abbrev pub None : ℕ → Sides → List ℕ → World → ℤ → ℤ → ℤ → Type 0
+None n s ts w id x y = (v : Way) → IsWay v → Leads n s ts w id x y v → ⊥
+
+-- 0 where a search isn't refused
+abbrev pub numberOf : SearchAnswer → ℕ
+numberOf (Refused k) = k
+numberOf NoWay = 0
+numberOf (WayTo u) = 0
+
+-- ---- the claims
+
+-- request 12, in every world, whatever the map, the id and the place
+pub record Reaches (n : ℕ) : Type 0 where
+  -- a way that is shown is the first, and the first is shown
+  pub shown : (s : Sides) (ts : List ℕ) (w : World) (id x y : ℤ) (u : Way) → search n s ts w id x y ≡ WayTo u → First n s ts w id x y u
+  pub first : (s : Sides) (ts : List ℕ) (w : World) (id x y : ℤ) (u : Way) → First n s ts w id x y u → search n s ts w id x y ≡ WayTo u
+  -- where none is shown no way leads there, and where none does none is shown
+  pub none : (s : Sides) (ts : List ℕ) (w : World) (id x y : ℤ) → search n s ts w id x y ≡ NoWay → None n s ts w id x y
+  pub nowhere : (s : Sides) (ts : List ℕ) (w : World) (id x y : ℤ) → numberOf (search n s ts w id x y) ≡ 0 → None n s ts w id x y → search n s ts w id x y ≡ NoWay
+  -- it is refused with 1 where the map is none, and else with 2 and 8 where an input for the id is
+  pub refusals : (s : Sides) (ts : List ℕ) (w : World) (id x y : ℤ) (i : PlayerInput) → numberOf (search n s ts w id x y) ≡ cond (isMap s ts) (input n w id i .number) badMap
