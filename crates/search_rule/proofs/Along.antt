@@ -1,25 +1,31 @@
 -- A way counts where its calls are accepted, one after another, and the last record has that x and y. Assumes nothing.
-use Prim.Native.Nat.{ℕ}
-use mathlib.Core.Bool.{Bool, true, false, cond, _&&_, true≢false}
+use Prim.Native.Nat.{ℕ, _<_}
+use mathlib.Core.Bool.{Bool, true, false, cond, not, _&&_, true≢false}
 use mathlib.Core.List.{List, [], _∷_}
 use mathlib.Core.Path.{_≡_, refl, sym, ap, _∙_}
 use native.Mathlib.Omega.{arith}
 use lib.Dec.{eqb, ltb}
 use lib.IntN.{ℤ}
+use lib.ListN.{length, length-set}
+use lib.Seq.{getD-set-same}
 use borrow.Author.Tests.{eqb-true, eq-eqb, lt-ltb}
 use Rattle.game_records.specs.declared.PlayerInput.{PlayerInput}
 use Rattle.map_tiles.specs.declared.tiles.Sides.{Sides}
 use Rattle.character.specs.Slot.{withInput}
-use Rattle.character.specs.Tick.{slotAt}
+use Rattle.character.specs.Tick.{nowhere, slotAt}
+use Rattle.character.specs.declared.Slot.{Slot}
 use Rattle.world.specs.Calls.{placeOf, input}
 use Rattle.world.specs.Demand3.{recordAt}
+use Rattle.world.specs.Removal.{idsIn, isIn}
 use Rattle.world.specs.Run.{Told, told}
+use Rattle.world.specs.Step.{step}
 use Rattle.world.specs.World.{withSlot}
 use Rattle.world.specs.declared.Answer.{Answer}
 use Rattle.world.specs.declared.Published.{Published}
 use Rattle.world.specs.declared.Stepped.{Stepped}
 use Rattle.world.specs.declared.World.{World}
 use Rattle.world.proofs.Outcomes.{Outcome, no, yes, Seated, input-outcome}
+use Rattle.world.proofs.Present.{step-present}
 use Rattle.send_rule.specs.Send.{sameNumber}
 use Rattle.send_rule.proofs.Cores.{number-same, number-self}
 use Rattle.send_rule.proofs.Tests.{both}
@@ -87,3 +93,29 @@ module _ (n : ℕ) (s : Sides) (ts : List ℕ) (g : Goal) where
       let a = stepWith n s ts g w b in
       let o = input-seat n (a .world) (g .id) (inputWith g c) (h .accepted .1 .1 .0) in
       rw (eq-eqb (a .number) 0 (h .accepted .1 .0), o .there) (there-counts c u (a .world) (record { accepted = h .accepted .1 .1; arrived = h .arrived }))
+
+-- ---- who is lost in a step
+
+unless : (c : Bool) → cond c false true ≡ not c
+unless true = refl
+unless false = refl
+
+module _ (n : ℕ) (s : Sides) (ts : List ℕ) (w : World) (g : Goal) (b : Buttons) (full : length (w .slots) ≡ n) (h : Seated n w (g .id)) where
+  abbrev k : ℕ
+  k = placeOf n (g .id)
+
+  abbrev stored : World
+  stored = withSlot w k (withInput (slotAt (w .slots) k) (inputWith g b))
+
+  stores : input n w (g .id) (inputWith g b) .world ≡ stored
+  unfolding input
+  stores = rw (lt-ltb k n (h .seat), h .there)
+
+  pub lost-to-spikes : let a = stepWith n s ts g w b in goesOn n g a ≡ eqb (a .number) 0 && not (isIn k (idsIn (a .removed)))
+  unfolding stepWith goesOn
+  lost-to-spikes =
+      let a = step n stored s ts in
+      let within : k < length (w .slots) = omega (arith, full, h .seat) in
+      let here : slotAt (stored .slots) k .present ≡ true = ap (λ (x : Slot). x .present) (getD-set-same (w .slots) k (withInput (slotAt (w .slots) k) (inputWith g b)) nowhere within) ∙ h .there in
+      let c = isIn k (idsIn (a .removed)) in
+      rw stores (ap (λ (d : Bool). eqb (a .number) 0 && d) (step-present n s ts stored (length-set (w .slots) k _ ∙ full) k ∙ ap (cond c false) here ∙ unless c))

@@ -26,7 +26,7 @@ use Rattle.search_rule.specs.Ways.{Way, IsWay, Before}
 use Rattle.search_rule.specs.Search.{inputWith, counts, Found, firstWay, goalOf, SearchAnswer, Refused, NoWay, WayTo, answerOf, searchFrom, search}
 use Rattle.search_rule.specs.Laws.{Leads, First, None, numberOf, Reaches}
 use Rattle.search_rule.specs.declared.Goal.{Goal}
-use Rattle.search_rule.proofs.Along.{input-seat, leads-there, there-counts}
+use Rattle.search_rule.proofs.Along.{input-seat, leads-there, there-counts, lost-to-spikes}
 use Rattle.search_rule.proofs.Found.{Chooses, way-chosen}
 use Rattle.search_rule.proofs.Order.{only-first}
 
@@ -137,4 +137,4 @@ module _ (n : ℕ) (s : Sides) (ts : List ℕ) (w : World) (id x y : ℤ) where
       go (stop v) h = absurd (f v (h .way) (h .leads))
 
 pub search-reaches : (n : ℕ) → Reaches n
-search-reaches n = record { shown = shown n; first = first n; none = none n; nowhere = nowhere n; refusals = refused-as n }
+search-reaches n = record { shown = shown n; first = first n; none = none n; nowhere = nowhere n; refusals = refused-as n; lost = λ s ts w g b full seat there. lost-to-spikes n s ts w g b full (record { seat = seat; there = there }) }

@@ -1,8 +1,9 @@
 -- What is claimed of the search, with no search in it. Definitions only; proofs/Laws.antt proves it.
 use Prim.Native.Nat.{ℕ, _<_}
-use mathlib.Core.Bool.{Bool, true, false, cond, not}
+use mathlib.Core.Bool.{true, cond, not, _&&_}
 use mathlib.Core.List.{List, [], _∷_}
 use mathlib.Core.Path.{_≡_}
+use lib.Dec.{eqb}
 use lib.IntN.{ℤ, pos}
 use lib.ListN.{length}
 use Rattle.game_refusals.specs.Refusals.{badMap}
@@ -12,6 +13,7 @@ use Rattle.map_tiles.specs.declared.tiles.Sides.{Sides}
 use Rattle.character.specs.Tick.{slotAt}
 use Rattle.world.specs.Calls.{placeOf, input}
 use Rattle.world.specs.Demand3.{recordAt}
+use Rattle.world.specs.Removal.{idsIn, isIn}
 use Rattle.world.specs.Run.{Told, told}
 use Rattle.world.specs.Step.{unpublished}
 use Rattle.world.specs.declared.Published.{Published}
@@ -19,8 +21,9 @@ use Rattle.world.specs.declared.World.{World}
 use Rattle.world.specs.declared.call.Call.{Call}
 use Rattle.world.specs.declared.call.Call.the-variants.{Input, Step}
 use Rattle.search_rule.specs.Ways.{Way, IsWay, Before}
-use Rattle.search_rule.specs.Search.{goalOf, counts, SearchAnswer, Refused, NoWay, WayTo, search}
+use Rattle.search_rule.specs.Search.{stepWith, goesOn, SearchAnswer, Refused, NoWay, WayTo, search}
 use Rattle.search_rule.specs.declared.Buttons.{Buttons}
+use Rattle.search_rule.specs.declared.Goal.{Goal}
 
 -- ---- a way as calls of the world itself
 
@@ -83,3 +86,5 @@ pub record Reaches (n : ℕ) : Type 0 where
   pub nowhere : (s : Sides) (ts : List ℕ) (w : World) (id x y : ℤ) → numberOf (search n s ts w id x y) ≡ 0 → None n s ts w id x y → search n s ts w id x y ≡ NoWay
   -- it is refused with 1 where the map is none, and else with 2 and 8 where an input for the id is
   pub refusals : (s : Sides) (ts : List ℕ) (w : World) (id x y : ℤ) (i : PlayerInput) → numberOf (search n s ts w id x y) ≡ cond (isMap s ts) (input n w id i .number) badMap
+  -- an id that is there is lost in a step just where deadly tiles remove it, in a world of n slots
+  pub lost : (s : Sides) (ts : List ℕ) (w : World) (g : Goal) (b : Buttons) → length (w .slots) ≡ n → placeOf n (g .id) < n → slotAt (w .slots) (placeOf n (g .id)) .present ≡ true → let a = stepWith n s ts g w b in goesOn n g a ≡ eqb (a .number) 0 && not (isIn (placeOf n (g .id)) (idsIn (a .removed)))

@@ -55,7 +55,7 @@ module _ (n : ℕ) (s : Sides) (ts : List ℕ) where
     t = tuningOf (w .tunings)
 
     -- there after it: whoever was and is not removed
-    abbrev Stays : Stepped → Type 0
+    abbrev pub Stays : Stepped → Type 0
     Stays a = (k : ℕ) → slotAt (a .world .slots) k .present ≡ cond (isIn k (idsIn (a .removed))) false (slotAt (w .slots) k .present)
 
     moved : (us : List Slot) → Same (w .slots) us → (a : Turn Moving ℕ) → Ends (Settling n s ts t us n) (λ r. 0 < r) a → Stays (stepAnswer n w s ts a)
@@ -71,7 +71,7 @@ module _ (n : ℕ) (s : Sides) (ts : List ℕ) where
     ticked (stop r) l k = refl
     ticked (more us) d k = moved us d (moveAll n us s ts t) (moves-settle n s ts t us) k
 
-    step-present : Stays (step n w s ts)
+    pub step-present : Stays (step n w s ts)
     unfolding step stepOn
     step-present = by-test Stays (isMap s ts) (λ e. ticked (tickAll n (w .slots) s ts t) (ticks-same n s ts t (w .slots))) (λ e k. refl)
 
