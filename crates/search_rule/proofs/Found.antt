@@ -128,6 +128,9 @@ module _ (n : ℕ) (s : Sides) (ts : List ℕ) (g : Goal) where
   first-of zero w = each-finds zero w (ending n g) (λ b. last-finds w b (arrives n g (stepWith n s ts g w b)) refl)
   first-of (suc m) w = each-finds (suc m) w (goingOn n g (firstOf n s ts g m)) (λ b. let a = stepWith n s ts g w b in step-finds m w b (firstOf n s ts g m (a .world)) (first-of m (a .world)) (goesOn n g a) refl)
 
+  pub found-long : (m : ℕ) (w : World) (u : Way) → firstOf n s ts g m w ≡ stop u → length u ≡ suc m
+  found-long m w u e = subst (Finds (counts n s ts g w) (suc m)) e (first-of m w) .long
+
   -- ---- and of all lengths
 
   -- u is the first way that counts, of those that there are

@@ -18,13 +18,15 @@ use Rattle.character.specs.declared.Slot.{Slot}
 use Rattle.world.specs.World.{withSlot}
 use Rattle.world.specs.Calls.{refused, accepted, placeOf, input}
 use Rattle.world.specs.Readers.{seated}
+use Rattle.world.specs.Run.{after}
 use Rattle.world.specs.Step.{stepOn, stepRefused, step}
 use Rattle.world.specs.declared.World.{World}
 use Rattle.world.specs.declared.reading.Seated.the-variants as seat
 use Rattle.world.proofs.Outcomes.{Seated}
 use Rattle.search_rule.specs.Ways.{Way, IsWay, Before}
-use Rattle.search_rule.specs.Search.{inputWith, counts, Found, firstWay, goalOf, SearchAnswer, Refused, NoWay, WayTo, answerOf, searchFrom, search}
-use Rattle.search_rule.specs.Laws.{Leads, First, None, numberOf, Reaches}
+use Rattle.search_rule.specs.Search.{inputWith, stepWith, counts, Found, firstWay, goalOf, SearchAnswer, Refused, NoWay, WayTo, answerOf, searchFrom, search}
+use Rattle.search_rule.specs.Laws.{callsOf, Leads, First, None, numberOf, Reaches}
+use Rattle.search_rule.specs.declared.Buttons.{Buttons}
 use Rattle.search_rule.specs.declared.Goal.{Goal}
 use Rattle.search_rule.proofs.Along.{input-seat, leads-there, there-counts, lost-to-spikes}
 use Rattle.search_rule.proofs.Found.{Chooses, way-chosen}
@@ -107,6 +109,10 @@ module _ (n : ℕ) (s : Sides) (ts : List ℕ) (w : World) (id x y : ℤ) where
   answered : Runs → Sought found
   answered r = sought r found (way-chosen n s ts goal w)
 
+  two-calls : (b : Buttons) → stepWith n s ts goal w b .world ≡ after n s ts w (callsOf id (goal .«target_x») (goal .«target_y») (b ∷ []))
+  unfolding stepWith
+  two-calls b = refl
+
   -- ---- the claims
   shown : (u : Way) → search n s ts w id x y ≡ WayTo u → First n s ts w id x y u
   shown u e = let r = runs (ap numberOf e) in go found (answered r) (sym (searched r) ∙ e)
@@ -137,4 +143,4 @@ module _ (n : ℕ) (s : Sides) (ts : List ℕ) (w : World) (id x y : ℤ) where
       go (stop v) h = absurd (f v (h .way) (h .leads))
 
 pub search-reaches : (n : ℕ) → Reaches n
-search-reaches n = record { shown = shown n; first = first n; none = none n; nowhere = nowhere n; refusals = refused-as n; lost = λ s ts w g b full seat there. lost-to-spikes n s ts w g b full (record { seat = seat; there = there }) }
+search-reaches n = record { shown = shown n; first = first n; none = none n; nowhere = nowhere n; steps = two-calls n; refusals = refused-as n; lost = λ s ts w g b full seat there. lost-to-spikes n s ts w g b full (record { seat = seat; there = there }) }

@@ -14,14 +14,14 @@ use Rattle.character.specs.Tick.{slotAt}
 use Rattle.world.specs.Calls.{placeOf, input}
 use Rattle.world.specs.Demand3.{recordAt}
 use Rattle.world.specs.Removal.{idsIn, isIn}
-use Rattle.world.specs.Run.{Told, told}
+use Rattle.world.specs.Run.{after, Told, told}
 use Rattle.world.specs.Step.{unpublished}
 use Rattle.world.specs.declared.Published.{Published}
 use Rattle.world.specs.declared.World.{World}
 use Rattle.world.specs.declared.call.Call.{Call}
 use Rattle.world.specs.declared.call.Call.the-variants.{Input, Step}
 use Rattle.search_rule.specs.Ways.{Way, IsWay, Before}
-use Rattle.search_rule.specs.Search.{stepWith, goesOn, SearchAnswer, Refused, NoWay, WayTo, search}
+use Rattle.search_rule.specs.Search.{stepWith, goesOn, goalOf, SearchAnswer, Refused, NoWay, WayTo, search}
 use Rattle.search_rule.specs.declared.Buttons.{Buttons}
 use Rattle.search_rule.specs.declared.Goal.{Goal}
 
@@ -84,6 +84,8 @@ pub record Reaches (n : ℕ) : Type 0 where
   -- where none is shown no way leads there, and where none does none is shown
   pub none : (s : Sides) (ts : List ℕ) (w : World) (id x y : ℤ) → search n s ts w id x y ≡ NoWay → None n s ts w id x y
   pub nowhere : (s : Sides) (ts : List ℕ) (w : World) (id x y : ℤ) → numberOf (search n s ts w id x y) ≡ 0 → None n s ts w id x y → search n s ts w id x y ≡ NoWay
+  -- what a step of a way leaves is what its two calls leave
+  pub steps : (s : Sides) (ts : List ℕ) (w : World) (id x y : ℤ) (b : Buttons) → let i = slotAt (w .slots) (placeOf n id) .input in stepWith n s ts (goalOf id x y i) w b .world ≡ after n s ts w (callsOf id (i .«target_x») (i .«target_y») (b ∷ []))
   -- it is refused with 1 where the map is none, and else with 2 and 8 where an input for the id is
   pub refusals : (s : Sides) (ts : List ℕ) (w : World) (id x y : ℤ) (i : PlayerInput) → numberOf (search n s ts w id x y) ≡ cond (isMap s ts) (input n w id i .number) badMap
   -- an id that is there is lost in a step just where deadly tiles remove it, in a world of n slots

@@ -13,6 +13,7 @@ pub use buffers::tune_in;
 pub use readers::floor_mark_in;
 pub use readers::player_input_in;
 pub use readers::record_in;
+pub use readers::seated_in;
 pub use readers::tuning_in;
 pub use stepping::step_in;
 pub use telling::write_step;

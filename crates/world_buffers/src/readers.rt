@@ -95,7 +95,7 @@ pub fn tuning_in(world: &[i32], index: i32, value: &mut i32) -> u32
 }
 
 // Who is at an id of the world that the numbers stand for.
-fn seated_in(world: &[i32], id: i32) -> Seated
+pub fn seated_in(world: &[i32], id: i32) -> Seated
     requires { ⌜ length (now world) ≡ worldCount ⌝ }
     ensures { λ r. ⌜ r ≡ seated seats (decoding seats (now (world .entry))) id ⌝ }
 {

@@ -1,0 +1,4 @@
+pub mod Written
+pub mod Turns
+pub mod Steps
+pub mod Answers
