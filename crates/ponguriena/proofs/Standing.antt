@@ -20,7 +20,7 @@ use Rattle.role_rule.specs.declared.Role.{Role}
 use Rattle.role_rule.specs.declared.Role.the-variants.{Referee, Seat, Board}
 use Rattle.world_numbers.specs.Decoding.{decoding}
 use Rattle.world_buffers.specs.Buffers.{Left, refusedIn, leaveIn, tuneIn}
-use Rattle.world_buffers.specs.Readers.{untold, readingTold, readIn}
+use Rattle.world_buffers.specs.Readers.{Told, untold, readingTold, readIn}
 use Rattle.world_buffers.specs.Stepping.{StepBuffers, stepIn}
 use Rattle.world_buffers.specs.Following.{leftOf, leftBy, leftByAll}
 use Rattle.send_buffers.specs.Sends.{LeftBySend, LeftBySendStep, sendIn, sendStepIn}
@@ -29,7 +29,7 @@ use Rattle.send_buffers.proofs.Reached.{link-follows}
 use Rattle.world_buffers.proofs.Readings.{right-lengths}
 use Rattle.world_buffers.proofs.Stands.{calls-stand}
 use Rattle.world_buffers.proofs.Reached.{buffer-follows}
-use Rattle.ponguriena.specs.ByRole.{callAs, stepAs}
+use Rattle.ponguriena.specs.ByRole.{callAs, stepAs, searchAs}
 use Rattle.ponguriena.specs.Standing.{leftAs, StandsAs, RoleReadsStand, RoleCall, leftAsAll, allowedCalls, linkLeftAs, linkLeftAsAll, RolesStand}
 
 -- ---- the number of a role
@@ -128,6 +128,18 @@ reads-stand role q l out h g = ap (λ (m : Bool). cond m (readIn q l out) (untol
     go true = right-lengths q l out h g
     go false = refl
 
+-- ---- a search
+referee-searches : (out : List ℤ) (told : Told) → searchAs (roleNumber Referee) out told ≡ told
+unfolding mayAsk
+referee-searches out told = refl
+
+others-told : (z : ℤ) → (z ≡ roleNumber Referee → ⊥) → (out : List ℤ) (told : Told) → searchAs z out told ≡ untold out notAllowed
+unfolding mayAsk
+others-told (pos k) h out told = refl
+others-told (negsuc zero) h out told = absurd (h refl)
+others-told (negsuc (suc zero)) h out told = refl
+others-told (negsuc (suc (suc k))) h out told = refl
+
 pub roles-stand : RolesStand
 roles-stand = record {
   numbers = record { role = role-asks; none = no-role };
@@ -135,4 +147,5 @@ roles-stand = record {
   reads = reads-stand;
   follows = λ s ts b rs g d. all-allowed s ts b rs _ ∙ buffer-follows s ts b (allowedCalls rs) g d;
   links = λ s ts b rs g d e. links-allowed s ts b rs _ ∙ link-follows s ts b (allowedCalls rs) g d e;
+  searches = record { referee = referee-searches; others = others-told };
 }

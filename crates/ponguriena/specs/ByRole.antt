@@ -26,6 +26,10 @@ stepAs role l b left = cond (mayAsk role (ask.Call Step)) left (record { number 
 abbrev pub readAs : ℤ → Query → List ℤ → Told → Told
 readAs role q out told = cond (mayAsk role (ask.Read q)) told (untold out notAllowed)
 
+-- a search into a buffer that had the numbers `out`: it is made of steps, so it is allowed where a step is
+abbrev pub searchAs : ℤ → List ℤ → Told → Told
+searchAs role out told = cond (mayAsk role (ask.Call Step)) told (untold out notAllowed)
+
 -- a call beside a sender's buffers b
 abbrev pub sendAs : ℤ → Call → List ℤ → SenderBuffers → LeftBySend → LeftBySend
 sendAs role c l b left = cond (mayAsk role (ask.Call c)) left (record { left = refusedIn l notAllowed; sent = b })

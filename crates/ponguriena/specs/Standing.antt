@@ -6,6 +6,7 @@ use mathlib.Core.List.{List, [], _∷_}
 use mathlib.Core.Path.{_≡_}
 use lib.IntN.{ℤ}
 use lib.ListN.{length}
+use Rattle.game_refusals.specs.Refusals.{notAllowed}
 use Rattle.num_convert.specs.Casts.{IsI32}
 use Rattle.game_records.specs.Numbers.{numberAt}
 use Rattle.map_tiles.specs.declared.tiles.Sides.{Sides}
@@ -20,17 +21,18 @@ use Rattle.role_rule.specs.Roles as roles
 use Rattle.role_rule.specs.declared.Ask.{Ask}
 use Rattle.role_rule.specs.declared.Ask.the-variants as ask
 use Rattle.role_rule.specs.declared.Role.{Role}
+use Rattle.role_rule.specs.declared.Role.the-variants.{Referee}
 use Rattle.world_numbers.specs.Encoding.{worldCount, recordsCount, encoding}
 use Rattle.world_numbers.specs.Decoding.{decoding}
 use Rattle.world_buffers.specs.Buffers.{Left, joinIn, leaveIn, inputIn, tuneIn}
-use Rattle.world_buffers.specs.Readers.{queryCount, readingTold, readIn}
+use Rattle.world_buffers.specs.Readers.{Told, untold, queryCount, readingTold, readIn}
 use Rattle.world_buffers.specs.Stepping.{StepBuffers, stepIn}
 use Rattle.world_buffers.specs.Following.{leftOf}
 use Rattle.send_rule.specs.Link.{freshLink}
 use Rattle.send_numbers.specs.Passing.{passedCount}
 use Rattle.send_buffers.specs.Sends.{sendIn, sendStepIn}
 use Rattle.send_buffers.specs.Following.{LinkNumbers, Lent, linkNumbers, senderLent, afterSend, afterStep, calledAll}
-use Rattle.ponguriena.specs.ByRole.{callAs, stepAs, readAs, sendAs, sendStepAs}
+use Rattle.ponguriena.specs.ByRole.{callAs, stepAs, readAs, searchAs, sendAs, sendStepAs}
 
 -- ---- the number of a role
 
@@ -61,6 +63,11 @@ RoleCallsStand = (s : Sides) (ts : List ℕ) (b : StepBuffers) (role : Role) (l 
 -- a read tells the numbers of what the read by the role tells of that world
 abbrev pub RoleReadsStand : Type 0
 RoleReadsStand = (role : Role) (q : Query) (l out : List ℤ) → length l ≡ worldCount → length out ≡ queryCount q → readAs (roleNumber role) q out (readIn q l out) ≡ readingTold out (roles.readAs seats role (decoding seats l) q)
+
+-- a search is the referee's alone: any other number is told 13, whatever else is asked, and the buffer is as it was
+pub record RefereeSearches : Type 0 where
+  pub referee : (out : List ℤ) (told : Told) → searchAs (roleNumber Referee) out told ≡ told
+  pub others : (z : ℤ) → (z ≡ roleNumber Referee → ⊥) → (out : List ℤ) (told : Told) → searchAs z out told ≡ untold out notAllowed
 
 -- ---- every list of calls on a fresh world
 
@@ -109,3 +116,4 @@ pub record RolesStand : Type 0 where
   pub reads : RoleReadsStand
   pub follows : RoleBufferFollows
   pub links : RoleLinkFollows
+  pub searches : RefereeSearches

@@ -1,9 +1,11 @@
 // The C interface of the calls on a world, a sender and a screen that are kept as the numbers of lent buffers, of packed records, of the areas of a map and of trials. Their answers are a refusal's number, or 0.
+// The C interface of the calls on a world, a sender and a screen that are kept as the numbers of lent buffers, of packed records, of the areas of a map and of ways to a place. Their answers are a refusal's number, or 0.
 // What takes a world names a role first: 13 comes before every other refusal.
 mod area;
 mod calls;
 mod packed;
 mod readers;
+mod searching;
 mod sending;
 mod trials;
 
@@ -22,6 +24,7 @@ pub use readers::ponguriena_floor_mark;
 pub use readers::ponguriena_player_input;
 pub use readers::ponguriena_record;
 pub use readers::ponguriena_tuning;
+pub use searching::ponguriena_search;
 pub use sending::ponguriena_receive;
 pub use sending::ponguriena_screen_fresh;
 pub use sending::ponguriena_send_leave;

@@ -24,6 +24,7 @@ use Rattle.world_buffers.proofs.Refusals.{refusals-leave}
 use Rattle.world_buffers.proofs.Reached.{buffer-follows}
 use Rattle.send_buffers.proofs.Reached.{link-follows}
 use Rattle.role_rule.proofs.Requests.{roles-hold}
+use Rattle.search_rule.proofs.Laws.{search-reaches}
 use Rattle.ponguriena.proofs.Standing.{roles-stand}
 use Rattle.map_totals.proofs.Counts.{counts-solid, clear-area}
 use Rattle.map_totals.proofs.Changes.{change-writes, change-follows, change-reaches}
@@ -58,6 +59,7 @@ all-theorems n = record {
   nobody = tells-nobody n;
   jumps = jumps-after-stay n;
   trialCalls = runs-by-calls n;
+  reaches = search-reaches n;
 }
 
 pub shipped : Shipped

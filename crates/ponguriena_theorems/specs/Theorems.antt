@@ -18,6 +18,7 @@ use Rattle.world_numbers.specs.Decoding.{ComesBack, AnyComesBack}
 use Rattle.world_buffers.specs.Following.{CallsStand, RefusalsLeave, BufferFollows}
 use Rattle.send_buffers.specs.Following.{LinkFollows}
 use Rattle.role_rule.specs.Requests.{Roles}
+use Rattle.search_rule.specs.Laws.{Reaches}
 use Rattle.ponguriena.specs.Standing.{RolesStand}
 use Rattle.map_totals.specs.Laws.{CountsSolid, ClearArea, ChangeWrites, ChangeFollows, ChangeReaches}
 use Rattle.session_laws.specs.Played.{WholeOutput, PlayEnds}
@@ -60,6 +61,8 @@ pub record Theorems (n : ℕ) : Type 0 where
   pub nobody : TellsNobody n
   pub jumps : JumpsAfterStay n
   pub trialCalls : RunsByCalls n
+  -- request 12: the first way to a place
+  pub reaches : Reaches n
 
 -- at the seats that there are; and that the numbers which C programs hold are those of the worlds and links that the theorems speak of
 pub record Shipped : Type 0 where

@@ -1,13 +1,13 @@
 -- A step of a way on numbers is the one of the world that they stand for. Assumes nothing.
-use Prim.Native.Nat.{ℕ, _+_, _*_, _≤_, _<_}
-use mathlib.Core.Bool.{Bool, true, false, cond, _&&_}
-use mathlib.Core.List.{List, [], _∷_}
+use Prim.Native.Nat.{ℕ, _+_, _*_, _<_}
+use mathlib.Core.Bool.{Bool, true, false}
+use mathlib.Core.List.{List}
 use mathlib.Core.Path.{_≡_, refl, sym, ap, _∙_, subst}
 use native.Mathlib.Decide.{decLt}
 use native.Mathlib.Omega.{arith}
 use lib.Dec.{eqb, lit<}
 use lib.IntN.{ℤ, pos}
-use lib.ListN.{length, getD, take, drop, List·getD-eq-default}
+use lib.ListN.{length, drop, List·getD-eq-default}
 use lib.Seq.{getD-take, getD-drop}
 use borrow.Author.Tests.{eq-eqb, ne-eqb}
 use mir.Syntax.{w32}
@@ -15,7 +15,6 @@ use mir.Val.{toZ, ofZ}
 use Rattle.num_convert.specs.Casts.{IsI32}
 use Rattle.num_convert.proofs.Signed.{read}
 use Rattle.game_records.specs.Numbers.{numberAt, coreNumbers}
-use Rattle.game_records.specs.declared.PlayerInput.{PlayerInput}
 use Rattle.map_tiles.specs.declared.tiles.Sides.{Sides}
 use Rattle.character.specs.Tick.{seats, slotAt}
 use Rattle.world.specs.Calls.{placeOf, input}
@@ -28,13 +27,12 @@ use Rattle.world.specs.declared.World.{World}
 use Rattle.world.specs.declared.call.Call.{Call}
 use Rattle.world.specs.declared.call.Call.the-variants.{Input, Step}
 use Rattle.world.proofs.Settled.{answer-settled}
-use Rattle.world_numbers.specs.Encoding.{recordCount, worldCount, recordsCount, seatPlace, recordNumbers, recordsEncoding}
+use Rattle.world_numbers.specs.Encoding.{recordCount, worldCount, recordsCount, recordNumbers, recordsEncoding}
 use Rattle.world_numbers.specs.Decoding.{isSet, decoding}
 use Rattle.world_numbers.proofs.Encoded.{flag-back}
 use Rattle.world_numbers.proofs.Rows.{record-long, each-long}
 use Rattle.world_numbers.proofs.Written.{each-row}
 use Rattle.world_buffers.specs.Buffers.{Left, isThere, inputIn}
-use Rattle.world_buffers.specs.Following.{Stands}
 use Rattle.world_buffers.specs.Stepping.{StepBuffers, LeftByStep, leftByStep, stepIn}
 use Rattle.world_buffers.proofs.Stands.{there, stands}
 use Rattle.send_rule.specs.Send.{sameNumber}
@@ -43,7 +41,7 @@ use Rattle.search_rule.specs.Search.{inputWith, stepWith, isAt, arrives, goesOn
 use Rattle.search_rule.specs.declared.Buttons.{Buttons}
 use Rattle.search_rule.specs.declared.Goal.{Goal}
 use Rattle.search_calls.specs.Steps.{recordIsAt, Took}
-use Rattle.search_calls.specs.declared.stepping.Taken.{Taken}
+use Rattle.search_calls.specs.declared.stepping.StepOutcome.{StepOutcome}
 
 -- ---- numbers that are known up to their end
 pub every-i32 : (l : List ℤ) (k : ℕ) → (k < length l → IsI32 (numberAt l k)) → IsI32 (numberAt l k)
@@ -147,7 +145,7 @@ module _ (s : Sides) (ts : List ℕ) (g : Goal) (b : Buttons) (l : List ℤ) (lo
 
       module _ (long-r : length (r .world) ≡ worldCount) (seat : placeOf seats (g .id) < seats) where
         -- it isn't refused, and these are what is read of the numbers
-        pub took : (t : Taken) → r .number ≡ 0 → length (r .told .records) ≡ recordsCount → t .arrives ≡ recordIsAt (r .told .records) (placeOf seats (g .id)) g → t .«goes_on» ≡ isThere (r .world) (placeOf seats (g .id)) → Took s ts g b l t (r .world)
+        pub took : (t : StepOutcome) → r .number ≡ 0 → length (r .told .records) ≡ recordsCount → t .arrives ≡ recordIsAt (r .told .records) (placeOf seats (g .id)) g → t .«goes_on» ≡ isThere (r .world) (placeOf seats (g .id)) → Took s ts g b l t (r .world)
         unfolding arrives goesOn recordsEncoding
         took t z rows-r p q =
             let k = placeOf seats (g .id) in
@@ -162,7 +160,7 @@ module _ (s : Sides) (ts : List ℕ) (g : Goal) (b : Buttons) (l : List ℤ) (lo
             }
 
         -- it is refused
-        pub not-took : (t : Taken) → (r .number ≡ 0 → ⊥) → t .arrives ≡ false → t .«goes_on» ≡ false → Took s ts g b l t (r .world)
+        pub not-took : (t : StepOutcome) → (r .number ≡ 0 → ⊥) → t .arrives ≡ false → t .«goes_on» ≡ false → Took s ts g b l t (r .world)
         unfolding arrives goesOn
         not-took t z p q =
             let y : eqb (a .number) 0 ≡ false = ne-eqb (a .number) 0 (λ e. z (number-is ∙ e)) in

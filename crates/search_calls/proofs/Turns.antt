@@ -8,7 +8,7 @@ use lib.IntN.{ℤ, pos}
 use lib.ListN.{length, set, replicate}
 use Rattle.base_rows.specs.Put.{put}
 use Rattle.base_rows.proofs.Puts.{put-none, put-one}
-use Rattle.base_turns.specs.Turns.{more, stop, run}
+use Rattle.base_turns.specs.Turns.{stop, run}
 use Rattle.base_turns.proofs.Loop.{Left, turn-on, turn-off, turn-end}
 use Rattle.map_tiles.specs.declared.tiles.Sides.{Sides}
 use Rattle.character.specs.Tick.{seats}

@@ -1,7 +1,7 @@
 -- What a search has written of a way: nothing, or its steps from a place on. Assumes nothing.
-use Prim.Native.Nat.{ℕ, suc, _+_, _*_, _≤_}
-use mathlib.Core.Bool.{Bool, true, false, true≢false}
-use mathlib.Core.List.{List, [], _∷_, _++_, append-assoc}
+use Prim.Native.Nat.{ℕ, _+_, _≤_}
+use mathlib.Core.Bool.{true, false, true≢false}
+use mathlib.Core.List.{List, _++_, append-assoc}
 use mathlib.Core.Path.{_≡_, refl, sym, ap, _∙_}
 use native.Mathlib.Omega.{arith}
 use lib.IntN.{ℤ}
@@ -11,8 +11,7 @@ use Rattle.base_rows.proofs.Puts.{take-before, drop-put}
 use Rattle.base_turns.specs.Turns.{more, stop}
 use Rattle.world_numbers.specs.Encoding.{each}
 use Rattle.search_rule.specs.Ways.{Way}
-use Rattle.search_rule.specs.Search.{Found, nothing, following}
-use Rattle.search_rule.specs.declared.Buttons.{Buttons}
+use Rattle.search_rule.specs.Search.{Found, nothing}
 use Rattle.search_calls.specs.Numbers.{buttonsNumbers, Wrote, foundIn}
 
 module _ {A : Type 0} where

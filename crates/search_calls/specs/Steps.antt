@@ -15,7 +15,7 @@ use Rattle.send_rule.specs.Send.{sameNumber}
 use Rattle.search_rule.specs.Search.{stepWith, arrives, goesOn}
 use Rattle.search_rule.specs.declared.Buttons.{Buttons}
 use Rattle.search_rule.specs.declared.Goal.{Goal}
-use Rattle.search_calls.specs.declared.stepping.Taken.{Taken}
+use Rattle.search_calls.specs.declared.stepping.StepOutcome.{StepOutcome}
 
 -- the numbers again, and that each is an i32
 pub record Copied (l m : List ℤ) : Type 0 where
@@ -27,7 +27,7 @@ unfoldable pub recordIsAt : List ℤ → ℕ → Goal → Bool
 recordIsAt rs k g = isSet (numberAt rs (recordCount * k)) && (sameNumber (numberAt rs (recordCount * k + 2)) (g .x) && sameNumber (numberAt rs (recordCount * k + 3)) (g .y))
 
 -- the numbers l become m, and stand for what the step leaves
-pub record Took (s : Sides) (ts : List ℕ) (g : Goal) (b : Buttons) (l : List ℤ) (r : Taken) (m : List ℤ) : Type 0 where
+pub record Took (s : Sides) (ts : List ℕ) (g : Goal) (b : Buttons) (l : List ℤ) (r : StepOutcome) (m : List ℤ) : Type 0 where
   pub arrived : r .arrives ≡ arrives seats g (stepWith seats s ts g (decoding seats l) b)
   pub going : r .«goes_on» ≡ goesOn seats g (stepWith seats s ts g (decoding seats l) b)
   pub world : decoding seats m ≡ stepWith seats s ts g (decoding seats l) b .world

@@ -46,10 +46,10 @@ fn first_of(
     for i in 0..CHOICES {
         let buttons = buttons_at(i);
         copy_world(world, &mut next);
-        let taken = step_with(&mut next, sides, tiles, goal, buttons);
+        let outcome = step_with(&mut next, sides, tiles, goal, buttons);
         let found = if more == 0 {
-            taken.arrives
-        } else if taken.goes_on {
+            outcome.arrives
+        } else if outcome.goes_on {
             first_of(&next, sides, tiles, goal, more - 1, way, at + 2)
         } else {
             false

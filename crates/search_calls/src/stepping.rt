@@ -25,8 +25,8 @@ ghost use Rattle.search_calls.specs.Steps.{Copied, recordIsAt, Took};
 // How many buttons a step may have pressed.
 pub const CHOICES: usize = 6;
 
-// What a step means for a way: whether it may be the last, and whether another may follow.
-pub struct Taken {
+// What a step means for a way: whether it can be the last, and whether another can follow.
+pub struct StepOutcome {
     pub arrives: bool,
     pub goes_on: bool,
 }
@@ -110,7 +110,7 @@ pub fn step_with(
     tiles: &[u8],
     goal: Goal,
     buttons: Buttons,
-) -> Taken
+) -> StepOutcome
     requires { ⌜ (length (now world) ≡ worldCount) × Settled seats (decoding seats (now world)) × (placeOf seats (goal .id) < seats) ⌝ }
     ensures { λ r. ⌜ Took sides (now (tiles .entry)) goal buttons (now (world .entry)) r (now (world .exit)) ⌝ }
 {
@@ -121,12 +121,12 @@ pub fn step_with(
     let number = step_in(world, sides, tiles, &mut records, &mut removed, &mut count);
     if number == 0 {
         let at = place_of(SEATS, goal.id);
-        return Taken {
+        return StepOutcome {
             arrives: record_is_at(&records, at, goal),
             goes_on: is_set(world[seat_place(at)]),
         };
     }
-    Taken {
+    StepOutcome {
         arrives: false,
         goes_on: false,
     }

@@ -4,7 +4,7 @@ use mathlib.Core.Bool.{Bool, true, false, cond, not, _&&_, true≢false}
 use mathlib.Core.List.{List, [], _∷_}
 use mathlib.Core.Path.{_≡_, refl, sym, ap, _∙_}
 use native.Mathlib.Omega.{arith}
-use lib.Dec.{eqb, ltb}
+use lib.Dec.{eqb}
 use lib.IntN.{ℤ}
 use lib.ListN.{length, length-set}
 use lib.Seq.{getD-set-same}
@@ -22,7 +22,6 @@ use Rattle.world.specs.Step.{step}
 use Rattle.world.specs.World.{withSlot}
 use Rattle.world.specs.declared.Answer.{Answer}
 use Rattle.world.specs.declared.Published.{Published}
-use Rattle.world.specs.declared.Stepped.{Stepped}
 use Rattle.world.specs.declared.World.{World}
 use Rattle.world.proofs.Outcomes.{Outcome, no, yes, Seated, input-outcome}
 use Rattle.world.proofs.Present.{step-present}

@@ -1,12 +1,11 @@
 -- The six that a step may press, against their order. Assumes nothing.
 use Prim.Native.Nat.{ℕ, zero, suc, _<_, _/_, _%_}
-use mathlib.Core.List.{List, [], _∷_}
-use mathlib.Core.Logic.{_⊎_, inl, inr}
+use mathlib.Core.Logic.{inl, inr}
 use mathlib.Core.Path.{_≡_, refl, sym, ap, _∙_}
 use native.Mathlib.Decide.{decLt}
 use native.Mathlib.Omega.{arith}
 use lib.Dec.{T, ltb→lt, lt→ltb}
-use lib.IntN.{ℤ, pos, negsuc, predℤ}
+use lib.IntN.{ℤ, pos, predℤ}
 use lib.Signed.{ltZ, _<ℤ_, ltZ-yes}
 use Rattle.search_rule.specs.Ways.{IsDirection, IsJump, Lower}
 use Rattle.search_rule.specs.Search.{choices, buttonsAt}

@@ -2,11 +2,11 @@
 use Prim.Native.Nat.{ℕ, zero, suc, pred, _≤_, _<_}
 use mathlib.Core.Bool.{Bool, true, false, cond, _&&_, true≢false}
 use mathlib.Core.List.{List, [], _∷_}
-use mathlib.Core.Logic.{_⊎_, inl, inr}
+use mathlib.Core.Logic.{inl, inr}
 use mathlib.Core.Path.{_≡_, refl, sym, ap, _∙_, subst}
 use native.Mathlib.Omega.{arith}
 use lib.ListN.{length}
-use Rattle.base_turns.specs.Turns.{more, stop, run}
+use Rattle.base_turns.specs.Turns.{more, stop}
 use Rattle.map_tiles.specs.declared.tiles.Sides.{Sides}
 use Rattle.world.specs.declared.Stepped.{Stepped}
 use Rattle.world.specs.declared.World.{World}
@@ -15,7 +15,7 @@ use Rattle.search_rule.specs.Ways.{Way, Pressed, longest, IsWay, Lower, 
 use Rattle.search_rule.specs.Search.{stepWith, arrives, goesOn, counts, Found, nothing, choices, buttonsAt, following, eachFirst, ending, goingOn, firstOf, firstWay}
 use Rattle.search_rule.specs.declared.Buttons.{Buttons}
 use Rattle.search_rule.specs.declared.Goal.{Goal}
-use Rattle.search_rule.proofs.Choices.{lower-below, Index, index-of, is-direction, is-jump}
+use Rattle.search_rule.proofs.Choices.{lower-below, index-of, is-direction, is-jump}
 use Rattle.search_rule.proofs.Tried.{Tries, Hit, tried}
 
 -- u is the first of the ways with so many steps that meet P

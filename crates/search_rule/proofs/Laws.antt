@@ -1,5 +1,5 @@
 -- The claims of the search. Assumes nothing.
-use Prim.Native.Nat.{ℕ, suc, _≤_, _<_}
+use Prim.Native.Nat.{ℕ}
 use mathlib.Core.Bool.{Bool, true, false, cond}
 use mathlib.Core.List.{List, [], _∷_}
 use mathlib.Core.Path.{_≡_, refl, sym, ap, _∙_, subst}
@@ -23,8 +23,8 @@ use Rattle.world.specs.Step.{stepOn, stepRefused, step}
 use Rattle.world.specs.declared.World.{World}
 use Rattle.world.specs.declared.reading.Seated.the-variants as seat
 use Rattle.world.proofs.Outcomes.{Seated}
-use Rattle.search_rule.specs.Ways.{Way, IsWay, Before}
-use Rattle.search_rule.specs.Search.{inputWith, stepWith, counts, Found, firstWay, goalOf, SearchAnswer, Refused, NoWay, WayTo, answerOf, searchFrom, search}
+use Rattle.search_rule.specs.Ways.{Way, IsWay}
+use Rattle.search_rule.specs.Search.{inputWith, stepWith, counts, Found, firstWay, goalOf, Refused, NoWay, WayTo, answerOf, searchFrom, search}
 use Rattle.search_rule.specs.Laws.{callsOf, Leads, First, None, numberOf, Reaches}
 use Rattle.search_rule.specs.declared.Buttons.{Buttons}
 use Rattle.search_rule.specs.declared.Goal.{Goal}

@@ -4,3 +4,4 @@ pub mod Found
 pub mod Along
 pub mod Order
 pub mod Laws
+pub mod Worked

@@ -1,3 +1,4 @@
 pub mod Ways
 pub mod Search
 pub mod Laws
+pub mod Worked

@@ -1,5 +1,5 @@
 -- `search_calls::searching::first_of` meets its contract. The measure is how many steps stand before the last. Assumes nothing.
-use Prim.Native.Nat.{ℕ, _+_, _-_, _*_, _≤_, _<_}
+use Prim.Native.Nat.{ℕ, _+_, _-_, _<_}
 use mathlib.Core.Bool.{Bool, true, false}
 use mathlib.Core.List.{List, [], _∷_}
 use mathlib.Core.Logic.{⊎-elim}
@@ -16,7 +16,6 @@ use Rattle.base_rows.proofs.copy.Reads as copy-reads
 use Rattle.base_turns.proofs.Loop.{Left, turn-first, turn-end}
 use Rattle.character.specs.Tick.{seats}
 use Rattle.world.specs.Settled.{Settled}
-use Rattle.world.specs.declared.World.{World}
 use Rattle.world_numbers.specs.Encoding.{worldCount}
 use Rattle.world_numbers.specs.Decoding.{decoding}
 use Rattle.world_numbers.proofs.Any.{decoding-settled}

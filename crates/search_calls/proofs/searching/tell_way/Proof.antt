@@ -1,8 +1,8 @@
 -- `search_calls::searching::tell_way` meets its contract: while no way is found the numbers are zeros. Assumes nothing.
-use Prim.Native.Nat.{ℕ, suc, _+_, _-_, _*_, _^_, _≤_, _<_}
-use mathlib.Core.Bool.{Bool, true, false}
+use Prim.Native.Nat.{ℕ, suc, _-_, _^_, _<_}
+use mathlib.Core.Bool.{Bool}
 use mathlib.Core.List.{List}
-use mathlib.Core.Path.{_≡_, refl, sym, ap, _∙_, subst}
+use mathlib.Core.Path.{_≡_, sym, ap, _∙_, subst}
 use native.Mathlib.Omega.{arith}
 use lib.IntN.{ℤ, pos, _+ℤ_}
 use lib.ListN.{length, set, length-set}
@@ -18,7 +18,7 @@ use Rattle.character.specs.Tick.{seats}
 use Rattle.world_numbers.specs.Decoding.{decoding}
 use Rattle.search_rule.specs.Ways.{longest}
 use Rattle.search_rule.specs.Search.{firstOf, firstWay}
-use Rattle.search_calls.specs.Numbers.{wayCount, foundIn, foundNumbers}
+use Rattle.search_calls.specs.Numbers.{wayCount, foundIn}
 use Rattle.search_calls.proofs.Turns.{zeros, lengths, way-turns, way-written, none-longer, none-written}
 use Rattle.search_calls.proofs.searching.tell_way.Statement.{statement}
 use Rattle.search_calls.proofs.searching.tell_way.Tie as tie

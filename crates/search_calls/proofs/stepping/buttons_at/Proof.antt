@@ -1,5 +1,5 @@
 -- `search_calls::stepping::buttons_at` meets its contract. Assumes nothing.
-use mathlib.Core.Path.{_≡_, sym, ap}
+use mathlib.Core.Path.{_≡_}
 use native.Mathlib.Omega.{arith}
 use Rattle.search_rule.specs.Search.{buttonsAt}
 use Rattle.search_calls.proofs.stepping.buttons_at.Statement.{statement}

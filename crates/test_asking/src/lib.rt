@@ -1,23 +1,76 @@
-// What one line asks, by the number of a role, of a world that is kept as numbers.
+// Recorded requests by the numbers of roles, made through the functions of the C interface: a line is n or c, the map's sides and 64 tiles, then thirteen
+// words.
 use character::SEATS;
-use game_records::CORE;
-use game_records::INPUT;
 use map_tiles::Sides;
-use ponguriena::ponguriena_floor_mark;
+use ponguriena::ponguriena_fresh;
 use ponguriena::ponguriena_input;
 use ponguriena::ponguriena_join;
 use ponguriena::ponguriena_leave;
-use ponguriena::ponguriena_player_input;
-use ponguriena::ponguriena_record;
 use ponguriena::ponguriena_step;
 use ponguriena::ponguriena_tune;
-use ponguriena::ponguriena_tuning;
+use test_common::after;
 use test_common::digest;
 use test_common::mix_first;
+use test_common::nth;
+use test_common::read_numbers;
 use text_reading::Decoded;
 use text_reading::decode;
 use world::Call;
 use world_numbers::RECORDS;
+
+// The length of a line.
+pub const LINE: usize = 190;
+
+// Where the sides, the role, what is asked, the answer and the digests stand among the words.
+const SIDES: usize = 0;
+
+const ROLE: usize = 2;
+
+const ASK: usize = 3;
+
+const ANSWER: usize = 10;
+
+const AFTER: usize = 11;
+
+const TOLD: usize = 12;
+
+// Who asks, on which sides, and what: a kind with six arguments. 1 to 5 are the kinds of calls.
+pub struct Request {
+    pub role: i32,
+    pub sides: Sides,
+    pub values: [i32; 7],
+}
+
+pub fn asked(words: &[u8]) -> Request {
+    let mut role = [0i32; 1];
+    read_numbers(after(words, ROLE), &mut role);
+    let mut values = [0i32; 7];
+    read_numbers(after(words, ASK), &mut values);
+    let sides = Sides {
+        width: nth(words, SIDES),
+        height: nth(words, SIDES + 1),
+    };
+    Request {
+        role: role[0],
+        sides,
+        values,
+    }
+}
+
+// A sequence begins with a fresh world.
+pub fn begin(mark: u8, world: &mut [i32]) {
+    if mark != b'n' {
+        return;
+    }
+    ponguriena_fresh(world);
+}
+
+// Whether this is what was recorded, and left.
+pub fn agrees(told: Told, world: &[i32], words: &[u8]) -> bool {
+    told.number == nth(words, ANSWER)
+        && told.digest == nth(words, TOLD)
+        && digest(world) == nth(words, AFTER)
+}
 
 // The answer's number, and the digest of what was told: 0 where nothing was.
 pub struct Told {
@@ -86,36 +139,5 @@ fn stepped(world: &mut [i32], sides: Sides, tiles: &[u8], role: i32) -> Told {
     Told {
         number,
         digest: mix_first(digest(&records), &removed, count),
-    }
-}
-
-// 6 is a record, 7 a floor mark, 8 an input, any other kind a tuning. A refused read leaves zeros.
-pub fn read(world: &[i32], role: i32, kind: i32, argument: i32) -> Told {
-    if kind == 6 {
-        let mut record = [0i32; CORE];
-        let number = ponguriena_record(role, world, argument, &mut record);
-        return Told {
-            number,
-            digest: digest(&record),
-        };
-    }
-    if kind == 8 {
-        let mut input = [0i32; INPUT];
-        let number = ponguriena_player_input(role, world, argument, &mut input);
-        return Told {
-            number,
-            digest: digest(&input),
-        };
-    }
-    let mut value = 0i32;
-    let number = if kind == 7 {
-        ponguriena_floor_mark(role, world, argument, &mut value)
-    } else {
-        ponguriena_tuning(role, world, argument, &mut value)
-    };
-    let one = [value];
-    Told {
-        number,
-        digest: digest(&one),
     }
 }
