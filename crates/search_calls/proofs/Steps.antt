@@ -15,6 +15,8 @@ use mir.Val.{toZ, ofZ}
 use Rattle.num_convert.specs.Casts.{IsI32}
 use Rattle.num_convert.proofs.Signed.{read}
 use Rattle.game_records.specs.Numbers.{numberAt, coreNumbers}
+use Rattle.game_records.specs.Numbers.{numberAt, coreNumbers, sameNumber}
+use Rattle.game_records.specs.declared.PlayerInput.{PlayerInput}
 use Rattle.map_tiles.specs.declared.tiles.Sides.{Sides}
 use Rattle.character.specs.Tick.{seats, slotAt}
 use Rattle.world.specs.Calls.{placeOf, input}
@@ -35,8 +37,7 @@ use Rattle.world_numbers.proofs.Written.{each-row}
 use Rattle.world_buffers.specs.Buffers.{Left, isThere, inputIn}
 use Rattle.world_buffers.specs.Stepping.{StepBuffers, LeftByStep, leftByStep, stepIn}
 use Rattle.world_buffers.proofs.Stands.{there, stands}
-use Rattle.send_rule.specs.Send.{sameNumber}
-use Rattle.send_rule.proofs.Cores.{number-same, number-self}
+use Rattle.game_records.proofs.Same.{number-self, number-differs}
 use Rattle.search_rule.specs.Search.{inputWith, stepWith, isAt, arrives, goesOn}
 use Rattle.search_rule.specs.declared.Buttons.{Buttons}
 use Rattle.search_rule.specs.declared.Goal.{Goal}
@@ -56,13 +57,6 @@ every-i32 l k h = go (decLt k (length l))
 pub same-bits : (x y : ℤ) → IsI32 x → IsI32 y → ofZ w32 x ≡ ofZ w32 y → x ≡ y
 same-bits x y h k e = sym (read x h) ∙ ap (toZ w32) e ∙ read y k
 
-differs : (x y : ℤ) → (x ≡ y → ⊥) → sameNumber x y ≡ false
-differs x y h = go (sameNumber x y) refl
-  where
-    go : (b : Bool) → sameNumber x y ≡ b → b ≡ false
-    go true e = absurd (h (number-same x y e))
-    go false e = refl
-
 -- by the tests that decide it
 module _ (rs : List ℤ) (k : ℕ) (g : Goal) where
   abbrev x : ℤ
@@ -77,11 +71,11 @@ module _ (rs : List ℤ) (k : ℕ) (g : Goal) where
 
   pub not-y : isSet (numberAt rs (recordCount * k)) ≡ true → x ≡ g .x → (y ≡ g .y → ⊥) → false ≡ recordIsAt rs k g
   unfolding recordIsAt
-  not-y e p q = rw (e, p, number-self (g .x), differs y (g .y) q)
+  not-y e p q = rw (e, p, number-self (g .x), number-differs y (g .y) q)
 
   pub not-x : isSet (numberAt rs (recordCount * k)) ≡ true → (x ≡ g .x → ⊥) → false ≡ recordIsAt rs k g
   unfolding recordIsAt
-  not-x e p = rw (e, differs x (g .x) p)
+  not-x e p = rw (e, number-differs x (g .x) p)
 
   pub nobody : isSet (numberAt rs (recordCount * k)) ≡ false → false ≡ recordIsAt rs k g
   unfolding recordIsAt

@@ -6,12 +6,11 @@ use mathlib.Core.Path.{_≡_}
 use lib.IntN.{ℤ}
 use lib.ListN.{length}
 use Rattle.num_convert.specs.Casts.{IsI32}
-use Rattle.game_records.specs.Numbers.{numberAt}
+use Rattle.game_records.specs.Numbers.{numberAt, sameNumber}
 use Rattle.map_tiles.specs.declared.tiles.Sides.{Sides}
 use Rattle.character.specs.Tick.{seats}
 use Rattle.world_numbers.specs.Encoding.{recordCount, worldCount}
 use Rattle.world_numbers.specs.Decoding.{isSet, decoding}
-use Rattle.send_rule.specs.Send.{sameNumber}
 use Rattle.search_rule.specs.Search.{stepWith, arrives, goesOn}
 use Rattle.search_rule.specs.declared.Buttons.{Buttons}
 use Rattle.search_rule.specs.declared.Goal.{Goal}

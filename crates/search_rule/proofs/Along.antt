@@ -25,9 +25,9 @@ use Rattle.world.specs.declared.Published.{Published}
 use Rattle.world.specs.declared.World.{World}
 use Rattle.world.proofs.Outcomes.{Outcome, no, yes, Seated, input-outcome}
 use Rattle.world.proofs.Present.{step-present}
-use Rattle.send_rule.specs.Send.{sameNumber}
-use Rattle.send_rule.proofs.Cores.{number-same, number-self}
-use Rattle.send_rule.proofs.Tests.{both}
+use Rattle.game_records.specs.Numbers.{sameNumber}
+use Rattle.game_records.proofs.Same.{number-same, number-self}
+use Rattle.base_turns.proofs.Tests.{both}
 use Rattle.search_rule.specs.Ways.{Way}
 use Rattle.search_rule.specs.Search.{inputWith, stepWith, isAt, arrives, goesOn, counts}
 use Rattle.search_rule.specs.Laws.{callsOf, Accepted, lastRecord, HasPlace}

@@ -10,7 +10,7 @@ use Rattle.base_turns.specs.Turns.{more, stop}
 use Rattle.map_tiles.specs.declared.tiles.Sides.{Sides}
 use Rattle.world.specs.declared.Stepped.{Stepped}
 use Rattle.world.specs.declared.World.{World}
-use Rattle.send_rule.proofs.Tests.{both}
+use Rattle.base_turns.proofs.Tests.{both}
 use Rattle.search_rule.specs.Ways.{Way, Pressed, longest, IsWay, Lower, Earlier, Before}
 use Rattle.search_rule.specs.Search.{stepWith, arrives, goesOn, counts, Found, nothing, choices, buttonsAt, following, eachFirst, ending, goingOn, firstOf, firstWay}
 use Rattle.search_rule.specs.declared.Buttons.{Buttons}

@@ -20,7 +20,7 @@ use Rattle.world.specs.declared.Stepped.{Stepped}
 use Rattle.world.specs.declared.World.{World}
 use Rattle.world.specs.declared.reading.Seated.{Seated}
 use Rattle.world.specs.declared.reading.Seated.the-variants as seat
-use Rattle.send_rule.specs.Send.{sameNumber}
+use Rattle.game_records.specs.Numbers.{sameNumber}
 use Rattle.search_rule.specs.Ways.{Way, longest}
 use Rattle.search_rule.specs.declared.Buttons.{Buttons}
 use Rattle.search_rule.specs.declared.Goal.{Goal}
