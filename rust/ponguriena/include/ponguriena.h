@@ -132,6 +132,23 @@ uint32_t ponguriena_floor_mark(int32_t role, const int32_t *world, size_t world_
 uint32_t ponguriena_tuning(int32_t role, const int32_t *world, size_t world_length, int32_t index,
                            int32_t *hundredths);
 
+/* How could she get there? The longest list that is tried, and a way as numbers. */
+enum {
+    PONGURIENA_SEARCH_STEPS = 3,
+    PONGURIENA_WAY = 1 + 2 * PONGURIENA_SEARCH_STEPS /* how many steps, direction and jump of each,
+                                             zeros behind them; all zeros where no list leads there */
+};
+
+/* Looks for inputs that lead an id to a place: lists of one, two or three steps for this id, the
+ * inputs of others as stored. Each step has direction -1, 0 or 1 and jump 0 or 1, with hook 0 and
+ * the id's stored target. Shorter lists come first, then direction, then jump, of the earliest
+ * step in which they differ, rising. Way gets the first list whose last record has that x and y. A
+ * list that meets refusal 9, or loses the id to a deadly tile before its last step, does not count.
+ * The world is only read. The referee's alone. */
+uint32_t ponguriena_search(int32_t role, const int32_t *world, size_t world_length, uint32_t width,
+                           uint32_t height, const uint8_t *tiles, size_t tiles_length, int32_t id,
+                           int32_t x, int32_t y, int32_t *way, size_t way_length);
+
 /* What goes to the screens: only what surprises them.
  *
  * A sender keeps a copy of each seat as last sent, with the input of that time, and steps it as if

@@ -49,6 +49,12 @@ pub const WORLD_NUMBERS: usize = TUNINGS + SEATS * SEAT_NUMBERS;
 /// A seat's presence and record.
 pub const PUBLISHED_NUMBERS: usize = 1 + CORE_NUMBERS;
 
+/// The most steps of a way that [`search`] tells.
+pub const SEARCH_STEPS: usize = 3;
+
+/// How many steps a way has, then direction and jump of each, with zeros behind them.
+pub const WAY_NUMBERS: usize = 1 + 2 * SEARCH_STEPS;
+
 /// What a step publishes.
 pub const RECORDS_NUMBERS: usize = SEATS * PUBLISHED_NUMBERS;
 
@@ -131,6 +137,20 @@ unsafe extern "C" {
         length: usize,
         id: i32,
         mark: &mut i32,
+    ) -> u32;
+    fn ponguriena_search(
+        role: i32,
+        world: *const i32,
+        length: usize,
+        width: u32,
+        height: u32,
+        tiles: *const u8,
+        tiles_length: usize,
+        id: i32,
+        x: i32,
+        y: i32,
+        way: *mut i32,
+        way_length: usize,
     ) -> u32;
 }
 
@@ -276,5 +296,36 @@ pub fn floor_mark(role: i32, world: &[i32], id: i32, mark: &mut i32) -> Result<(
     // SAFETY: the pointer and the length are those of one slice.
     Refusal::of_answer(unsafe {
         ponguriena_floor_mark(role, world.as_ptr(), world.len(), id, mark)
+    })
+}
+
+/// Writes the first list of inputs that leads an id to a place, of [`WAY_NUMBERS`] numbers, or
+/// zeros where none does; [`World::search`](crate::World::search) says which lists are tried.
+#[inline]
+pub fn search(
+    role: i32,
+    world: &[i32],
+    map: &Map<'_>,
+    id: i32,
+    x: i32,
+    y: i32,
+    way: &mut [i32],
+) -> Result<(), Refusal> {
+    // SAFETY: as for `record`.
+    Refusal::of_answer(unsafe {
+        ponguriena_search(
+            role,
+            world.as_ptr(),
+            world.len(),
+            map.width,
+            map.height,
+            map.tiles.as_ptr(),
+            map.tiles.len(),
+            id,
+            x,
+            y,
+            way.as_mut_ptr(),
+            way.len(),
+        )
     })
 }

@@ -2,9 +2,9 @@
 //! the [`World`] of characters with its calls, each for whoever has the [`Role`] to make it,
 //! what goes from there to the screens ([`Sender`] and [`Screen`]), the same calls on lent
 //! numbers ([`buffers`] and [`send_buffers`]), records as packed bytes ([`packed`]), how many
-//! tiles of an [`Area`] are solid ([`Totals`]), and how near players come to a tile under a
-//! tuning ([`Trial`]). Of `ponguriena_parts` what they are made of: the tiles of a [`Map`] and
-//! walks over it, the aim angle, the velocity ramp, the root and the conversions.
+//! tiles of an [`Area`] are solid ([`Totals`]), how near players come to a tile under a tuning
+//! ([`Trial`]), and a [`Way`] to a place. Of `ponguriena_parts` what they are made of: the tiles
+//! of a [`Map`] and walks over it, the aim angle, the velocity ramp, the root and the conversions.
 //! `include/ponguriena.h` is for C.
 
 // Nothing checks the declarations in these modules against the Rattle source: a
@@ -18,6 +18,7 @@ mod passed;
 mod refusal;
 mod role;
 mod screen;
+mod search;
 pub mod send_buffers;
 mod sender;
 mod snap_obj;
@@ -36,6 +37,7 @@ pub use passed::{Passed, PassedAlong, PassedIter};
 pub use refusal::Refusal;
 pub use role::Role;
 pub use screen::Screen;
+pub use search::{Buttons, Way};
 pub use sender::Sender;
 pub use snap_obj::{CORE_NUMBERS, CharacterCore, INPUT_NUMBERS, PlayerInput};
 pub use trial::{Nearest, Run, Trial};

@@ -1,8 +1,9 @@
 //! A world of characters and its five calls.
 
-use crate::buffers::{self, PUBLISHED_NUMBERS, RECORDS_NUMBERS, SEATS, WORLD_NUMBERS};
+use crate::buffers::{self, PUBLISHED_NUMBERS, RECORDS_NUMBERS, SEATS, WAY_NUMBERS, WORLD_NUMBERS};
 use crate::refusal::Refusal;
 use crate::role::Role;
+use crate::search::Way;
 use crate::snap_obj::{CORE_NUMBERS, CharacterCore, INPUT_NUMBERS, PlayerInput};
 use crate::walks::Map;
 
@@ -146,6 +147,44 @@ impl World {
         let mut mark = 0;
         buffers::floor_mark(role.number(), &self.numbers, id, &mut mark)?;
         Ok(mark != 0)
+    }
+
+    /// How could an id get to a place? The first list of inputs whose last record has that x and
+    /// y, or none where no list has.
+    ///
+    /// Tried are lists of one, two or three steps for this id, the inputs of others as stored.
+    /// Each step has direction -1, 0 or 1 and jump 0 or 1, with hook 0 and the stored target.
+    /// Shorter lists come first, then direction, then jump, of the earliest step in which they
+    /// differ, rising. A list in which a step is refused as [`Refusal::TooFar`], or which loses
+    /// the id to a deadly tile before its last step, does not count. The world is not touched.
+    /// Refused: a map at fault, an id without a seat, an id that is absent.
+    ///
+    /// ```
+    /// # use ponguriena::{Map, Refusal, Role, World};
+    /// # let map = Map { width: 3, height: 3, tiles: &[0, 0, 0, 0, 0, 0, 1, 1, 1] };
+    /// # let mut world = World::fresh();
+    /// world.join(Role::Referee, &map, 7, 40, 49)?;
+    /// let way = world.search(Role::Referee, &map, 7, 46, 49)?.expect("two steps to the right");
+    /// for buttons in way.steps() {
+    ///     let stored = world.player_input(Role::Referee, 7)?;
+    ///     world.input(Role::Referee, 7, buttons.input(stored))?;
+    ///     world.step(Role::Referee, &map)?;
+    /// }
+    /// assert_eq!(world.record(Role::Board, 7)?.x, 46);
+    /// assert_eq!(world.search(Role::Referee, &map, 7, 90, 49), Ok(None));
+    /// # Ok::<(), Refusal>(())
+    /// ```
+    pub fn search(
+        &self,
+        role: Role,
+        map: &Map<'_>,
+        id: i32,
+        x: i32,
+        y: i32,
+    ) -> Result<Option<Way>, Refusal> {
+        let mut numbers = [0; WAY_NUMBERS];
+        buffers::search(role.number(), &self.numbers, map, id, x, y, &mut numbers)?;
+        Ok(Way::of_numbers(numbers))
     }
 
     /// A tuning, in hundredths.

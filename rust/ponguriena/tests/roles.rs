@@ -4,7 +4,7 @@
 mod common;
 
 use common::{HOOK, NO_MAP, OPEN};
-use ponguriena::buffers::{self, RECORDS_NUMBERS, SEATS, WORLD_NUMBERS};
+use ponguriena::buffers::{self, RECORDS_NUMBERS, SEATS, WAY_NUMBERS, WORLD_NUMBERS};
 use ponguriena::send_buffers::{self, PASSED_NUMBERS, SENDER_NUMBERS};
 use ponguriena::{CORE_NUMBERS, INPUT_NUMBERS, Map, PlayerInput, Refusal, Role, Sender, World};
 
@@ -39,7 +39,7 @@ fn holding() -> Result<World, Refusal> {
 }
 
 /// The answers to everything but an input and the reads of a board.
-fn answers(world: &mut World, role: Role, map: &Map, id: i32) -> [Result<(), Refusal>; 6] {
+fn answers(world: &mut World, role: Role, map: &Map, id: i32) -> [Result<(), Refusal>; 7] {
     [
         world.join(role, map, id, 20, 20),
         world.leave(role, id),
@@ -47,6 +47,7 @@ fn answers(world: &mut World, role: Role, map: &Map, id: i32) -> [Result<(), Ref
         world.step(role, map).map(drop),
         world.player_input(role, id).map(drop),
         world.tuning(role, id).map(drop),
+        world.search(role, map, id, 20, 20).map(drop),
     ]
 }
 
@@ -59,7 +60,7 @@ fn seats_and_boards_may_not() -> Result<(), Refusal> {
         for id in [1, 2, 9, 64, -1] {
             for map in [OPEN, NO_MAP] {
                 let answers = answers(&mut world, role, &map, id);
-                assert_eq!(answers, [Err(Refusal::NotAllowed); 6]);
+                assert_eq!(answers, [Err(Refusal::NotAllowed); 7]);
             }
         }
     }
@@ -150,7 +151,7 @@ fn a_sender_calls_as_the_referee() -> Result<(), Refusal> {
 struct Lent {
     world: Vec<i32>,
     sender: Vec<i32>,
-    written: [Vec<i32>; 5],
+    written: [Vec<i32>; 6],
     number: i32,
 }
 
@@ -163,6 +164,7 @@ impl Lent {
             SEATS,
             CORE_NUMBERS,
             INPUT_NUMBERS,
+            WAY_NUMBERS,
             PASSED_NUMBERS,
         ];
         Lent {
@@ -174,9 +176,9 @@ impl Lent {
     }
 
     /// Every call but an input, and every read but those of a board.
-    fn answers(&mut self, role: i32, map: &Map, id: i32) -> [Result<(), Refusal>; 9] {
+    fn answers(&mut self, role: i32, map: &Map, id: i32) -> [Result<(), Refusal>; 10] {
         let (world, sender) = (&mut self.world, &mut self.sender);
-        let [records, removed, _, input, passed] = &mut self.written;
+        let [records, removed, _, input, way, passed] = &mut self.written;
         [
             buffers::join(role, world, map, id, 1 << 30, 0),
             buffers::leave(role, world, id),
@@ -184,6 +186,7 @@ impl Lent {
             buffers::step(role, world, map, records, removed).map(drop),
             buffers::player_input(role, world, id, input),
             buffers::tuning(role, world, id, &mut self.number),
+            buffers::search(role, world, map, id, 7, 7, way),
             send_buffers::leave(role, world, sender, id, passed).map(drop),
             send_buffers::tune(role, world, sender, id, 7, passed).map(drop),
             send_buffers::step(role, world, sender, map, records, removed, passed).map(drop),
@@ -195,7 +198,7 @@ impl Lent {
     }
 
     fn reads(&mut self, role: i32, id: i32) -> [Result<(), Refusal>; 2] {
-        let [_, _, record, _, _] = &mut self.written;
+        let [_, _, record, ..] = &mut self.written;
         [
             buffers::record(role, &self.world, id, record),
             buffers::floor_mark(role, &self.world, id, &mut self.number),
@@ -213,7 +216,7 @@ fn not_allowed_comes_first() {
             for id in [0, 63, 64, -1, -3, i32::MIN] {
                 for map in [OPEN, NO_MAP] {
                     let answers = lent.answers(role, &map, id);
-                    assert_eq!(answers, [Err(Refusal::NotAllowed); 9]);
+                    assert_eq!(answers, [Err(Refusal::NotAllowed); 10]);
                 }
                 if role != BOARD {
                     assert_eq!(lent.reads(role, id), [Err(Refusal::NotAllowed); 2]);
@@ -234,7 +237,7 @@ fn lengths_come_next() {
     let before = lent.clone();
     assert_eq!(
         lent.answers(REFEREE, &NO_MAP, -1),
-        [Err(Refusal::BadLength); 9]
+        [Err(Refusal::BadLength); 10]
     );
     for role in [REFEREE, BOARD] {
         assert_eq!(lent.reads(role, -1), [Err(Refusal::BadLength); 2]);

@@ -393,6 +393,8 @@ static void not_allowed(const char *who, int32_t role) {
          no);
     same(who, ponguriena_player_input(role, world, less, -1, records, 1), no);
     same(who, ponguriena_tuning(role, world, less, 18, records), no);
+    same(who,
+         ponguriena_search(role, world, less, 0, 0, OPEN_TILES, 9, NO_SEAT, 0, 0, records, 1), no);
     same(who, ponguriena_send_leave(role, world, less, sender, 1, -1, passed, 1, &passed_count),
          no);
     same(who, ponguriena_send_tune(role, world, less, sender, 1, 18, 0, passed, 1, &passed_count),
@@ -579,6 +581,39 @@ static void trials(void) {
     same_row("after refusals", trial_result, 30, 0, 7);
 }
 
+static uint32_t search(int32_t role, Map map, int32_t id, int32_t x, int32_t way[PONGURIENA_WAY]) {
+    return ponguriena_search(role, world, LENGTH(world), map.width, map.height, map.tiles,
+                             map.length, id, x, 49, way, PONGURIENA_WAY);
+}
+
+/* Two steps to the right; the world stays, and what is refused writes nothing. */
+static void searches(void) {
+    static const int32_t right_twice[PONGURIENA_WAY] = {2, 1, 0, 1, 0, 0, 0};
+    static const int32_t nowhere[PONGURIENA_WAY] = {0};
+    int32_t before[PONGURIENA_WORLD];
+    int32_t way[PONGURIENA_WAY];
+    same("fresh", fresh(), PONGURIENA_ACCEPTED);
+    same("join", join(FLOOR, 7, 40, 49), PONGURIENA_ACCEPTED);
+    memcpy(before, world, sizeof world);
+    memset(way, -1, sizeof way);
+    same("search", search(REFEREE, FLOOR, 7, 46, way), PONGURIENA_ACCEPTED);
+    same_numbers("way", way, right_twice, LENGTH(way));
+    same("search", search(REFEREE, FLOOR, 7, 90, way), PONGURIENA_ACCEPTED);
+    same_numbers("no way", way, nowhere, LENGTH(way));
+    same("search", search(REFEREE, FLOOR, 7, 46, way), PONGURIENA_ACCEPTED);
+    same("board", search(PONGURIENA_BOARD, NO_MAP, NO_SEAT, 46, way), PONGURIENA_NOT_ALLOWED);
+    same("seat 7", search(7, FLOOR, 7, 46, way), PONGURIENA_NOT_ALLOWED);
+    same("no map", search(REFEREE, NO_MAP, NO_SEAT, 46, way), PONGURIENA_BAD_MAP);
+    same("no seat", search(REFEREE, FLOOR, NO_SEAT, 46, way), PONGURIENA_BAD_ID);
+    same("nobody", search(REFEREE, FLOOR, 8, 46, way), PONGURIENA_ABSENT);
+    same("short way",
+         ponguriena_search(REFEREE, world, LENGTH(world), 4, 3, FLOOR_TILES, 9, 7, 46, 49, way,
+                           PONGURIENA_WAY - 1),
+         PONGURIENA_BAD_LENGTH);
+    same_numbers("way after refusals", way, right_twice, LENGTH(way));
+    same_numbers("world after searches", world, before, LENGTH(before));
+}
+
 int main(void) {
     a_fall();
     an_input();
@@ -600,5 +635,6 @@ int main(void) {
     packing();
     areas();
     trials();
+    searches();
     return differences != 0;
 }
