@@ -1,5 +1,4 @@
-// The C interface of the calls on a world, a sender and a screen that are kept as the numbers of lent buffers, of packed records, of the areas of a map and of trials. Their answers are a refusal's number, or 0.
-// The C interface of the calls on a world, a sender and a screen that are kept as the numbers of lent buffers, of packed records, of the areas of a map and of ways to a place. Their answers are a refusal's number, or 0.
+// The C interface of the calls on a world, a sender and a screen that are kept as the numbers of lent buffers, of packed records, of the areas of a map, of trials and of ways to a place. Their answers are a refusal's number, or 0.
 // What takes a world names a role first: 13 comes before every other refusal.
 mod area;
 mod calls;

@@ -59,7 +59,7 @@ all-theorems n = record {
   nobody = tells-nobody n;
   jumps = jumps-after-stay n;
   trialCalls = runs-by-calls n;
-  reaches = search-reaches n;
+  ways = search-reaches n;
 }
 
 pub shipped : Shipped

@@ -62,7 +62,7 @@ pub record Theorems (n : ℕ) : Type 0 where
   pub jumps : JumpsAfterStay n
   pub trialCalls : RunsByCalls n
   -- request 12: the first way to a place
-  pub reaches : Reaches n
+  pub ways : Reaches n
 
 -- at the seats that there are; and that the numbers which C programs hold are those of the worlds and links that the theorems speak of
 pub record Shipped : Type 0 where

@@ -2,13 +2,14 @@
 //! document 01's world over libtw2. The latter is timed with the aim angle found
 //! in three ways: by a scan of all entries, as document 01 says it, by halving, and
 //! by the port's own function. Ratios below 1 say that the port is faster. The table of sending
-//! has the port alone, with a sender beside its world and without; that of trials has whole ones
-//! beside their steps alone, with the port's own angle.
+//! has the port alone, with a sender beside its world and without; those of trials and searches
+//! have whole ones beside their steps alone, with the port's own angle.
 
 mod calls;
 mod play;
 mod scene;
 mod scenes;
+mod searches;
 mod sending;
 mod sides;
 mod trials;
@@ -33,6 +34,8 @@ fn main() {
     sending::print_sending(&games);
     println!();
     trials::print_trials(&mut random);
+    println!();
+    searches::print_searches(&games);
 }
 
 fn print_steps(scenes: &[Scene]) {

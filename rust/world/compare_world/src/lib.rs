@@ -6,6 +6,7 @@ pub mod differs;
 pub mod lent_asks;
 pub mod receives;
 pub mod replay;
+pub mod searches;
 pub mod send_calls;
 pub mod send_replay;
 pub mod sequences;

@@ -2,7 +2,7 @@
 
 use crate::lent_asks::{LENGTHS, drawn_turn};
 use crate::sequences::drawn;
-use crate::trials;
+use crate::{searches, trials};
 use harness::draw::FIRST_SEATS;
 use harness::roles::Role;
 use harness::{Call, Published, SEATS};
@@ -11,6 +11,7 @@ use std::collections::BTreeSet;
 
 const SEQUENCES: u64 = 200;
 const TURNS: usize = 40;
+const WORLDS: u64 = 40;
 
 #[test]
 fn every_answer_of_a_call_is_drawn() {
@@ -111,6 +112,18 @@ fn every_answer_of_a_trial_is_drawn() {
     let trials = (0..4 * SEQUENCES).map(|number| trials::drawn(6, number));
     let answers: BTreeSet<u32> = trials.map(|case| case.left().0).collect();
     assert_eq!(answers, [0, 1, 2, 4, 5, 7, 15, 17].into());
+}
+
+/// Of each length, and none.
+#[test]
+fn ways_are_drawn() {
+    let mut tally = searches::Tally::default();
+    for number in 0..WORLDS {
+        let compared = searches::compare(7, number, &mut tally);
+        assert!(compared.is_ok());
+    }
+    let counts = [&tally.ways[..], &[tally.refused]].concat();
+    assert!(counts.iter().all(|&count| count > 5), "{counts:?}");
 }
 
 #[test]

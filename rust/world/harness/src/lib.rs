@@ -9,6 +9,7 @@ mod published;
 mod refusal;
 pub mod rewriting;
 pub mod roles;
+pub mod search;
 pub mod sending;
 mod slot;
 #[cfg(test)]

@@ -3,6 +3,7 @@
 mod rewriting;
 mod roles;
 mod screens;
+mod searches;
 mod seats;
 mod sending;
 mod sending_lists;

@@ -12,6 +12,7 @@ pub const ORDINARY: [i32; TUNINGS] = [
 
 pub const GROUND_CONTROL_SPEED: usize = 0;
 pub const GROUND_CONTROL_ACCEL: usize = 1;
+pub const AIR_JUMP_IMPULSE: usize = 4;
 pub const AIR_CONTROL_SPEED: usize = 5;
 pub const AIR_CONTROL_ACCEL: usize = 6;
 pub const AIR_FRICTION: usize = 7;
