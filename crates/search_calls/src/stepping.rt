@@ -22,7 +22,7 @@ ghost use Rattle.world_numbers.specs.Decoding.{decoding};
 ghost use Rattle.search_rule.specs.Search.{inputWith, choices, buttonsAt};
 ghost use Rattle.search_calls.specs.Steps.{Copied, recordIsAt, Took};
 
-// How many buttons a step may have pressed.
+// Three directions, each with and without jump.
 pub const CHOICES: usize = 6;
 
 // What a step means for a way: whether it can be the last, and whether another can follow.

@@ -143,4 +143,4 @@ module _ (n : ℕ) (s : Sides) (ts : List ℕ) (w : World) (id x y : ℤ) where
       go (stop v) h = absurd (f v (h .way) (h .leads))
 
 pub search-reaches : (n : ℕ) → Reaches n
-search-reaches n = record { shown = shown n; first = first n; none = none n; nowhere = nowhere n; steps = two-calls n; refusals = refused-as n; lost = λ s ts w g b full seat there. lost-to-spikes n s ts w g b full (record { seat = seat; there = there }) }
+search-reaches n = record { shown = shown n; first = first n; none = none n; nowhere = nowhere n; counting = λ s ts w id x y e u i. let r = runs n s ts w id x y e in (counts-leads n s ts w id x y r u, leads-counts n s ts w id x y u i); steps = two-calls n; refusals = refused-as n; lost = λ s ts w g b full seat there. lost-to-spikes n s ts w g b full (record { seat = seat; there = there }) }

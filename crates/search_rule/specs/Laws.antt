@@ -21,7 +21,7 @@ use Rattle.world.specs.declared.World.{World}
 use Rattle.world.specs.declared.call.Call.{Call}
 use Rattle.world.specs.declared.call.Call.the-variants.{Input, Step}
 use Rattle.search_rule.specs.Ways.{Way, IsWay, Before}
-use Rattle.search_rule.specs.Search.{stepWith, goesOn, goalOf, SearchAnswer, Refused, NoWay, WayTo, search}
+use Rattle.search_rule.specs.Search.{stepWith, goesOn, counts, goalOf, SearchAnswer, Refused, NoWay, WayTo, search}
 use Rattle.search_rule.specs.declared.Buttons.{Buttons}
 use Rattle.search_rule.specs.declared.Goal.{Goal}
 
@@ -84,6 +84,8 @@ pub record Reaches (n : ℕ) : Type 0 where
   -- where none is shown no way leads there, and where none does none is shown
   pub none : (s : Sides) (ts : List ℕ) (w : World) (id x y : ℤ) → search n s ts w id x y ≡ NoWay → None n s ts w id x y
   pub nowhere : (s : Sides) (ts : List ℕ) (w : World) (id x y : ℤ) → numberOf (search n s ts w id x y) ≡ 0 → None n s ts w id x y → search n s ts w id x y ≡ NoWay
+  -- a way counts just where its calls lead there
+  pub counting : (s : Sides) (ts : List ℕ) (w : World) (id x y : ℤ) → numberOf (search n s ts w id x y) ≡ 0 → (u : Way) → IsWay u → let c = counts n s ts (goalOf id x y (slotAt (w .slots) (placeOf n id) .input)) w u in (c ≡ true → Leads n s ts w id x y u) × (Leads n s ts w id x y u → c ≡ true)
   -- what a step of a way leaves is what its two calls leave
   pub steps : (s : Sides) (ts : List ℕ) (w : World) (id x y : ℤ) (b : Buttons) → let i = slotAt (w .slots) (placeOf n id) .input in stepWith n s ts (goalOf id x y i) w b .world ≡ after n s ts w (callsOf id (i .«target_x») (i .«target_y») (b ∷ []))
   -- it is refused with 1 where the map is none, and else with 2 and 8 where an input for the id is

@@ -47,7 +47,7 @@ arrives n g a = eqb (a .number) 0 && isAt g (recordAt (a .records) (placeOf n (g
 unfoldable pub goesOn : ℕ → Goal → Stepped → Bool
 goesOn n g a = eqb (a .number) 0 && slotAt (a .world .slots) (placeOf n (g .id)) .present
 
--- a way counts
+-- a way counts: no step is refused, the id is there before each, and the last leads there
 abbrev pub counts : ℕ → Sides → List ℕ → Goal → World → Way → Bool
 counts n s ts g w [] = false
 counts n s ts g w (b ∷ []) = arrives n g (stepWith n s ts g w b)
@@ -61,7 +61,7 @@ Found = Turn (Unit {0}) Way
 abbrev pub nothing : Found
 nothing = more tt
 
--- how many buttons a step may have pressed
+-- three directions, each with and without jump
 abbrev pub choices : ℕ
 choices = 6
 
