@@ -94,7 +94,9 @@ fn faulty(mut search: Search, map: &Map, random: &mut Xorshift) -> (Search, Map)
 
 /// One of them is another.
 fn any_lengths((world, way): (usize, usize), random: &mut Xorshift) -> (usize, usize) {
-    let other = |length, random: &mut Xorshift| pick(random, &[0, 1, length - 1, length + 1]);
+    let other = |length: usize, random: &mut Xorshift| {
+        pick(random, &[0, 1, length.saturating_sub(1), length + 1])
+    };
     match below(random, 2) {
         0 => (other(world, random), way),
         _ => (world, other(way, random)),
