@@ -120,8 +120,8 @@ pulledSlot s (pull.Of cid v) j = cond (eqb (cid .0) j) (withCharacter s (withVel
 -- after the flight: the drag of an attached hook, the count of a held one, the others, the clamp, and whom the hook pulls
 unfoldable pub hooked : ℕ → Character → Bool → Hook → ℕ → List Slot → Tuning → AfterTick
 hooked n c onGround h id ss t =
-    let vel = meetAll n ss id (c .pos) (dragged h (c .pos) (c .vel) (c .«move_direction») t) (hold h) t in
-    record { me = withVel (withHook c (hold h)) (clampSpeed vel); pull = pullOf n ss id (c .pos) (hold h) t; grounded = onGround }
+    let vel = meetAll n ss id (c .pos) (dragged h (c .pos) (c .vel) (c .«move_direction») t) (hold h (t .«hook_hold»)) t in
+    record { me = withVel (withHook c (hold h (t .«hook_hold»))) (clampSpeed vel); pull = pullOf n ss id (c .pos) (hold h (t .«hook_hold»)) t; grounded = onGround }
 
 -- a hook that would fly too far refuses the tick
 abbrev pub ticked : ℕ → Character → Bool → ℕ → List Slot → Tuning → HookFlight → TickedAt

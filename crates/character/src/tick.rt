@@ -163,7 +163,7 @@ impl Character {
         let pos = self.pos;
         let direction = self.move_direction;
         let vel = hook.dragged(pos, self.vel, direction, tuning);
-        let held = hook.hold();
+        let held = hook.hold(tuning.hook_hold);
         let met = meet_all(present, xs, ys, id, pos, vel, held, tuning);
         let clamped = clamp_speed(met);
         self = self.with_hook(held);

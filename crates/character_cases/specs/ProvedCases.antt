@@ -3,6 +3,8 @@ use Prim.Native.Nat.{ℕ, _≤_, _<_}
 use mathlib.Core.Bool.{true}
 use mathlib.Core.List.{List, [], _∷_}
 use mathlib.Core.Path.{_≡_}
+use lib.ListN.{getD}
+use Rattle.game_tuning.specs.Tuning.{hookHold}
 use lib.IntN.{ℤ, pos, negsuc}
 use lib.Ieee.{Float, nan, binary32, ofBits, toBits, add}
 use Rattle.num_root.specs.Root.{root}
@@ -75,9 +77,9 @@ pub record ProvedCases : Type 0 where
   pub character-not-a-number : (c : Character) → c .pos ≡ vnew nan nan → QuantizesTo (λ d. d .pos ≡ vnew (ofBits binary32 0) (ofBits binary32 0)) c
   -- (7) saturated_add(−5, 5, 7, 1) is 7; with −1 it is 5
   pub saturates : (saturatedAdd (n (negsuc 4)) (n (pos 5)) (n (pos 7)) (n (pos 1)) ≡ n (pos 7)) × (saturatedAdd (n (negsuc 4)) (n (pos 5)) (n (pos 7)) (n (negsuc 0)) ≡ n (pos 5))
-  -- (8) with the hook input held, Grabbed tick 59 becomes 60; 60 becomes Retracted
-  pub holds : (c : CharacterId) (p d : vec2) → (hold (fire (Grabbed c 59) true p d) ≡ Grabbed c 60) × (hold (fire (Grabbed c 60) true p d) ≡ Retracted)
-  pub tick-holds : (n : ℕ) (c : Character) (id cid : CharacterId) (ss : List Slot) (s : Sides) (ts : List ℕ) (i : PlayerInput) (tunings : List ℤ) → isMap s ts ≡ true → id .0 < n → hooks i ≡ true → HookAfter (Grabbed cid 60) (tick n (withHook c (Grabbed cid 59)) id ss s ts i tunings) × HookAfter Retracted (tick n (withHook c (Grabbed cid 60)) id ss s ts i tunings)
+  -- (8) with the hook input held and a hold of 60, Grabbed tick 59 becomes 60; 60 becomes Retracted
+  pub holds : (c : CharacterId) (p d : vec2) → (hold (fire (Grabbed c 59) true p d) (pos 60) ≡ Grabbed c 60) × (hold (fire (Grabbed c 60) true p d) (pos 60) ≡ Retracted)
+  pub tick-holds : (n : ℕ) (c : Character) (id cid : CharacterId) (ss : List Slot) (s : Sides) (ts : List ℕ) (i : PlayerInput) (tunings : List ℤ) → getD tunings hookHold (pos 0) ≡ pos 60 → isMap s ts ≡ true → id .0 < n → hooks i ≡ true → HookAfter (Grabbed cid 60) (tick n (withHook c (Grabbed cid 59)) id ss s ts i tunings) × HookAfter Retracted (tick n (withHook c (Grabbed cid 60)) id ss s ts i tunings)
   -- (9) angles: (1,1) 201, (−1,0) 804, (0,−1) −402
   pub angles : (netAngle (pos 1) (pos 1) ≡ pos 201) × (netAngle (negsuc 0) (pos 0) ≡ pos 804) × (netAngle (pos 0) (negsuc 0) ≡ negsuc 401)
   -- (10) a line of length 0 tests a not-a-number point, so tile (0,0): the only solid one of two by two

@@ -2,3 +2,4 @@ pub mod Variants
 pub mod States
 pub mod Unchanged
 pub mod Cases
+pub mod Hold

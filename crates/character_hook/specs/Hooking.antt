@@ -2,8 +2,8 @@
 use Prim.Native.Nat.{ℕ, _+_}
 use mathlib.Core.Bool.{Bool, cond}
 use lib.Dec.{ltb}
+use lib.IntN.{ℤ}
 use lib.Ieee.{Float, lt}
-use Rattle.game_constants.specs.Constants.{maxHookGrabTime}
 use Rattle.num_convert.specs.Number.{c1·5}
 use Rattle.game_constants.specs.Constants.{characterSize}
 use Rattle.num_vec2.specs.Vec2.{vadd, vsub, vmul, vnormalize, vdistance, closestPointOnLine}
@@ -16,6 +16,7 @@ use Rattle.map_tiles.specs.declared.point.Tile.{Tile}
 use Rattle.map_tiles.specs.declared.point.Tile.the-variants.{Open, Normal, Deadly, Unhookable}
 use Rattle.map_walks.specs.declared.lines.LineHit.{LineHit}
 use Rattle.map_walks.specs.declared.lines.LineHit.the-variants.{Nothing, At}
+use Rattle.game_tuning.specs.Tuning.{holdOf}
 use Rattle.game_tuning.specs.declared.Tuning.{Tuning}
 use Rattle.character_hook.specs.declared.hooking.Flight.{Flight}
 use Rattle.character_hook.specs.declared.hooking.Nearest.{Nearest}
@@ -80,9 +81,9 @@ retract (Retracting0 p) = Retracting1 p
 retract (Retracting1 p) = Retracting2 p
 retract (Retracting2 p) = Retracted
 
--- one more tick of holding, up to that
-abbrev pub held : CharacterId → ℕ → Hook
-held c t = cond (ltb maxHookGrabTime (t + 1)) Retracted (Grabbed c (t + 1))
+-- one more tick of holding, up to the hold
+abbrev pub held : ℤ → CharacterId → ℕ → Hook
+held z c t = cond (ltb (holdOf z) (t + 1)) Retracted (Grabbed c (t + 1))
 
-unfoldable pub hold : Hook → Hook
-hold h = onGrabbed held h h
+unfoldable pub hold : Hook → ℤ → Hook
+hold h z = onGrabbed (held z) h h

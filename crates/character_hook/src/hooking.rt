@@ -2,8 +2,8 @@
 use crate::hook::CharacterId;
 use crate::hook::Hook;
 use game_constants::CHARACTER_SIZE;
-use game_constants::MAX_HOOK_GRAB_TIME;
 use game_tuning::Tuning;
+use game_tuning::hold_of;
 use map_tiles::Tile;
 use map_walks::LineHit;
 use num_vec2::vec2;
@@ -65,13 +65,13 @@ impl Hook {
     }
 
     // One more tick of holding somebody, the one in which it began included. The largest tick can't be counted up: it is beyond the time.
-    pub fn hold(self) -> Hook
-        ensures { λ r. ⌜ r ≡ hold self ⌝ }
+    pub fn hold(self, steps: i32) -> Hook
+        ensures { λ r. ⌜ r ≡ hold self steps ⌝ }
     {
         let Hook::Grabbed(hooked, tick) = self else {
             return self;
         };
-        if tick >= MAX_HOOK_GRAB_TIME {
+        if tick >= hold_of(steps) {
             return Hook::Retracted;
         }
         Hook::Grabbed(hooked, tick + 1)

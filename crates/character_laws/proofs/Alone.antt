@@ -81,7 +81,7 @@ module _ (t : Tuning) (collision : ne (t .«player_collision») c0 ≡ false) (h
   hooked-alone n c g h id ss us =
       let p = c .pos in
       let v = dragged h p (c .vel) (c .«move_direction») t in
-      rw (meet-all-alone n ss id p v (hold h), meet-all-alone n us id p v (hold h), pull-alone n ss id p (hold h), pull-alone n us id p (hold h))
+      rw (meet-all-alone n ss id p v (hold h (t .«hook_hold»)), meet-all-alone n us id p v (hold h (t .«hook_hold»)), pull-alone n ss id p (hold h (t .«hook_hold»)), pull-alone n us id p (hold h (t .«hook_hold»)))
 
   ticked-alone : (n : ℕ) (c : Character) (g : Bool) (id : ℕ) (ss us : List Slot) (f : HookFlight) → ticked n c g id ss t f ≡ ticked n c g id us t f
   ticked-alone n c g id ss us TooFar = refl
@@ -101,4 +101,4 @@ module _ (t : Tuning) (collision : ne (t .«player_collision») c0 ≡ false) (h
     where
       go : (d : Character) (f : HookFlight) → Then (λ a. a .pull ≡ Nobody) (ticked n d (grounded s ts (c .pos)) id ss t f)
       go d TooFar = tt
-      go d (To h) = pull-alone n ss id (d .pos) (hold h)
+      go d (To h) = pull-alone n ss id (d .pos) (hold h (t .«hook_hold»))

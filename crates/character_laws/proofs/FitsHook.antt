@@ -3,15 +3,15 @@ use Prim.Native.Nat.{ℕ, _+_}
 use mathlib.Core.List.{List}
 use lib.Dec.{ltb}
 use lib.Ieee.{Float, binary32, lt, ne, div}
-use lib.IntN.{pos}
+use lib.IntN.{ℤ, pos}
 use Rattle.base_turns.specs.Turns.{Turn, more, stop, run}
 use Rattle.base_turns.proofs.Kept.{Ends, run-kept}
 use Rattle.num_convert.specs.Convert.{i32ToF32}
 use Rattle.num_convert.specs.Number.{c0}
 use Rattle.num_vec2.specs.Vec2.{vmul, vsub, vmix, vdistance}
 use Rattle.num_vec2.specs.declared.vec2.{vec2}
-use Rattle.game_constants.specs.Constants.{maxHookGrabTime}
 use Rattle.game_records.specs.declared.PlayerInput.{PlayerInput}
+use Rattle.game_tuning.specs.Tuning.{holdOf}
 use Rattle.game_tuning.specs.declared.Tuning.{Tuning}
 use Rattle.map_tiles.specs.Map.{checkPoint}
 use Rattle.map_tiles.specs.declared.point.Tile.{Tile}
@@ -128,16 +128,16 @@ flown-place (Retracting1 a) p s ts t f = f
 flown-place (Retracting2 a) p s ts t f = tt
 
 -- ---- who is met, and one more tick
-hold-place : (h : Hook) → FitsPlace h → FitsPlace (hold h)
+hold-place : (z : ℤ) (h : Hook) → FitsPlace h → FitsPlace (hold h z)
 unfolding hold
-hold-place Retracted f = tt
-hold-place Idle f = tt
-hold-place (Flying a d) f = f
-hold-place (Grabbed c t) f = either FitsPlace (ltb maxHookGrabTime (t + 1)) tt tt
-hold-place (Attached a) f = f
-hold-place (Retracting0 a) f = f
-hold-place (Retracting1 a) f = f
-hold-place (Retracting2 a) f = f
+hold-place z Retracted f = tt
+hold-place z Idle f = tt
+hold-place z (Flying a d) f = f
+hold-place z (Grabbed c t) f = either FitsPlace (ltb (holdOf z) (t + 1)) tt tt
+hold-place z (Attached a) f = f
+hold-place z (Retracting0 a) f = f
+hold-place z (Retracting1 a) f = f
+hold-place z (Retracting2 a) f = f
 
 grab-place : (h : Hook) (best : Nearest) → FitsPlace h → FitsPlace (grab h best)
 unfolding grab
@@ -164,4 +164,4 @@ tick-place n c id ss s ts i t p f =
   where
     go : (d : Character) (onGround : Bool) → FitsPair (d .pos) → (f : HookFlight) → FitsFlight f → Then (λ a. FitsPair (a .me .pos) × FitsPlace (a .me .hook)) (ticked n d onGround id ss t f)
     go d onGround q reach.TooFar k = tt
-    go d onGround q (reach.To h) k = (q, hold-place h k)
+    go d onGround q (reach.To h) k = (q, hold-place (t .«hook_hold») h k)

@@ -173,7 +173,7 @@ module _ (tunings : List ℤ) where
   ticked-fits n c g id ss TooFar k l = tt
   ticked-fits n c g id ss (To f) k l =
       let v = dragged f (c .pos) (c .vel) (c .«move_direction») t in
-      (clamp-speed-fits _ (meet-all-fits n ss id (c .pos) v (hold f) (dragged-fits f (c .pos) (c .vel) (c .«move_direction») t k)), pull-of-fits n ss id (c .pos) (hold f) l)
+      (clamp-speed-fits _ (meet-all-fits n ss id (c .pos) v (hold f (t .«hook_hold»)) (dragged-fits f (c .pos) (c .vel) (c .«move_direction») t k)), pull-of-fits n ss id (c .pos) (hold f (t .«hook_hold»)) l)
 
 -- after a tick every velocity is one where every velocity was: the ticking character's and that of whom its hook pulls
 pub tick-fits : (n : ℕ) (c : Character) (id : ℕ) (ss : List Slot) (s : Sides) (ts : List ℕ) (i : PlayerInput) (tunings : List ℤ)

@@ -6,16 +6,17 @@ use mathlib.Core.List.{List}
 use mathlib.Core.Path.{_≡_, refl, sym, subst}
 use lib.Dec.{eqb, ltb}
 use lib.Ieee.{Float, lt, ne}
-use lib.IntN.{pos, negsuc}
+use lib.IntN.{ℤ, pos, negsuc}
 use borrow.Author.Tests.{eq-eqb, eqb-true, eqb-false}
 use Rattle.base_turns.proofs.Kept.{fold-kept}
 use Rattle.num_convert.specs.Casts.{castSigned, castUnsigned}
 use Rattle.num_convert.specs.Number.{c0}
 use Rattle.num_vec2.specs.Vec2.{vdistance, closestPointOnLine}
 use Rattle.num_vec2.specs.declared.vec2.{vec2}
-use Rattle.game_constants.specs.Constants.{maxHookGrabTime, characterSize}
+use Rattle.game_constants.specs.Constants.{characterSize}
 use Rattle.game_records.specs.declared.PlayerInput.{PlayerInput}
 use Rattle.game_records.specs.declared.Tick.{Tick}
+use Rattle.game_tuning.specs.Tuning.{holdOf}
 use Rattle.game_tuning.specs.declared.Tuning.{Tuning}
 use Rattle.map_tiles.specs.declared.point.Tile.the-variants.{Open, Normal, Deadly, Unhookable}
 use Rattle.map_tiles.specs.declared.tiles.Sides.{Sides}
@@ -129,16 +130,16 @@ module _ (P : ℕ → Type 0) where
   flown-only (Retracting1 a) p s ts t k = tt
   flown-only (Retracting2 a) p s ts t k = tt
 
-  hold-only : (h : Hook) → Only P h → Only P (hold h)
+  hold-only : (z : ℤ) (h : Hook) → Only P h → Only P (hold h z)
   unfolding hold
-  hold-only Retracted k = tt
-  hold-only Idle k = tt
-  hold-only (Flying a d) k = tt
-  hold-only (Grabbed c t) k = either (Only P) (ltb maxHookGrabTime (t + 1)) tt k
-  hold-only (Attached a) k = tt
-  hold-only (Retracting0 a) k = tt
-  hold-only (Retracting1 a) k = tt
-  hold-only (Retracting2 a) k = tt
+  hold-only z Retracted k = tt
+  hold-only z Idle k = tt
+  hold-only z (Flying a d) k = tt
+  hold-only z (Grabbed c t) k = either (Only P) (ltb (holdOf z) (t + 1)) tt k
+  hold-only z (Attached a) k = tt
+  hold-only z (Retracting0 a) k = tt
+  hold-only z (Retracting1 a) k = tt
+  hold-only z (Retracting2 a) k = tt
 
   -- ---- who is met has P, where everybody who is there has it
   module _ (ss : List Slot) (there : (k : ℕ) → slotAt ss k .present ≡ true → P k) where
@@ -187,7 +188,7 @@ module _ (P : ℕ → Type 0) where
       where
         go : (d : Character) (onGround : Bool) (f : HookFlight) → FlightOnly f → Then (λ a. Only P (a .me .hook)) (ticked n d onGround id ss t f)
         go d onGround reach.TooFar q = tt
-        go d onGround (reach.To h) q = hold-only h q
+        go d onGround (reach.To h) q = hold-only (t .«hook_hold») h q
 
   -- ---- a record, and back: who is held is read as nobody else
   player-only : (m : ℕ) (p : vec2) (t : Tick) → P m → Only P (attachedOrGrabbed p (castSigned m) t)

@@ -74,7 +74,7 @@ tick-there n c id ss s ts i t = let d = steer c (grounded s ts (c .pos)) i t in 
   where
     go : (d : Character) (f : HookFlight) → Then (λ a. There ss (a .pull)) (ticked n d (grounded s ts (c .pos)) id ss t f)
     go d TooFar = tt
-    go d (To h) = pull-there n ss id (d .pos) (hold h) t
+    go d (To h) = pull-there n ss id (d .pos) (hold h (t .«hook_hold»)) t
 
 -- ---- the slots after a pull
 

@@ -61,6 +61,10 @@ badArea = 14
 abbrev pub badTrial : ℕ
 badTrial = 15
 
+-- a hook's hold outside 1 to 60 steps
+abbrev pub badHold : ℕ
+badHold = 16
+
 -- a lent buffer of numbers that has another length than it must
 abbrev pub badLength : ℕ
 badLength = 17

@@ -1,4 +1,4 @@
-// The numbers with which a call is declined; each stands here alone. 1 to 15 are the customer's, 17 is ours: 16 is the customer's too.
+// The numbers with which a call is declined; each stands here alone. 1 to 16 are the customer's, 17 is ours.
 
 // A map's sides are not 1 to 1,024 each, or its bytes are not width times height.
 pub const BAD_MAP: u32 = 1;
@@ -44,6 +44,9 @@ pub const BAD_AREA: u32 = 14;
 
 // A trial with no tunings or more than eight, or with a number of steps outside 0 to 3,000.
 pub const BAD_TRIAL: u32 = 15;
+
+// A hook's hold outside 1 to 60 steps.
+pub const BAD_HOLD: u32 = 16;
 
 // A lent buffer of numbers that has another length than it must.
 pub const BAD_LENGTH: u32 = 17;

@@ -1,9 +1,13 @@
-// The tunings as the physics computes with them. They are handed in as hundredths, in document 01's order.
+// The tunings as the physics computes with them. They are handed in as hundredths, in document 01's order, and the hook's hold in whole steps behind them.
+use game_constants::MAX_HOOK_GRAB_TIME;
 ghost use mathlib.Core.Path.{_≡_};
 ghost use Prim.Native.Nat.{_<_};
-ghost use Rattle.game_tuning.specs.Tuning.{freshTunings, tuningAt, tuningOf};
+ghost use Rattle.game_tuning.specs.Tuning.{tuningCount, freshTunings, isHold, holdOf, mayTune, toldTuning, tuningAt, tuningOf};
 
-pub const TUNINGS: usize = 18;
+pub const TUNINGS: usize = 19;
+
+// The index of the hook's hold.
+pub const HOOK_HOLD: usize = 18;
 
 pub struct Tuning {
     pub ground_control_speed: f32,
@@ -24,9 +28,11 @@ pub struct Tuning {
     pub velramp_curvature: f32,
     pub player_collision: f32,
     pub player_hooking: f32,
+    // As it was handed in: `hold_of` reads it.
+    pub hook_hold: i32,
 }
 
-// The tunings of Teeworlds 0.6, in hundredths.
+// The tunings of Teeworlds 0.6, in hundredths, and its hold.
 pub fn fresh_tunings() -> [i32; TUNINGS]
     ensures { λ r. ⌜ r ≡ freshTunings ⌝ }
 {
@@ -49,6 +55,7 @@ pub fn fresh_tunings() -> [i32; TUNINGS]
         140,
         100,
         100,
+        60,
     ]
 }
 
@@ -75,12 +82,55 @@ pub fn tuning_of(hundredths: [i32; TUNINGS]) -> Tuning
         velramp_curvature: tuning_at(hundredths, 15),
         player_collision: tuning_at(hundredths, 16),
         player_hooking: tuning_at(hundredths, 17),
+        hook_hold: hundredths[HOOK_HOLD],
     }
 }
 
 fn tuning_at(hundredths: [i32; TUNINGS], index: usize) -> f32
-    requires { ⌜ index < 18 ⌝ }
+    requires { ⌜ index < tuningCount ⌝ }
     ensures { λ r. ⌜ r ≡ tuningAt hundredths index ⌝ }
 {
     num_convert::hundredths_to_f32(hundredths[index])
+}
+
+fn is_hold(steps: i32) -> bool
+    ensures { λ r. ⌜ r ≡ isHold steps ⌝ }
+{
+    if steps < 1 {
+        return false;
+    }
+    steps as u32 <= MAX_HOOK_GRAB_TIME
+}
+
+// Whether a tuning takes a number: any of hundredths, and a hold.
+pub fn may_tune(index: usize, value: i32) -> bool
+    ensures { λ r. ⌜ r ≡ mayTune index value ⌝ }
+{
+    if index == HOOK_HOLD {
+        return is_hold(value);
+    }
+    true
+}
+
+// The hold that a number stands for: the nearest.
+pub fn hold_of(steps: i32) -> u32
+    ensures { λ r. ⌜ r ≡ holdOf steps ⌝ }
+{
+    if steps < 1 {
+        return 1;
+    }
+    if steps as u32 > MAX_HOOK_GRAB_TIME {
+        return MAX_HOOK_GRAB_TIME;
+    }
+    steps as u32
+}
+
+// A tuning as a reader is told it.
+pub fn told_tuning(index: usize, value: i32) -> i32
+    ensures { λ r. ⌜ r ≡ toldTuning index value ⌝ }
+{
+    if index == HOOK_HOLD {
+        return hold_of(value) as i32;
+    }
+    value
 }

@@ -84,7 +84,7 @@ module _ (n k : ℕ) (ss : List Slot) (lone : Lonely k ss) where
 
   hooked-nobody : (c : Character) (g : Bool) (h : Hook) (t : Tuning) → hooked n c g h k ss t ≡ record { me = hookedAlone c h t; pull = pull.Nobody; grounded = g }
   unfolding hooked
-  hooked-nobody c g h t = rw (meet-nobody (c .pos) (dragged h (c .pos) (c .vel) (c .«move_direction») t) (hold h) t, pull-nobody (c .pos) (hold h) t)
+  hooked-nobody c g h t = rw (meet-nobody (c .pos) (dragged h (c .pos) (c .vel) (c .«move_direction») t) (hold h (t .«hook_hold»)) t, pull-nobody (c .pos) (hold h (t .«hook_hold»)) t)
 
   ticked-nobody : (c : Character) (g : Bool) (t : Tuning) (f : HookFlight) → ticked n c g k ss t f ≡ tickedTo c g t f
   ticked-nobody c g t TooFar = refl

@@ -60,7 +60,7 @@ flownTo (way.Along from to h) = To h
 
 -- after the flight: the drag of an attached hook, the count of a held one, and the clamp
 abbrev pub hookedAlone : Character → Hook → Tuning → Character
-hookedAlone c h t = withVel (withHook c (hold h)) (clampSpeed (dragged h (c .pos) (c .vel) (c .«move_direction») t))
+hookedAlone c h t = withVel (withHook c (hold h (t .«hook_hold»))) (clampSpeed (dragged h (c .pos) (c .vel) (c .«move_direction») t))
 
 -- ---- the move
 

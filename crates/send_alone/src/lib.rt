@@ -76,7 +76,7 @@ fn hooked_alone(mut me: Character, hook: Hook, tuning: Tuning) -> Character
     let direction = me.move_direction;
     let vel = hook.dragged(pos, me.vel, direction, tuning);
     let clamped = clamp_speed(vel);
-    me = me.with_hook(hook.hold());
+    me = me.with_hook(hook.hold(tuning.hook_hold));
     me.vel = clamped;
     me
 }

@@ -7,7 +7,6 @@ use native.Mathlib.Omega.{arith}
 use lib.Dec.{eqb, ltb}
 use lib.IntN.{ℤ}
 use borrow.Author.Tests.{ltb-true, eq-eqb, eqb-true}
-use Rattle.game_refusals.specs.Refusals.{badTuning}
 use Rattle.game_tuning.specs.Tuning.{tuningCount}
 use Rattle.map_tiles.specs.declared.tiles.Sides.{Sides}
 use Rattle.character.specs.Tick.{seats, slotAt}
@@ -21,7 +20,7 @@ use Rattle.world.specs.declared.call.Call.{Call}
 use Rattle.world.specs.declared.call.Call.the-variants.{Join, Leave, Input, Step, Tune}
 use Rattle.world.specs.declared.Stepped.{Stepped}
 use Rattle.world.specs.declared.World.{World}
-use Rattle.world.proofs.Outcomes.{Outcome, no, yes, Seated, leave-outcome}
+use Rattle.world.proofs.Outcomes.{Outcome, no, yes, Seated, Tunes, leave-outcome, tune-outcome}
 use Rattle.world.proofs.Seats.{by-test}
 use Rattle.send_rule.specs.Send.{Sent, copyAt, due, takenAt, stepCopies, sendTurn, sendMessages, sendAccepted, send}
 use Rattle.send_rule.specs.declared.Copy.{Copy}
@@ -64,12 +63,11 @@ leave-known n w id a (no r e) q = absurd (let z : a .number ≡ suc r = ap (λ (
 leave-known n w id a (yes f e) q = f .seat
 
 tune-known : (w : World) (index z : ℤ) → tune w index z .number ≡ 0 → placeOf tuningCount index < tuningCount
-unfolding tune
-tune-known w index z = go (ltb (placeOf tuningCount index) tuningCount) refl
+tune-known w index z = go (tune w index z) (tune-outcome w index z)
   where
-    go : (b : Bool) → ltb (placeOf tuningCount index) tuningCount ≡ b → cond b (accepted (withTuning w (placeOf tuningCount index) z)) (refused w badTuning) .number ≡ 0 → placeOf tuningCount index < tuningCount
-    go true e q = ltb-true (placeOf tuningCount index) tuningCount e
-    go false e q = absurd (omega arith)
+    go : (a : Answer) → Outcome w (withTuning w (placeOf tuningCount index) z) (Tunes w index z) a → a .number ≡ 0 → placeOf tuningCount index < tuningCount
+    go a (no r e) q = absurd (let x : a .number ≡ suc r = ap (λ (b : Answer). b .number) e in omega arith)
+    go a (yes f e) q = f .index-known
 
 -- ---- every call
 module _ (s : Sides) (ts : List ℕ) (w : World) (cs : List Copy) where

@@ -1,5 +1,5 @@
 -- The screen's copies are the sender's, and its tunings the world's, after every call. Assumes nothing.
-use Prim.Native.Nat.{ℕ}
+use Prim.Native.Nat.{ℕ, suc}
 use native.Mathlib.Omega.{arith}
 use mathlib.Core.Bool.{Bool, true, false, cond, _&&_}
 use mathlib.Core.List.{List, [], _∷_, _++_, map}
@@ -9,7 +9,6 @@ use lib.IntN.{ℤ}
 use lib.ListN.{length, set, length-replicate}
 use borrow.Author.Tests.{eq-eqb, ne-eqb, eqb-true, eqb-false}
 use Rattle.base_turns.proofs.Kept.{fold-kept}
-use Rattle.game_refusals.specs.Refusals.{badTuning}
 use Rattle.game_tuning.specs.Tuning.{tuningCount}
 use Rattle.map_tiles.specs.declared.tiles.Sides.{Sides}
 use Rattle.character.specs.Tick.{slotAt}
@@ -22,9 +21,10 @@ use Rattle.world.specs.Step.{step}
 use Rattle.world.specs.declared.call.Call.{Call}
 use Rattle.world.specs.declared.call.Call.the-variants.{Join, Leave, Input, Step, Tune}
 use Rattle.world.specs.declared.Stepped.{Stepped}
+use Rattle.world.specs.declared.Answer.{Answer}
 use Rattle.world.specs.declared.World.{World}
 use Rattle.world.proofs.Demand1.{demand1}
-use Rattle.world.proofs.Outcomes.{outcome-kept, join-outcome, leave-outcome, input-outcome}
+use Rattle.world.proofs.Outcomes.{Outcome, no, yes, outcome-kept, Tunes, join-outcome, leave-outcome, input-outcome, tune-outcome}
 use Rattle.world.proofs.Seats.{by-test}
 use Rattle.world.proofs.Settled.{answer-settled, after-settled}
 use Rattle.send_rule.specs.Send.{Sent, noCopy, copyAt, stepCopies, due, takenAt, dropped, sendTurn, sendMessages, sendRemovals, sendNothing, sendAccepted, withCopies, receive, receiveAll}
@@ -39,12 +39,11 @@ use Rattle.send_rule.proofs.Messages.{messageOf, sent-size}
 
 -- the tunings that an accepted tune leaves
 tune-tunings : (w : World) (index z : ℤ) → tune w index z .number ≡ 0 → tune w index z .world .tunings ≡ set (w .tunings) (placeOf tuningCount index) z
-unfolding tune
-tune-tunings w index z = go (ltb (placeOf tuningCount index) tuningCount)
+tune-tunings w index z = go (tune w index z) (tune-outcome w index z)
   where
-    go : (b : Bool) → cond b (accepted (withTuning w (placeOf tuningCount index) z)) (refused w badTuning) .number ≡ 0 → cond b (accepted (withTuning w (placeOf tuningCount index) z)) (refused w badTuning) .world .tunings ≡ set (w .tunings) (placeOf tuningCount index) z
-    go true e = refl
-    go false e = absurd (omega arith)
+    go : (a : Answer) → Outcome w (withTuning w (placeOf tuningCount index) z) (Tunes w index z) a → a .number ≡ 0 → a .world .tunings ≡ set (w .tunings) (placeOf tuningCount index) z
+    go a (no r e) q = absurd (let x : a .number ≡ suc r = ap (λ (b : Answer). b .number) e in omega arith)
+    go a (yes f e) q = ap (λ (b : Answer). b .world .tunings) e
 
 module _ (n : ℕ) (s : Sides) (ts : List ℕ) where
   receive-append : (z : Screen) (ps qs : List Passed) → receiveAll n s ts z (ps ++ qs) ≡ receiveAll n s ts (receiveAll n s ts z ps) qs

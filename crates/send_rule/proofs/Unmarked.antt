@@ -98,7 +98,7 @@ module _ (n : ℕ) (ss : List Slot) (id : ℕ) where
   ticked-without : (c : Character) (g : Bool) (t : Tuning) (f : HookFlight) → ticked n c g id (withoutMarks ss) t f ≡ ticked n c g id ss t f
   unfolding hooked
   ticked-without c g t TooFar = refl
-  ticked-without c g t (To h) = let v = dragged h (c .pos) (c .vel) (c .«move_direction») t in rw (meet-without (c .pos) v (hold h) t, pull-without (c .pos) (hold h) t)
+  ticked-without c g t (To h) = let v = dragged h (c .pos) (c .vel) (c .«move_direction») t in rw (meet-without (c .pos) v (hold h (t .«hook_hold»)) t, pull-without (c .pos) (hold h (t .«hook_hold»)) t)
 
   tick-without : (c : Character) (s : Sides) (ts : List ℕ) (i : PlayerInput) (t : Tuning) → tickAt n c id (withoutMarks ss) s ts i t ≡ tickAt n c id ss s ts i t
   unfolding tickAt

@@ -18,20 +18,12 @@ use Rattle.world.specs.Run.{inputOf}
 use Rattle.world.specs.Step.{Moving, tickAll, moveAll, stepRefused, stepAnswer, stepOn, step}
 use Rattle.world.specs.declared.Answer.{Answer}
 use Rattle.world.specs.declared.World.{World}
-use Rattle.world.proofs.Outcomes.{Outcome, no, yes, join-outcome, leave-outcome, input-outcome}
+use Rattle.world.proofs.Outcomes.{Outcome, no, yes, join-outcome, leave-outcome, input-outcome, tune-outcome}
 
--- join, leave and input
+-- any call but step
 left : {w u : World} {F : Type 0} (a : Answer) → Outcome w u F a → (a .number ≡ 0 → ⊥) → a .world ≡ w
 left a (no r e) h = ap (λ (b : Answer). b .world) e
 left a (yes f e) h = absurd (h (ap (λ (b : Answer). b .number) e))
-
-tune-left : (w : World) (index z : ℤ) → (tune w index z .number ≡ 0 → ⊥) → tune w index z .world ≡ w
-unfolding tune
-tune-left w index z = go (ltb (placeOf tuningCount index) tuningCount)
-  where
-    go : (b : Bool) → (cond b (accepted (withTuning w (placeOf tuningCount index) z)) (refused w 3) .number ≡ 0 → ⊥) → cond b (accepted (withTuning w (placeOf tuningCount index) z)) (refused w 3) .world ≡ w
-    go true h = absurd (h refl)
-    go false h = refl
 
 answer-left : (n : ℕ) (w : World) (s : Sides) (ts : List ℕ) (a : Turn Moving ℕ) → (stepAnswer n w s ts a .number ≡ 0 → ⊥) → stepAnswer n w s ts a .world ≡ w
 answer-left n w s ts (more m) h = absurd (h refl)
@@ -50,4 +42,4 @@ demand1 n s ts w (Join id x y) h = left _ (join-outcome n w s ts id x y) h
 demand1 n s ts w (Leave id) h = left _ (leave-outcome n w id) h
 demand1 n s ts w (Input id d x y j k) h = left _ (input-outcome n w id (inputOf d x y j k)) h
 demand1 n s ts w Step h = step-left n w s ts h
-demand1 n s ts w (Tune index z) h = tune-left w index z h
+demand1 n s ts w (Tune index z) h = left _ (tune-outcome w index z) h

@@ -21,7 +21,8 @@ use Rattle.character.specs.Character.{spawn}
 use Rattle.character.specs.Tick.{slotAt}
 use Rattle.character_laws.proofs.Back.{representable-back}
 use Rattle.world.specs.World.{fresh, withTuning}
-use Rattle.game_tuning.specs.Tuning.{tuningCount, playerCollision}
+use Rattle.game_refusals.specs.Refusals.{badTuning, badHold}
+use Rattle.game_tuning.specs.Tuning.{tuningCount, playerCollision, hookHold, isHold, mayTune}
 use Rattle.world.specs.Calls.{refused, accepted, placeOf, pointOf}
 use Rattle.world.specs.Calls as calls
 use Rattle.world.specs.Run.{inputOf, ran, after}
@@ -85,16 +86,19 @@ module _ (n : ℕ) (s : Sides) (ts : List ℕ) where
     tuned-set l true e = ap (λ (i : ℕ). getD (set (w .tunings) i v) playerCollision (pos 0)) (eqb-true k playerCollision e) ∙ getD-set-same (w .tunings) playerCollision v (pos 0) (omega (arith, g .tunings))
     tuned-set l false e = getD-set-other (w .tunings) k playerCollision v (pos 0) (λ q. eqb-false k playerCollision e (sym q)) ∙ h .tuned
 
-    tuned-next : (b : Bool) → ltb k tuningCount ≡ b → Reached n s ts (cond (eqb k playerCollision) v z) (cond b (accepted (withTuning w k v)) (refused w 3) .world)
-    tuned-next true l = record { stands = h .stands; tuned = tuned-set (ltb-true k tuningCount l) (eqb k playerCollision) refl }
-    tuned-next false l = rw (ne-eqb k playerCollision (λ e. let f : tuningCount ≤ k = ltb-false k tuningCount l in omega arith)) h
+    -- the number for player collision is any: the index of a refused tune is another
+    tuned-next : (b c : Bool) → ltb k tuningCount ≡ b → mayTune k v ≡ c → Reached n s ts (cond (eqb k playerCollision) v z) (cond b (cond c (accepted (withTuning w k v)) (refused w badHold)) (refused w badTuning) .world)
+    unfolding mayTune
+    tuned-next true true l m = record { stands = h .stands; tuned = tuned-set (ltb-true k tuningCount l) (eqb k playerCollision) refl }
+    tuned-next true false l m = rw (ne-eqb k playerCollision (λ e. true≢false (sym (ap (λ (i : ℕ). cond (eqb i hookHold) (isHold v) true) e) ∙ m))) h
+    tuned-next false c l m = rw (ne-eqb k playerCollision (λ e. let f : tuningCount ≤ k = ltb-false k tuningCount l in omega arith)) h
 
   tune-next : (z : ℤ) (w : World) (index v : ℤ) → Settled n w → Reached n s ts z w → Next z w (Tune index v)
   unfolding calls.tune
   tune-next z w index v g h =
       let k = placeOf tuningCount index in
       record {
-        reached = tuned-next z w g h k v (ltb k tuningCount) refl;
+        reached = tuned-next z w g h k v (ltb k tuningCount) (mayTune k v) refl refl;
         told = λ e. absurd (not-step (Tune index v) refl e);
       }
 

@@ -39,7 +39,7 @@ use Rattle.world.specs.Removal.{dying}
 use Rattle.world.specs.Step.{Moving, afterTick, tickTurn, tickAll, ofNet, recordOf, publish, moveIn, moveTurn, movingFrom, moveAll, stepAnswer, stepOn, step}
 use Rattle.world.specs.Run.{inputOf, ran, after}
 use Rattle.world.specs.Held.{HeldPresent}
-use Rattle.world.proofs.Outcomes.{outcome-kept, join-outcome, leave-outcome, input-outcome}
+use Rattle.world.proofs.Outcomes.{outcome-kept, join-outcome, leave-outcome, input-outcome, tune-outcome}
 use Rattle.world.proofs.Present.{present-follows}
 use Rattle.world.proofs.Removal.{removed-kept}
 use Rattle.world.proofs.Seats.{by-test}
@@ -140,11 +140,11 @@ module _ (n : ℕ) (s : Sides) (ts : List ℕ) where
     step-held = by-test (λ (a : Stepped). HeldIn (a .world)) (isMap s ts) (λ e. ticked-held (tickAll n (w .slots) s ts t) (ticks-hold n s ts t (w .slots) (record { there = λ k. refl; held = h }))) (λ e. h)
 
   held-next : (w : World) (c : Call) → HeldIn w → HeldIn (ran n s ts w c .world)
-  unfolding tune spawn
+  unfolding spawn
   held-next w (Join id x y) h = outcome-kept HeldIn w _ _ (join-outcome n w s ts id x y) h (λ f. set-held w h (placeOf n id) (joinedSlot (pointOf x y)) (λ q. refl) tt)
   held-next w (Leave id) h = outcome-kept HeldIn w _ _ (leave-outcome n w id) h (λ f. vacated-held w h (placeOf n id))
   held-next w (Input id d x y j k) h = outcome-kept HeldIn w _ _ (input-outcome n w id (inputOf d x y j k)) h (λ f. set-held w h (placeOf n id) (withInput (slotAt (w .slots) (placeOf n id)) (inputOf d x y j k)) (λ q. q) (h (placeOf n id)))
-  held-next w (Tune index z) h = by-test (λ (a : Answer). HeldIn (a .world)) (ltb (placeOf tuningCount index) tuningCount) (λ e. h) (λ e. h)
+  held-next w (Tune index z) h = outcome-kept HeldIn w _ _ (tune-outcome w index z) h (λ f. h)
   held-next w Step h = step-held w h
 
   held-after : (cs : List Call) (w : World) → HeldIn w → HeldIn (after n s ts w cs)

@@ -19,7 +19,7 @@ use Rattle.world.specs.World.{withSlot}
 use Rattle.world.specs.Calls.{placeOf, pointOf, join, releasedSlot, vacate, leave, input, tune}
 use Rattle.world.specs.declared.Answer.{Answer}
 use Rattle.world.specs.declared.World.{World}
-use Rattle.world.proofs.Outcomes.{Outcome, no, yes, Seated, join-outcome, leave-outcome, input-outcome}
+use Rattle.world.proofs.Outcomes.{Outcome, no, yes, outcome-kept, Seated, join-outcome, leave-outcome, input-outcome, tune-outcome}
 use Rattle.world.proofs.Seats.{by-test}
 use Rattle.world.proofs.Vacated.{vacated-at, vacated-others}
 
@@ -76,5 +76,4 @@ module _ (n : ℕ) (s : Sides) (ts : List ℕ) (w : World) (full : length (w .sl
       slot-set n w full j (withInput (slotAt (w .slots) j) i) k (input n w id i) (input-outcome n w id i) (λ f. f .seat) ∙ own-input j i (eqb j k) (eqb (input n w id i .number) 0) refl
 
   pub tune-slot : (index z : ℤ) → slotAt (tune w index z .world .slots) k ≡ old
-  unfolding tune
-  tune-slot index z = by-test (λ (a : Answer). slotAt (a .world .slots) k ≡ old) (ltb (placeOf tuningCount index) tuningCount) (λ e. refl) (λ e. refl)
+  tune-slot index z = outcome-kept (λ u. slotAt (u .slots) k ≡ old) w _ _ (tune-outcome w index z) refl (λ f. refl)

@@ -1,6 +1,7 @@
 -- With which numbers a step answers: 0, 1 or 9, and never 10. Assumes nothing.
 use Prim.Native.Nat.{ℕ, suc, _+_, _≤_, _<_}
 use native.Mathlib.Omega.{arith}
+use native.Mathlib.Nat.{le-trans}
 use mathlib.Core.Bool.{Bool, true, false, cond, true≢false}
 use mathlib.Core.List.{List}
 use mathlib.Core.Logic.{_⊎_, inl, inr, ⊎-elim}
@@ -13,13 +14,14 @@ use Rattle.base_turns.proofs.Kept.{Ends, run-kept}
 use Rattle.character_hook.specs.Hook.{tickOf}
 use Rattle.character_hook.specs.declared.hook.Hook.{Hook}
 use Rattle.character_hook.specs.declared.hook.Hook.the-variants.{Retracted, Idle, Flying, Grabbed, Attached, Retracting0, Retracting1, Retracting2}
-use Rattle.character_hook.specs.Hooking.{hold}
+use Rattle.character_hook.proofs.Hold.{hold-short}
 use Rattle.game_constants.specs.Constants.{maxHookGrabTime}
 use Rattle.character_motion.specs.Controls.{grounded}
 use Rattle.game_records.specs.declared.PlayerInput.{PlayerInput}
 use Rattle.map_tiles.specs.declared.tiles.Sides.{Sides}
 use Rattle.map_tiles.specs.Map.{isMap}
 use Rattle.game_tuning.specs.Tuning.{tuningOf}
+use Rattle.game_tuning.proofs.Hold.{hold-most}
 use Rattle.game_tuning.specs.declared.Tuning.{Tuning}
 use Rattle.character.specs.Slot.{withCharacter}
 use Rattle.character.specs.Records.{coreOf, toNet, fromNet}
@@ -41,22 +43,6 @@ use Rattle.world.specs.Step.{Moving, afterTick, tickTurn, tickAll, ofNet
 use Rattle.world.specs.declared.World.{World}
 use Rattle.world.proofs.Seats.{last-or-below, present-within, by-test}
 
--- a tick leaves no hook that has held for more than MAX_HOOK_GRAB_TIME
-hold-short : (h : Hook) → tickOf (hold h) ≤ maxHookGrabTime
-unfolding hold tickOf
-hold-short Retracted = omega arith
-hold-short Idle = omega arith
-hold-short (Flying p d) = omega arith
-hold-short (Grabbed c t) = go (ltb maxHookGrabTime (t + 1)) refl
-  where
-    go : (b : Bool) → ltb maxHookGrabTime (t + 1) ≡ b → tickOf (cond b Retracted (Grabbed c (t + 1))) ≤ maxHookGrabTime
-    go true e = omega arith
-    go false e = ltb-false maxHookGrabTime (t + 1) e
-hold-short (Attached p) = omega arith
-hold-short (Retracting0 p) = omega arith
-hold-short (Retracting1 p) = omega arith
-hold-short (Retracting2 p) = omega arith
-
 -- ---- ticks
 abbrev Short : Slot → Type 0
 Short x = x .present ≡ true → tickOf (x .character .hook) ≤ maxHookGrabTime
@@ -71,7 +57,7 @@ tick-short n c id ss s ts i t = let d = steer c (grounded s ts (c .pos)) i t in 
   where
     go : (d : Character) (f : HookFlight) → Then ShortAfter (ticked n d (grounded s ts (c .pos)) id ss t f)
     go d TooFar = tt
-    go d (To h) = hold-short h
+    go d (To h) = le-trans (hold-short h (t .«hook_hold»)) (hold-most (t .«hook_hold»))
 
 module _ (n : ℕ) (s : Sides) (ts : List ℕ) (t : Tuning) where
   -- after i ticks, of n slots those that have ticked

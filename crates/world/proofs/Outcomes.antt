@@ -1,4 +1,4 @@
--- What becomes of a join, a leave and an input: refused, or under what was tested one world. Assumes nothing.
+-- What becomes of a join, a leave, an input and a tune: refused, or under what was tested one world. Assumes nothing.
 use Prim.Native.Nat.{ℕ, suc, _≤_, _<_}
 use native.Mathlib.Omega.{arith}
 use mathlib.Core.Bool.{Bool, true, false, cond, _&&_}
@@ -11,11 +11,13 @@ use Rattle.map_tiles.specs.Map.{isMap}
 use Rattle.map_tiles.specs.declared.tiles.Sides.{Sides}
 use Rattle.map_tiles.specs.Box.{checkBox, Clear, characterBox}
 use Rattle.game_records.specs.declared.PlayerInput.{PlayerInput}
+use Rattle.game_refusals.specs.Refusals.{badTuning, badHold}
+use Rattle.game_tuning.specs.Tuning.{tuningCount, mayTune}
 use Rattle.character.specs.Slot.{joinedSlot, withInput}
 use Rattle.character.specs.Tick.{slotAt}
 use Rattle.num_convert.specs.Casts.{IsI32}
-use Rattle.world.specs.World.{withSlot}
-use Rattle.world.specs.Calls.{refused, accepted, placeOf, inReach, pointOf, joinAt, join, ifPresent, vacate, leave, input}
+use Rattle.world.specs.World.{withSlot, withTuning}
+use Rattle.world.specs.Calls.{refused, accepted, placeOf, inReach, pointOf, joinAt, join, ifPresent, vacate, leave, input, tune}
 use Rattle.world.specs.declared.Answer.{Answer}
 use Rattle.world.specs.declared.World.{World}
 
@@ -86,3 +88,22 @@ module _ (n : ℕ) (w : World) where
   pub input-outcome : (id : ℤ) (i : PlayerInput) → Outcome w (withSlot w (placeOf n id) (withInput (slotAt (w .slots) (placeOf n id)) i)) (Seated id) (input n w id i)
   unfolding input
   input-outcome id i = seated id (withSlot w (placeOf n id) (withInput (slotAt (w .slots) (placeOf n id)) i))
+
+-- ---- tune
+module _ (w : World) (index z : ℤ) where
+  abbrev k : ℕ
+  k = placeOf tuningCount index
+
+  -- what an accepted tune has been tested for
+  pub record Tunes : Type 0 where
+    pub index-known : k < tuningCount
+    pub taken : mayTune k z ≡ true
+
+  pub tune-outcome : Outcome w (withTuning w k z) Tunes (tune w index z)
+  unfolding tune
+  tune-outcome = go (ltb k tuningCount) (mayTune k z) refl refl
+    where
+      go : (b c : Bool) → ltb k tuningCount ≡ b → mayTune k z ≡ c → Outcome w (withTuning w k z) Tunes (cond b (cond c (accepted (withTuning w k z)) (refused w badHold)) (refused w badTuning))
+      go false c l p = no 2 refl
+      go true false l p = no 15 refl
+      go true true l p = yes (record { index-known = ltb-true k tuningCount l; taken = p }) refl

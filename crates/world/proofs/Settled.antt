@@ -32,7 +32,7 @@ use Rattle.world.specs.Settled.{Settled, AfterSettled}
 use Rattle.world.specs.declared.Answer.{Answer}
 use Rattle.world.specs.declared.Stepped.{Stepped}
 use Rattle.world.specs.declared.World.{World}
-use Rattle.world.proofs.Outcomes.{outcome-kept, reach-i32, Joins, join-outcome, leave-outcome, input-outcome}
+use Rattle.world.proofs.Outcomes.{outcome-kept, reach-i32, Joins, join-outcome, leave-outcome, input-outcome, tune-outcome}
 use Rattle.world.proofs.Removal.{removed-kept}
 use Rattle.world.proofs.Vacated.{released-representable, vacated-length, vacated-every}
 use Rattle.world.proofs.Seats.{by-test, Same, Settling, same-on, ticks-same, moves-settle}
@@ -76,8 +76,7 @@ module _ (n : ℕ) where
 
   -- ---- tune
   tune-settled : (w : World) (index z : ℤ) → Settled n w → Settled n (tune w index z .world)
-  unfolding tune
-  tune-settled w index z h = by-test (λ (a : Answer). Settled n (a .world)) (ltb k tuningCount) (λ e. set _) (λ e. h)
+  tune-settled w index z h = outcome-kept (Settled n) w _ _ (tune-outcome w index z) h (λ f. set z)
     where
       k : ℕ
       k = placeOf tuningCount index

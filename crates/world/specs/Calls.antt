@@ -11,7 +11,7 @@ use Rattle.map_tiles.specs.Map.{isMap}
 use Rattle.map_tiles.specs.declared.tiles.Sides.{Sides}
 use Rattle.map_tiles.specs.Box.{checkBox, characterBox}
 use Rattle.game_records.specs.declared.PlayerInput.{PlayerInput}
-use Rattle.game_refusals.specs.Refusals.{badMap, badId, badTuning, outOfReach, notClear, isPresent, isAbsent}
+use Rattle.game_refusals.specs.Refusals.{badMap, badId, badTuning, outOfReach, notClear, isPresent, isAbsent, badHold}
 use Rattle.character_hook.specs.Hook.{holds}
 use Rattle.character_hook.specs.declared.hook.Hook.{Hook}
 use Rattle.character_hook.specs.declared.hook.Hook.the-variants.{Retracted}
@@ -20,7 +20,7 @@ use Rattle.character.specs.Slot.{emptySlot, joinedSlot, withCharacter, withInpu
 use Rattle.character.specs.Tick.{slotAt}
 use Rattle.character.specs.declared.Slot.{Slot}
 use Rattle.world.specs.World.{withSlot, withTuning}
-use Rattle.game_tuning.specs.Tuning.{tuningCount}
+use Rattle.game_tuning.specs.Tuning.{tuningCount, mayTune}
 use Rattle.world.specs.declared.Answer.{Answer}
 use Rattle.world.specs.declared.World.{World}
 
@@ -84,6 +84,8 @@ leave n w id = let k = placeOf n id in cond (ltb k n) (ifPresent w k (vacate w k
 unfoldable pub input : ℕ → World → ℤ → PlayerInput → Answer
 input n w id i = let k = placeOf n id in cond (ltb k n) (ifPresent w k (withSlot w k (withInput (slotAt (w .slots) k) i))) (refused w badId)
 
--- any i32; 3 where the index has no tuning
+-- any i32, but for a hold; 3 where the index has no tuning, 16 where a hold is none
 unfoldable pub tune : World → ℤ → ℤ → Answer
-tune w index z = let k = placeOf tuningCount index in cond (ltb k tuningCount) (accepted (withTuning w k z)) (refused w badTuning)
+tune w index z =
+    let k = placeOf tuningCount index in
+    cond (ltb k tuningCount) (cond (mayTune k z) (accepted (withTuning w k z)) (refused w badHold)) (refused w badTuning)

@@ -5,7 +5,7 @@ use lib.Dec.{ltb}
 use lib.IntN.{ℤ, pos}
 use lib.ListN.{getD}
 use Rattle.game_refusals.specs.Refusals.{badId, badTuning, isAbsent, tickTooLarge}
-use Rattle.game_tuning.specs.Tuning.{tuningCount}
+use Rattle.game_tuning.specs.Tuning.{tuningCount, toldTuning}
 use Rattle.character.specs.Records.{toNet}
 use Rattle.character.specs.Tick.{slotAt}
 use Rattle.character.specs.declared.Slot.{Slot}
@@ -46,9 +46,9 @@ markNow x = reading.FloorMark (x .grounded)
 abbrev pub inputNow : Slot → Reading
 inputNow x = reading.PlayerInput (x .input)
 
--- 3 where the index has no tuning
+-- as a reader is told it; 3 where the index has no tuning
 unfoldable pub tuningNow : World → ℤ → Reading
-tuningNow w index = let k = placeOf tuningCount index in cond (ltb k tuningCount) (reading.Tuning (getD (w .tunings) k (pos 0))) (reading.Refused badTuning)
+tuningNow w index = let k = placeOf tuningCount index in cond (ltb k tuningCount) (reading.Tuning (toldTuning k (getD (w .tunings) k (pos 0)))) (reading.Refused badTuning)
 
 -- what a query is told
 abbrev pub readOf : ℕ → World → Query → Reading

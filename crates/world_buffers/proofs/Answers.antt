@@ -8,11 +8,11 @@ use lib.ListN.{length, set}
 use borrow.Author.Tests.{eq-eqb, ne-eqb, lt-ltb, le-ltb}
 use Rattle.base_rows.specs.Put.{put}
 use Rattle.num_vec2.specs.declared.vec2.{vec2}
-use Rattle.game_refusals.specs.Refusals.{badMap, badId, badTuning, outOfReach, notClear, isPresent, isAbsent, badLength}
+use Rattle.game_refusals.specs.Refusals.{badMap, badId, badTuning, outOfReach, notClear, isPresent, isAbsent, badHold, badLength}
 use Rattle.map_tiles.specs.Map.{isMap}
 use Rattle.map_tiles.specs.declared.tiles.Sides.{Sides}
 use Rattle.map_tiles.specs.Box.{checkBox, characterBox}
-use Rattle.game_tuning.specs.Tuning.{tuningCount}
+use Rattle.game_tuning.specs.Tuning.{tuningCount, mayTune}
 use Rattle.character.specs.Slot.{joinedSlot}
 use Rattle.character.specs.Tick.{seats}
 use Rattle.world.specs.Calls.{placeOf, inReach, pointOf}
@@ -33,9 +33,13 @@ module _ (l : List ℤ) (index z : ℤ) (k : ℕ) (h : length l ≡ worldCount) 
   unfolding tuneIn
   not-tuned g = rw (eq-eqb (length l) worldCount h, ← p, le-ltb k tuningCount g)
 
-  pub tuned : (m : List ℤ) → k < tuningCount → m ≡ set l k z → tuneIn l index z ≡ acceptedIn m
+  pub no-hold : k < tuningCount → mayTune k z ≡ false → tuneIn l index z ≡ refusedIn l badHold
   unfolding tuneIn
-  tuned m g e = rw (eq-eqb (length l) worldCount h, ← p, lt-ltb k tuningCount g, e)
+  no-hold g t = rw (eq-eqb (length l) worldCount h, ← p, lt-ltb k tuningCount g, t)
+
+  pub tuned : (m : List ℤ) → k < tuningCount → mayTune k z ≡ true → m ≡ set l k z → tuneIn l index z ≡ acceptedIn m
+  unfolding tuneIn
+  tuned m g t e = rw (eq-eqb (length l) worldCount h, ← p, lt-ltb k tuningCount g, t, e)
 
 -- ---- the seat k, which an id names
 module _ (l : List ℤ) (id : ℤ) (next : ℕ → List ℤ) (k : ℕ) (h : length l ≡ worldCount) (p : k ≡ placeOf seats id) where

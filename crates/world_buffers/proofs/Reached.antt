@@ -16,7 +16,7 @@ use Rattle.map_tiles.specs.Box.{checkBox, characterBox}
 use Rattle.game_records.specs.Numbers.{numberAt, coreNumbers, inputNumbers}
 use Rattle.game_records.specs.declared.PlayerInput.{PlayerInput}
 use Rattle.game_records.proofs.Back.{input-long}
-use Rattle.game_tuning.specs.Tuning.{tuningCount}
+use Rattle.game_tuning.specs.Tuning.{tuningCount, mayTune}
 use Rattle.world.specs.declared.call.Call.{Call}
 use Rattle.world.specs.declared.call.Call.the-variants.{Join, Leave, Input, Step, Tune}
 use Rattle.character.specs.Slot.{joinedSlot, withInput}
@@ -64,7 +64,7 @@ module _ (l : List ℤ) (h : Proper l) where
   -- tune
   tuned : (index z : ℤ) → Fine (tuneIn l index z)
   unfolding tuneIn
-  tuned index z = of-world _ (by-test Fine (ltb (placeOf tuningCount index) tuningCount) (λ e. written (placeOf tuningCount index) (ltb-true (placeOf tuningCount index) tuningCount e)) (λ e. h))
+  tuned index z = let k = placeOf tuningCount index in of-world _ (by-test Fine (ltb k tuningCount) (λ e. by-test Fine (mayTune k z) (λ t. written k (ltb-true k tuningCount e)) (λ t. h)) (λ e. h))
     where
       written : (k : ℕ) → k < tuningCount → Proper (set l k z)
       written k q = record { long = length-set l k z ∙ h .long; own = λ j r. subst OwnRow (sym (drop-set-lt (seatPlace j) l k z (omega arith))) (h .own j r) }

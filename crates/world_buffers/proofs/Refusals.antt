@@ -10,7 +10,7 @@ use Rattle.map_tiles.specs.Map.{isMap}
 use Rattle.map_tiles.specs.declared.tiles.Sides.{Sides}
 use Rattle.map_tiles.specs.Box.{checkBox, characterBox}
 use Rattle.game_records.specs.Numbers.{inputNumbers}
-use Rattle.game_tuning.specs.Tuning.{tuningCount}
+use Rattle.game_tuning.specs.Tuning.{tuningCount, mayTune}
 use Rattle.character.specs.Tick.{seats}
 use Rattle.world.specs.Calls.{placeOf, inReach, pointOf}
 use Rattle.world.specs.Run.{inputOf}
@@ -39,7 +39,7 @@ module _ (l : List ℤ) where
 
   tuning : (index z : ℤ) → Leaves (tuneIn l index z)
   unfolding tuneIn
-  tuning index z = of-world _ (by-test Leaves (ltb (placeOf tuningCount index) tuningCount) (λ e q. absurd (q refl)) (λ e q. refl))
+  tuning index z = let k = placeOf tuningCount index in of-world _ (by-test Leaves (ltb k tuningCount) (λ e. by-test Leaves (mayTune k z) (λ t q. absurd (q refl)) (λ t q. refl)) (λ e q. refl))
 
   joining : (s : Sides) (ts : List ℕ) (id x y : ℤ) → Leaves (joinIn s ts l id x y)
   unfolding joinIn joinAtIn

@@ -16,7 +16,8 @@ use Rattle.map_tiles.specs.Box.{checkBox, characterBox}
 use Rattle.game_records.specs.Numbers.{inputNumbers}
 use Rattle.game_records.specs.declared.PlayerInput.{PlayerInput}
 use Rattle.game_records.proofs.Back.{input-long}
-use Rattle.game_tuning.specs.Tuning.{tuningCount}
+use Rattle.game_refusals.specs.Refusals.{badTuning, badHold}
+use Rattle.game_tuning.specs.Tuning.{tuningCount, mayTune}
 use Rattle.character.specs.Slot.{joinedSlot, withInput}
 use Rattle.character.specs.Tick.{seats, slotAt}
 use Rattle.character.specs.declared.Slot.{Slot}
@@ -72,14 +73,15 @@ module _ (l : List ℤ) (long : length l ≡ worldCount) where
   -- ---- tune
   tune-agrees : (index z : ℤ) → Agrees (tuneIn l index z) (tune w index z)
   unfolding tuneIn tune
-  tune-agrees index z = of-world _ _ (go (ltb k tuningCount) refl)
+  tune-agrees index z = of-world _ _ (go (ltb k tuningCount) (mayTune k z) refl)
     where
       k : ℕ
       k = placeOf tuningCount index
 
-      go : (b : Bool) → ltb k tuningCount ≡ b → Agrees (cond b (acceptedIn (set l k z)) (refusedIn l 3)) (cond b (accepted (withTuning w k z)) (refused w 3))
-      go true e = record { number = refl; world = tuning-set seats k l z (ltb-true k tuningCount e) }
-      go false e = record { number = refl; world = refl }
+      go : (b c : Bool) → ltb k tuningCount ≡ b → Agrees (cond b (cond c (acceptedIn (set l k z)) (refusedIn l badHold)) (refusedIn l badTuning)) (cond b (cond c (accepted (withTuning w k z)) (refused w badHold)) (refused w badTuning))
+      go true true e = record { number = refl; world = tuning-set seats k l z (ltb-true k tuningCount e) }
+      go true false e = record { number = refl; world = refl }
+      go false c e = record { number = refl; world = refl }
 
   -- ---- leave and input
   seat-agrees : (id : ℤ) (next : ℕ → List ℤ) (v : ℕ → World) → ((k : ℕ) → k < seats → isThere l k ≡ true → decoding seats (next k) ≡ v k) → let k = placeOf seats id in Agrees (atSeat l id next) (cond (ltb k seats) (ifPresent w k (v k)) (refused w 2))

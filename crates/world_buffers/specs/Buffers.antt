@@ -8,13 +8,13 @@ use lib.IntN.{ℤ}
 use lib.ListN.{length, set}
 use Rattle.base_rows.specs.Put.{put}
 use Rattle.num_vec2.specs.declared.vec2.{vec2}
-use Rattle.game_refusals.specs.Refusals.{badMap, badId, badTuning, outOfReach, notClear, isPresent, isAbsent, badLength}
+use Rattle.game_refusals.specs.Refusals.{badMap, badId, badTuning, outOfReach, notClear, isPresent, isAbsent, badHold, badLength}
 use Rattle.map_tiles.specs.Map.{isMap}
 use Rattle.map_tiles.specs.declared.tiles.Sides.{Sides}
 use Rattle.map_tiles.specs.Box.{checkBox, characterBox}
 use Rattle.game_records.specs.Numbers.{numberAt, inputNumbers}
 use Rattle.game_records.specs.declared.PlayerInput.{PlayerInput}
-use Rattle.game_tuning.specs.Tuning.{tuningCount}
+use Rattle.game_tuning.specs.Tuning.{tuningCount, mayTune}
 use Rattle.character.specs.Slot.{joinedSlot}
 use Rattle.character.specs.Tick.{seats}
 use Rattle.world.specs.World.{fresh}
@@ -46,9 +46,11 @@ ofWorld l a = cond (has worldCount l) a (refusedIn l badLength)
 unfoldable pub freshIn : List ℤ → Left
 freshIn l = ofWorld l (acceptedIn (encoding (fresh seats)))
 
--- one number
+-- one number; 3 where the index has no tuning, 16 where a hold is none
 unfoldable pub tuneIn : List ℤ → ℤ → ℤ → Left
-tuneIn l index z = let k = placeOf tuningCount index in ofWorld l (cond (ltb k tuningCount) (acceptedIn (set l k z)) (refusedIn l badTuning))
+tuneIn l index z =
+    let k = placeOf tuningCount index in
+    ofWorld l (cond (ltb k tuningCount) (cond (mayTune k z) (acceptedIn (set l k z)) (refusedIn l badHold)) (refusedIn l badTuning))
 
 -- somebody is at the seat k
 abbrev pub isThere : List ℤ → ℕ → Bool

@@ -8,6 +8,7 @@ use game_constants::CHARACTER_SIZE;
 use game_records::PlayerInput;
 use game_records::input_numbers;
 use game_refusals::ABSENT;
+use game_refusals::BAD_HOLD;
 use game_refusals::BAD_ID;
 use game_refusals::BAD_LENGTH;
 use game_refusals::BAD_MAP;
@@ -16,6 +17,7 @@ use game_refusals::NOT_CLEAR;
 use game_refusals::OUT_OF_REACH;
 use game_refusals::PRESENT;
 use game_tuning::TUNINGS;
+use game_tuning::may_tune;
 use map_tiles::Sides;
 use map_tiles::check_box;
 use map_tiles::is_map;
@@ -57,8 +59,11 @@ pub fn tune_in(world: &mut [i32], index: i32, value: i32) -> u32
     }
     let at = place_of(TUNINGS, index);
     if at < TUNINGS {
-        world[at] = value;
-        return 0;
+        if may_tune(at, value) {
+            world[at] = value;
+            return 0;
+        }
+        return BAD_HOLD;
     }
     BAD_TUNING
 }

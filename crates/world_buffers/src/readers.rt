@@ -12,6 +12,7 @@ use game_refusals::BAD_LENGTH;
 use game_refusals::BAD_TUNING;
 use game_refusals::TICK_TOO_LARGE;
 use game_tuning::TUNINGS;
+use game_tuning::told_tuning;
 use world::Seated;
 use world_calls::place_of;
 use world_numbers::WORLD;
@@ -88,7 +89,7 @@ pub fn tuning_in(world: &[i32], index: i32, value: &mut i32) -> u32
     }
     let at = place_of(TUNINGS, index);
     if at < TUNINGS {
-        *value = world[at];
+        *value = told_tuning(at, world[at]);
         return 0;
     }
     BAD_TUNING

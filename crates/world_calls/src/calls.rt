@@ -7,14 +7,17 @@ use crate::seats::with_slot;
 use character::SEATS;
 use game_records::PlayerInput;
 use game_refusals::ABSENT;
+use game_refusals::BAD_HOLD;
 use game_refusals::BAD_ID;
 use game_refusals::BAD_TUNING;
 use game_tuning::TUNINGS;
+use game_tuning::may_tune;
 use world::Answer;
 use world::World;
 ghost use mathlib.Core.Path.{_≡_};
 ghost use Prim.Native.Nat.{_<_};
 ghost use Rattle.character.specs.Tick.{seats};
+ghost use Rattle.game_tuning.specs.Tuning.{tuningCount};
 ghost use Rattle.world.specs.World.{withTuning};
 ghost use Rattle.world.specs.Calls.{leave, input, tune};
 
@@ -52,13 +55,16 @@ pub fn tune(world: World, index: i32, value: i32) -> Answer
 {
     let at = place_of(TUNINGS, index);
     if at < TUNINGS {
-        return accepted(with_tuning(world, at, value));
+        if may_tune(at, value) {
+            return accepted(with_tuning(world, at, value));
+        }
+        return refused(world, BAD_HOLD);
     }
     refused(world, BAD_TUNING)
 }
 
 fn with_tuning(mut world: World, at: usize, value: i32) -> World
-    requires { ⌜ at < 18 ⌝ }
+    requires { ⌜ at < tuningCount ⌝ }
     ensures { λ r. ⌜ r ≡ withTuning world at value ⌝ }
 {
     world.tunings[at] = value;

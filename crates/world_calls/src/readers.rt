@@ -8,6 +8,7 @@ use game_refusals::BAD_ID;
 use game_refusals::BAD_TUNING;
 use game_refusals::TICK_TOO_LARGE;
 use game_tuning::TUNINGS;
+use game_tuning::told_tuning;
 use world::Query;
 use world::Reading;
 use world::Seated;
@@ -88,7 +89,7 @@ fn tuning_now(world: World, index: i32) -> Reading
     let at = place_of(TUNINGS, index);
     if at < TUNINGS {
         let tunings = world.tunings;
-        return Reading::Tuning(tunings[at]);
+        return Reading::Tuning(told_tuning(at, tunings[at]));
     }
     Reading::Refused(BAD_TUNING)
 }

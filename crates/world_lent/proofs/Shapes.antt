@@ -39,14 +39,14 @@ abbrev pub sides : Plainly Ts.the-row
 sides = of-declared Ts.the-type Ts′.the-laws Ts′.the-plain
 
 abbrev pub Tunings : RattleType
-Tunings = Array i32 18
+Tunings = Array i32 19
 
 abbrev pub tunings : Plainly Tunings
-tunings = of-array i32 (of-sint w32) 18
+tunings = of-array i32 (of-sint w32) 19
 
 -- the MIR types: of the tunings, of the two slices that are parameters, and of a reference in a local
 abbrev pub tuned : Ty
-tuned = tyArray (tyInt w32) 18
+tuned = tyArray (tyInt w32) 19
 
 abbrev pub slice : Ty
 slice = sliceTy (tyRef (named 0) mut (pointee (T.the-row .written)))

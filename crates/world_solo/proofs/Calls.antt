@@ -12,7 +12,8 @@ use Rattle.map_tiles.specs.Box.{checkBox, characterBox}
 use Rattle.map_tiles.specs.Map.{isMap}
 use Rattle.map_tiles.specs.declared.tiles.Sides.{Sides}
 use Rattle.game_records.specs.declared.PlayerInput.{PlayerInput}
-use Rattle.game_tuning.specs.Tuning.{tuningCount}
+use Rattle.game_refusals.specs.Refusals.{badTuning, badHold}
+use Rattle.game_tuning.specs.Tuning.{tuningCount, mayTune}
 use Rattle.character.specs.Slot.{emptySlot, joinedSlot, withInput}
 use Rattle.character.specs.Tick.{slotAt, nowhere}
 use Rattle.character.specs.declared.Slot.{Slot}
@@ -80,11 +81,12 @@ module _ (n : ℕ) (w v : World) (id : ℤ) (same : slotAt (w .slots) (placeOf n
 -- a tune makes of the tunings what comes of them
 tune-tunings : (w v : World) (index z : ℤ) → w .tunings ≡ v .tunings → tune w index z .world .tunings ≡ tune v index z .world .tunings
 unfolding tune
-tune-tunings w v index z e = go (ltb (placeOf tuningCount index) tuningCount)
+tune-tunings w v index z e = let k = placeOf tuningCount index in go k (ltb k tuningCount) (mayTune k z)
   where
-    go : (b : Bool) → cond b (accepted (withTuning w (placeOf tuningCount index) z)) (refused w 3) .world .tunings ≡ cond b (accepted (withTuning v (placeOf tuningCount index) z)) (refused v 3) .world .tunings
-    go true = ap (λ (l : List ℤ). set l (placeOf tuningCount index) z) e
-    go false = e
+    go : (k : ℕ) (b c : Bool) → cond b (cond c (accepted (withTuning w k z)) (refused w badHold)) (refused w badTuning) .world .tunings ≡ cond b (cond c (accepted (withTuning v k z)) (refused v badHold)) (refused v badTuning) .world .tunings
+    go k true true = ap (λ (l : List ℤ). set l k z) e
+    go k true false = e
+    go k false c = e
 
 module _ (n : ℕ) (s : Sides) (ts : List ℕ) where
   -- ---- the tunings after a call that names an id

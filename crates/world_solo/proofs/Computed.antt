@@ -16,7 +16,7 @@ use Rattle.map_walks.specs.Line.{lineTurns, lineTurn, lineHit, walkLine}
 use Rattle.map_walks.specs.Move.{boxTurns, blocked, boxTurn, boxTurnsTaken, walkBox}
 use Rattle.game_input.specs.Direction.{fromInt, asInt, asFloat}
 use Rattle.game_input.specs.Inputs.{moveDirection, targetDir, jumps, hooks}
-use Rattle.game_tuning.specs.Tuning.{freshTunings, tuningAt, tuningOf}
+use Rattle.game_tuning.specs.Tuning.{freshTunings, isHold, holdOf, mayTune, tuningAt, tuningOf}
 use Rattle.character_hook.specs.Flying.{flown}
 use Rattle.character_hook.specs.Hook.{netState, netPos, netDir, tickOf, netHookedPlayer, attachedOrGrabbed, hookFromNet}
 use Rattle.character_hook.specs.Hooking.{fired, fire, fly, strike, closer, nearer, grab, retract, hold}
@@ -50,7 +50,7 @@ mapRules = tt
 
 -- inputs, tunings and hooks
 unfoldable pub hookRules : Unit {0}
-unfolding fromInt asInt asFloat moveDirection targetDir jumps hooks freshTunings tuningAt tuningOf Rattle.character_hook.specs.Dragging.dragged flown netState netPos netDir tickOf netHookedPlayer attachedOrGrabbed hookFromNet fired fire fly strike closer nearer grab retract hold
+unfolding fromInt asInt asFloat moveDirection targetDir jumps hooks freshTunings isHold holdOf mayTune tuningAt tuningOf Rattle.character_hook.specs.Dragging.dragged flown netState netPos netDir tickOf netHookedPlayer attachedOrGrabbed hookFromNet fired fire fly strike closer nearer grab retract hold
 hookRules = tt
 
 -- ticks, moves and records

@@ -1,4 +1,6 @@
 -- `game_tuning::tuning_of` meets its contract. Assumes nothing.
+use mir.Facts.{toZ-ofZ}
+use mir.Syntax.{w32}
 use borrow.Author.Needs.{needs}
 use Rattle.game_tuning.specs.Tuning.{tuningOf}
 use Rattle.game_tuning.proofs.tuning_of.Statement.{statement}
@@ -58,9 +60,12 @@ tuning-at-requires-17 c κs = search needs
 tuning-at-requires-18 : tie.Need-tuning-at-requires-18
 tuning-at-requires-18 c κs = search needs
 
+array-copy-out-t41 : tie.Need-array-copy-out-t41
+array-copy-out-t41 c = search needs
+
 returns : tie.Need-returns
 unfolding tuningOf
-returns c = simp (← c .before .before .before .before .before .before .before .before .before .before .before .before .before .before .before .before .before .tuning-at .ensures, ← c .before .before .before .before .before .before .before .before .before .before .before .before .before .before .before .before .tuning-at2 .ensures, ← c .before .before .before .before .before .before .before .before .before .before .before .before .before .before .before .tuning-at3 .ensures, ← c .before .before .before .before .before .before .before .before .before .before .before .before .before .before .tuning-at4 .ensures, ← c .before .before .before .before .before .before .before .before .before .before .before .before .before .tuning-at5 .ensures, ← c .before .before .before .before .before .before .before .before .before .before .before .before .tuning-at6 .ensures, ← c .before .before .before .before .before .before .before .before .before .before .before .tuning-at7 .ensures, ← c .before .before .before .before .before .before .before .before .before .before .tuning-at8 .ensures, ← c .before .before .before .before .before .before .before .before .before .tuning-at9 .ensures, ← c .before .before .before .before .before .before .before .before .tuning-at10 .ensures, ← c .before .before .before .before .before .before .before .tuning-at11 .ensures, ← c .before .before .before .before .before .before .tuning-at12 .ensures, ← c .before .before .before .before .before .tuning-at13 .ensures, ← c .before .before .before .before .tuning-at14 .ensures, ← c .before .before .before .tuning-at15 .ensures, ← c .before .before .tuning-at16 .ensures, ← c .before .tuning-at17 .ensures, ← c .tuning-at18 .ensures)
+returns c = rw (toZ-ofZ {w = w32} (record { sfits = c .t41 .given })) (simp (← c .before .before .before .before .before .before .before .before .before .before .before .before .before .before .before .before .before .before .tuning-at .ensures, ← c .before .before .before .before .before .before .before .before .before .before .before .before .before .before .before .before .before .tuning-at2 .ensures, ← c .before .before .before .before .before .before .before .before .before .before .before .before .before .before .before .before .tuning-at3 .ensures, ← c .before .before .before .before .before .before .before .before .before .before .before .before .before .before .before .tuning-at4 .ensures, ← c .before .before .before .before .before .before .before .before .before .before .before .before .before .before .tuning-at5 .ensures, ← c .before .before .before .before .before .before .before .before .before .before .before .before .before .tuning-at6 .ensures, ← c .before .before .before .before .before .before .before .before .before .before .before .before .tuning-at7 .ensures, ← c .before .before .before .before .before .before .before .before .before .before .before .tuning-at8 .ensures, ← c .before .before .before .before .before .before .before .before .before .before .tuning-at9 .ensures, ← c .before .before .before .before .before .before .before .before .before .tuning-at10 .ensures, ← c .before .before .before .before .before .before .before .before .tuning-at11 .ensures, ← c .before .before .before .before .before .before .before .tuning-at12 .ensures, ← c .before .before .before .before .before .before .tuning-at13 .ensures, ← c .before .before .before .before .before .tuning-at14 .ensures, ← c .before .before .before .before .tuning-at15 .ensures, ← c .before .before .before .tuning-at16 .ensures, ← c .before .before .tuning-at17 .ensures, ← c .before .tuning-at18 .ensures))
 
 pub tuning-of-spec : {M : Type 1} → statement M
 tuning-of-spec =
@@ -84,4 +89,5 @@ tuning-of-spec =
     tuning-at-requires-16
     tuning-at-requires-17
     tuning-at-requires-18
+    array-copy-out-t41
     returns)

@@ -8,10 +8,10 @@ use Rattle.test_physics.proofs.tunings_of.Statement.{statement}
 use Rattle.test_physics.proofs.tunings_of.Tie as tie
 
 abbrev Inv-loop : tie.InvT-loop
-Inv-loop words tunings₀ i₀ tunings i = (i ≤ 18) × (length tunings ≡ 18)
+Inv-loop words tunings₀ i₀ tunings i = (i ≤ tuningCount) × (length tunings ≡ tuningCount)
 
 abbrev μ-loop : tie.MeasureT-loop
-μ-loop words tunings₀ i₀ tunings i = 18 - i
+μ-loop words tunings₀ i₀ tunings i = tuningCount - i
 
 loop-holds : tie.Need-loop-holds Inv-loop μ-loop
 loop-holds c = search needs

@@ -1,5 +1,8 @@
 -- `character::Character::hooked` meets its contract. Assumes nothing.
+use mathlib.Core.Path.{ap, _∙_}
 use borrow.Author.Needs.{needs}
+use Rattle.num_convert.proofs.Signed.{read}
+use Rattle.character_hook.specs.Hooking.{hold}
 use Rattle.character.specs.Tick.{hooked}
 use Rattle.character.proofs.Character.hooked.Statement.{statement}
 use Rattle.character.proofs.Character.hooked.Tie as tie
@@ -21,7 +24,9 @@ with-hook-requires c κs = search needs
 
 returns : tie.Need-returns
 unfolding hooked
-returns c = λ ss places. simp (← c .before .before .before .before .dragged .ensures, ← c .before .before .before .hold .ensures, ← c .before .before .meet-all .ensures ss places, c .with-hook .ensures, ← c .before .clamp-speed .ensures)
+returns c = λ ss places.
+    let a = c .before .before .before .before .before .before .before .args in
+    simp (← c .before .before .before .before .before .dragged .ensures, ← (c .before .before .before .hold .ensures ∙ ap (hold (a .hook)) (read (a .tuning .«hook_hold») (c .before .before .before .before .struct-told .given .1 .1 .1 .1 .1 .1 .1 .1 .1 .1 .1 .1 .1 .1 .1 .1 .1 .1 .0 .1))), ← c .before .before .meet-all .ensures ss places, c .with-hook .ensures, ← c .before .clamp-speed .ensures)
 
 pub hooked-spec : {M : Type 1} → statement M
 hooked-spec =

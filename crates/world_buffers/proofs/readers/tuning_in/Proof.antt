@@ -26,19 +26,22 @@ returns c = let a = c .before .args in wrong-world (query.Tuning (a .index)) (a 
 place-of-requires : tie.Need-place-of-requires
 place-of-requires c κs = search needs
 
-mul-value : tie.Need-mul-value
-mul-value c = search needs
+mul-told-tuning : tie.Need-mul-told-tuning
+mul-told-tuning c = search needs
 
-shared-slice-copy-out-value : tie.Need-shared-slice-copy-out-value
-shared-slice-copy-out-value c = search needs
+shared-slice-copy-out-told-tuning : tie.Need-shared-slice-copy-out-told-tuning
+shared-slice-copy-out-told-tuning c = search needs
+
+told-tuning-requires : tie.Need-told-tuning-requires
+told-tuning-requires c κs = search needs
 
 returns-2 : tie.Need-returns-2
 unfolding tuningNow decoding
 returns-2 c =
-    let b = c .before .before in
+    let b = c .before .before .before in
     let a = b .before .before .args in
-    let g = c .before .if2 .taken in
-    rw (again (c .value .given)) (right-lengths (query.Tuning (a .index)) (a .world .now) (a .value .now ∷ []) (b .before .if1 .left) refl ∙ rw (← place-is b, lt-ltb _ _ g, getD-take tuningCount (a .world .now) (b .place-of .result) (pos 0) g) refl)
+    let g = c .before .before .if2 .taken in
+    rw (again (c .told-tuning .ok), c .told-tuning .ensures, again (c .before .told-tuning-arg .given)) (right-lengths (query.Tuning (a .index)) (a .world .now) (a .value .now ∷ []) (b .before .if1 .left) refl ∙ rw (← place-is b, lt-ltb _ _ g, getD-take tuningCount (a .world .now) (b .place-of .result) (pos 0) g) refl)
 
 returns-3 : tie.Need-returns-3
 unfolding tuningNow
@@ -50,4 +53,11 @@ returns-3 c =
 pub tuning-in-spec : {M : Type 1} → statement M
 tuning-in-spec =
     tie.close
-    (tie.spec returns place-of-requires mul-value shared-slice-copy-out-value returns-2 returns-3)
+    (tie.spec
+    returns
+    place-of-requires
+    mul-told-tuning
+    shared-slice-copy-out-told-tuning
+    told-tuning-requires
+    returns-2
+    returns-3)

@@ -2,7 +2,7 @@
 use mathlib.Core.Path.{_≡_, refl, ap, _∙_}
 use mir.Facts.{toZ-ofZ}
 use borrow.Author.Tests.{lt-ltb, le-ltb}
-use Rattle.game_tuning.specs.Tuning.{tuningCount}
+use Rattle.game_tuning.specs.Tuning.{tuningCount, toldTuning}
 use Rattle.game_records.proofs.Bits.{again}
 use Rattle.world.specs.Calls.{placeOf}
 use Rattle.world.specs.Readers.{tuningNow}
@@ -17,19 +17,32 @@ place-is c = c .place-of .ensures ∙ ap (placeOf tuningCount) (toZ-ofZ (c .befo
 place-of-requires : tie.Need-place-of-requires
 place-of-requires c κs = search needs
 
-mul-t6 : tie.Need-mul-t6
-mul-t6 c = search needs
+mul-told-tuning : tie.Need-mul-told-tuning
+mul-told-tuning c = search needs
 
-array-copy-out-t9 : tie.Need-array-copy-out-t9
-array-copy-out-t9 c = search needs
+array-copy-out-told-tuning : tie.Need-array-copy-out-told-tuning
+array-copy-out-told-tuning c = search needs
+
+told-tuning-requires : tie.Need-told-tuning-requires
+told-tuning-requires c κs = search needs
 
 returns : tie.Need-returns
 unfolding tuningNow
-returns c = rw (again (c .t9 .given), ← place-is (c .before .before .before), lt-ltb _ _ (c .before .before .if1 .taken)) refl
+returns c =
+    let p = c .before .before .before .before in
+    rw (again (c .told-tuning .ok), c .told-tuning .ensures, again (c .before .told-tuning-arg .given), ← place-is p, lt-ltb _ _ (c .before .before .before .if1 .taken)) refl
 
 returns-2 : tie.Need-returns-2
 unfolding tuningNow
 returns-2 c = simp (← place-is (c .before), le-ltb _ _ (c .if1 .left))
 
 pub tuning-now-spec : {M : Type 1} → statement M
-tuning-now-spec = tie.close (tie.spec place-of-requires mul-t6 array-copy-out-t9 returns returns-2)
+tuning-now-spec =
+    tie.close
+    (tie.spec
+    place-of-requires
+    mul-told-tuning
+    array-copy-out-told-tuning
+    told-tuning-requires
+    returns
+    returns-2)
