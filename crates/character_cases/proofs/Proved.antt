@@ -9,32 +9,16 @@ use Rattle.num_convert.proofs.NumberCases as number
 use Rattle.character_hook.proofs.Cases as hooking
 use Rattle.aim_rule.proofs.Cases as angle
 use Rattle.map_walks.proofs.Cases.{at-the-first-tile}
-use mathlib.Core.Path.{_≡_, refl, ap, ap₂, _∙_, subst}
+use mathlib.Core.Path.{_≡_, refl, ap, ap₂, _∙_}
 use Rattle.num_vec2.specs.Vec2.{vnew}
 use Rattle.num_vec2.specs.declared.vec2.{vec2}
-use Prim.Native.Nat.{ℕ, _<_}
-use mathlib.Core.Bool.{true}
-use mathlib.Core.List.{List}
-use lib.IntN.{ℤ, pos}
-use lib.ListN.{getD}
-use Rattle.game_tuning.specs.Tuning.{hookHold, tuningOf}
-use borrow.Author.Tests.{lt-ltb}
 use Rattle.character.specs.declared.Character.{Character}
-use Rattle.character.specs.declared.Slot.{Slot}
-use Rattle.character.specs.Character.{withHook}
-use Rattle.character.specs.Tick.{steer, caught, hooked, tickAt, tick}
-use Rattle.character_hook.specs.Flying.{flown}
-use Rattle.character_hook.specs.Hooking.{fired, fire, retract, hold}
-use Rattle.character_hook.specs.declared.hook.CharacterId.{CharacterId}
-use Rattle.character_hook.specs.declared.hook.Hook.{Hook}
+use Rattle.character_hook.specs.Hooking.{fired, fire, hold}
 use Rattle.character_hook.specs.declared.hook.Hook.the-variants.{Grabbed}
-use Rattle.game_input.specs.Inputs.{hooks}
-use Rattle.game_records.specs.declared.PlayerInput.{PlayerInput}
-use Rattle.map_tiles.specs.Map.{isMap}
-use Rattle.map_tiles.specs.declared.tiles.Sides.{Sides}
 use Rattle.character.specs.Records.{coreOf, fromNet, back, quantize}
 use Rattle.character_laws.proofs.Back.{to-core}
-use Rattle.character_cases.specs.ProvedCases.{QuantizesTo, HookAfter, start, ProvedCases}
+use Rattle.character_cases.specs.ProvedCases.{QuantizesTo, start, ProvedCases}
+use Rattle.character_cases.proofs.Holding.{held-as}
 
 -- what a character quantizes to
 quantizes : (c : Character) (P : Character → Type 0) → P (fromNet (coreOf c)) → QuantizesTo P c
@@ -49,15 +33,6 @@ pos-quantized : (c : Character) → fromNet (coreOf c) .pos ≡ vnew (floats.qua
 unfolding coreOf fromNet floats.quantize
 pos-quantized c = refl
 
--- a held hook does not fly: it is what the count makes of it
-module _ (n : ℕ) (c : Character) (id : CharacterId) (ss : List Slot) (s : Sides) (ts : List ℕ) (i : PlayerInput) (tunings : List ℤ) (m : isMap s ts ≡ true) (l : id .0 < n) (p : hooks i ≡ true) where
-  held-after : (cid : CharacterId) (ticks : ℕ) → HookAfter (hold (Grabbed cid ticks) (getD tunings hookHold (pos 0))) (tick n (withHook c (Grabbed cid ticks)) id ss s ts i tunings)
-  unfolding tick tickAt steer fire fired flown caught hooked retract tuningOf
-  held-after cid ticks = rw (m, lt-ltb (id .0) n l, p) refl
-
-  held-as : (cid : CharacterId) (ticks : ℕ) (h : Hook) → hold (Grabbed cid ticks) (getD tunings hookHold (pos 0)) ≡ h → HookAfter h (tick n (withHook c (Grabbed cid ticks)) id ss s ts i tunings)
-  held-as cid ticks h e = subst (λ (x : Hook). HookAfter x (tick n (withHook c (Grabbed cid ticks)) id ss s ts i tunings)) e (held-after cid ticks)
-
 pub proved-cases : ProvedCases
 unfolding i32ToF32 ofInt ofBits fire fired
 proved-cases = record {
@@ -71,7 +46,7 @@ proved-cases = record {
   character-not-a-number = λ c e. quantizes c _ (pos-quantized c ∙ ap₂ vnew (ap (λ (v : vec2). floats.quantize (v .x)) e ∙ float.cases .not-a-number) (ap (λ (v : vec2). floats.quantize (v .y)) e ∙ float.cases .not-a-number));
   saturates = (number.cases .stays, number.cases .falls);
   holds = λ c p d. (hooking.cases c p d .tick-59, hooking.cases c p d .tick-60);
-  tick-holds = λ n c id cid ss s ts i tunings z m l p. (held-as n c id ss s ts i tunings m l p cid 59 _ (ap (hold (Grabbed cid 59)) z ∙ hooking.cases cid start start .tick-59), held-as n c id ss s ts i tunings m l p cid 60 _ (ap (hold (Grabbed cid 60)) z ∙ hooking.cases cid start start .tick-60));
+  tick-holds = λ n c id cid ss s ts i tunings z m l p. (held-as n c id cid 59 ss s ts i tunings m l _ p (ap (hold (Grabbed cid 59)) z ∙ hooking.cases cid start start .tick-59), held-as n c id cid 60 ss s ts i tunings m l _ p (ap (hold (Grabbed cid 60)) z ∙ hooking.cases cid start start .tick-60));
   angles = (angle.cases .diagonal, angle.cases .left, angle.cases .up);
   line-of-length-0 = at-the-first-tile;
 }

@@ -3,9 +3,8 @@ use Prim.Native.Nat.{ℕ, _≤_, _<_}
 use mathlib.Core.Bool.{true}
 use mathlib.Core.List.{List, [], _∷_}
 use mathlib.Core.Path.{_≡_}
-use lib.ListN.{getD}
-use Rattle.game_tuning.specs.Tuning.{hookHold}
 use lib.IntN.{ℤ, pos, negsuc}
+use lib.ListN.{getD}
 use lib.Ieee.{Float, nan, binary32, ofBits, toBits, add}
 use Rattle.num_root.specs.Root.{root}
 use Rattle.num_convert.specs.Whole.{roundToI32}
@@ -28,14 +27,13 @@ use Rattle.character.specs.Records.{mostTick}
 use Rattle.character.specs.Character.{withHook}
 use Rattle.character.specs.Tick.{tick}
 use Rattle.character.specs.declared.Slot.{Slot}
-use Rattle.character.specs.declared.tick.Ticked.{Ticked}
-use Rattle.character.specs.declared.tick.Ticked.the-variants as answer
-use Rattle.character_hook.specs.declared.hook.Hook.{Hook}
 use Rattle.game_input.specs.Inputs.{hooks}
 use Rattle.game_records.specs.declared.PlayerInput.{PlayerInput}
+use Rattle.game_tuning.specs.Tuning.{hookHold}
 use Rattle.map_tiles.specs.Map.{isMap}
 use Rattle.map_tiles.specs.declared.tiles.Sides.{Sides}
 use Rattle.character.specs.Records as characters
+use Rattle.character_cases.specs.Holding.{HookAfter}
 use Rattle.character.specs.declared.records.Quantized.the-variants as quantized
 
 -- a whole number as f32, and 17.5
@@ -52,13 +50,6 @@ start = vnew (ofBits binary32 0x42c8_0000) (ofBits binary32 0x42c8_0000)
 -- c, whose hook tick a record holds, quantizes to a character of which P holds
 abbrev pub QuantizesTo : (Character → Type 0) → Character → Type 0
 QuantizesTo P c = tickOf (c .hook) ≤ mostTick → (d : Character) × (characters.quantize c ≡ quantized.To d) × P d
-
--- a tick was accepted, and leaves the character with the hook h
-abbrev pub HookAfter : Hook → Ticked → Type 0
-HookAfter h answer.BadMap = ⊥
-HookAfter h answer.BadId = ⊥
-HookAfter h answer.TooFar = ⊥
-HookAfter h (answer.To a) = a .me .hook ≡ h
 
 pub record ProvedCases : Type 0 where
   -- (1) root of 0x00000001 is 0x1A3504F3

@@ -2,7 +2,7 @@
 use Prim.Native.Nat.{ℕ, _≤_, _<_, _^_}
 use native.Mathlib.Omega.{arith}
 use native.Mathlib.Nat.{lt-of-lt-of-le}
-use mathlib.Core.Bool.{Bool, true, false, cond, true≢false}
+use mathlib.Core.Bool.{Bool, true, false, cond, _&&_, true≢false}
 use mathlib.Core.Path.{_≡_, refl, sym, ap, subst}
 use lib.Dec.{T, leb, lit≤}
 use lib.IntN.{ℤ, pos, negsuc, natAbs}
@@ -50,3 +50,14 @@ pub within : (z : ℤ) → ltZ z (pos 1) ≡ false → natAbs z ≤ maxHookGrabT
 unfolding holdOf
 within (pos n) e h = rw (le-leb 1 n (ltb-false n 1 e), le-leb n maxHookGrabTime h) refl
 within (negsuc k) e h = absurd (true≢false e)
+
+-- a hold stands for itself
+pub hold-is : (z : ℤ) → isHold z ≡ true → pos (holdOf z) ≡ z
+unfolding isHold holdOf
+hold-is (pos n) e = go (leb 1 n) (leb n maxHookGrabTime) e
+  where
+    go : (b d : Bool) → b && d ≡ true → pos (cond b (cond d n maxHookGrabTime) 1) ≡ pos n
+    go true true e = refl
+    go true false e = absurd (true≢false (sym e))
+    go false d e = absurd (true≢false (sym e))
+hold-is (negsuc k) e = absurd (true≢false (sym e))

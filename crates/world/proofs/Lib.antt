@@ -13,6 +13,7 @@ pub mod Marks
 pub mod Held
 pub mod Deadly
 pub mod Numbers
+pub mod Hold
 pub mod Demand1
 pub mod Demand3
 pub mod TakenRecords

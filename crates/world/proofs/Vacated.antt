@@ -29,7 +29,7 @@ module _ (h : Hook) (k : ℕ) where
   other-released e = rw e
 
   -- what Retracted has, and h where it does not hold k
-  released-kept : (P : Hook → Type 0) → P Retracted → (holds h k ≡ false → P h) → P (released h k)
+  pub released-kept : (P : Hook → Type 0) → P Retracted → (holds h k ≡ false → P h) → P (released h k)
   released-kept P r p = go (holds h k) refl
     where
       go : (b : Bool) → holds h k ≡ b → P (released h k)

@@ -1,6 +1,7 @@
 pub mod World
 pub mod Calls
 pub mod Readers
+pub mod Hold
 pub mod Removal
 pub mod Step
 pub mod Run

@@ -33,7 +33,8 @@ use Rattle.character.specs.declared.tick.OwnTick.the-variants as own
 use Rattle.character.specs.declared.tick.TickedAt.the-variants.{To}
 use Rattle.character_laws.proofs.Others.{Then, tick-pos, pulled-others, pulled-length}
 use Rattle.world.proofs.Numbers.{tick-short}
-use Rattle.game_constants.specs.Constants.{maxHookGrabTime}
+use Rattle.game_tuning.specs.Tuning.{holdOf}
+use Rattle.game_tuning.proofs.Hold.{hold-most}
 use Rattle.world.specs.Step.{tickTurn}
 use Rattle.world_numbers.specs.Encoding.{recordCount, seatPlace, netCore, recordNumbers}
 use Rattle.world_numbers.specs.Decoding.{isSet, seatOf, seatsOf, decoding}
@@ -129,7 +130,7 @@ module _ (l : List ℤ) (s : Sides) (ts : List ℕ) (t : Tuning) (j : ℕ) (m : 
           go (no d) = ap (λ (x : Slot). x .present) (other-left i d)
 
       short : tickOf (me .hook) ≤ mostTick
-      short = let q : tickOf (me .hook) ≤ maxHookGrabTime = subst (Then (λ a. tickOf (a .me .hook) ≤ maxHookGrabTime)) to (tick-short seats (slotAt ss j .character) j ss s ts (slotAt ss j .input) t) in omega (arith, q)
+      short = let q : tickOf (me .hook) ≤ holdOf (t .«hook_hold») = subst (Then (λ a. tickOf (a .me .hook) ≤ holdOf (t .«hook_hold»))) to (tick-short seats (slotAt ss j .character) j ss s ts (slotAt ss j .input) t) in omega (arith, q, hold-most (t .«hook_hold»))
 
       stays : me .pos ≡ slotAt ss j .character .pos
       stays = subst (Then (λ a. a .me .pos ≡ slotAt ss j .character .pos)) to (tick-pos seats (slotAt ss j .character) j ss s ts (slotAt ss j .input) t)

@@ -4,6 +4,7 @@ use Prim.Native.Nat.{_-_, _≤_}
 use native.Mathlib.Omega.{arith}
 use borrow.Author.Needs.{needs}
 use lib.ListN.{length, length-set}
+use Rattle.game_tuning.specs.Tuning.{tuningCount}
 use Rattle.test_physics.proofs.tunings_of.Statement.{statement}
 use Rattle.test_physics.proofs.tunings_of.Tie as tie
 

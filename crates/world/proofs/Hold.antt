@@ -1,0 +1,110 @@
+-- The hook's hold: a tune alters nothing else, no record of a step tells a longer one, and none from a fresh world on one above 60. Assumes nothing.
+use Prim.Native.Nat.{ℕ, _≤_}
+use native.Mathlib.Omega.{arith}
+use native.Mathlib.Nat.{le-trans}
+use mathlib.Core.Bool.{Bool, true, false, cond}
+use mathlib.Core.List.{List, [], _∷_}
+use mathlib.Core.Path.{_≡_, refl, sym, ap, _∙_, subst}
+use lib.Dec.{leb, ltb, eqb}
+use lib.IntN.{ℤ, pos, negsuc}
+use lib.ListN.{length, getD}
+use lib.Seq.{getD-set-same}
+use borrow.Author.Tests.{eqb-true, eqb-false}
+use Rattle.game_constants.specs.Constants.{maxHookGrabTime}
+use Rattle.game_records.specs.declared.CharacterCore.{CharacterCore}
+use Rattle.game_tuning.specs.Tuning.{tuningCount, hookHold, freshTunings, isHold, holdOf, mayTune, tuningOf}
+use Rattle.game_tuning.proofs.Hold.{hold-is, hold-most}
+use Rattle.map_tiles.specs.declared.tiles.Sides.{Sides}
+use Rattle.character_hook.specs.Hook.{tickOf}
+use Rattle.character.specs.Character.{spawn}
+use Rattle.character.specs.Records.{coreOf, mostTick, toNet}
+use Rattle.character.specs.Slot.{emptySlot, joinedSlot, withInput}
+use Rattle.character.specs.Tick.{slotAt, nowhere}
+use Rattle.character.specs.declared.Character.{Character}
+use Rattle.character.specs.declared.Slot.{Slot}
+use Rattle.character.specs.declared.records.Net.the-variants as net
+use Rattle.character_laws.proofs.Slots.{set-every, replicate-every}
+use Rattle.world.specs.Calls.{placeOf, pointOf, tune}
+use Rattle.world.specs.Hold.{holdIn, TicksWithin, HookHold}
+use Rattle.world.specs.Readers.{seated, ofSeated, ofRecord, recordNow, readOf}
+use Rattle.world.specs.Run.{inputOf, ran, after}
+use Rattle.world.specs.Step.{step}
+use Rattle.world.specs.World.{fresh}
+use Rattle.world.specs.declared.World.{World}
+use Rattle.world.specs.declared.call.Call.{Call}
+use Rattle.world.specs.declared.call.Call.the-variants.{Join, Leave, Input, Step, Tune}
+use Rattle.world.specs.declared.reading.Query.the-variants as query
+use Rattle.world.specs.declared.reading.Reading.{Reading}
+use Rattle.world.specs.declared.reading.Reading.the-variants as reading
+use Rattle.world.specs.declared.reading.Seated.{Seated}
+use Rattle.world.specs.Settled.{Settled}
+use Rattle.world.proofs.Demand1.{demand1}
+use Rattle.world.proofs.Numbers.{core-within, step-answer}
+use Rattle.world.proofs.Outcomes.{outcome-kept, join-outcome, leave-outcome, input-outcome, tune-outcome}
+use Rattle.world.proofs.Seats.{by-test}
+use Rattle.world.proofs.Settled.{answer-settled, after-settled}
+use Rattle.world.proofs.Vacated.{released-kept, vacated-every}
+
+-- nobody who is there has held for more than 60 ticks
+abbrev ShortIn : World → Type 0
+ShortIn w = (k : ℕ) → slotAt (w .slots) k .present ≡ true → tickOf (slotAt (w .slots) k .character .hook) ≤ maxHookGrabTime
+
+-- ---- calls
+module _ (n : ℕ) (s : Sides) (ts : List ℕ) where
+  step-short : (w : World) → Settled n w → ShortIn w → ShortIn (step n w s ts .world)
+  unfolding tuningOf
+  step-short w g h = go (eqb (step n w s ts .number) 0) refl
+    where
+      go : (b : Bool) → eqb (step n w s ts .number) 0 ≡ b → ShortIn (step n w s ts .world)
+      go true e = λ k p. le-trans (step-answer n w s ts (omega (arith, g .seats)) .short (eqb-true _ 0 e) k p) (hold-most (getD (w .tunings) hookHold (pos 0)))
+      go false e = subst ShortIn (sym (demand1 n s ts w Step (eqb-false _ 0 e))) h
+
+  short-next : (w : World) (c : Call) → Settled n w → ShortIn w → ShortIn (ran n s ts w c .world)
+  unfolding spawn tickOf
+  short-next w (Join id x y) g h = outcome-kept ShortIn w _ _ (join-outcome n w s ts id x y) h (λ f. set-every (λ k y. y .present ≡ true → tickOf (y .character .hook) ≤ maxHookGrabTime) (w .slots) _ (joinedSlot (pointOf x y)) nowhere h (λ q. omega arith))
+  short-next w (Leave id) g h = outcome-kept ShortIn w _ _ (leave-outcome n w id) h (λ f. vacated-every w (placeOf n id) (λ k y. y .present ≡ true → tickOf (y .character .hook) ≤ maxHookGrabTime) (λ q. omega arith) (λ j q. released-kept (slotAt (w .slots) j .character .hook) (placeOf n id) (λ o. tickOf o ≤ maxHookGrabTime) (omega arith) (λ e. h j q)))
+  short-next w (Input id d x y j k) g h = outcome-kept ShortIn w _ _ (input-outcome n w id (inputOf d x y j k)) h (λ f. set-every (λ i y. y .present ≡ true → tickOf (y .character .hook) ≤ maxHookGrabTime) (w .slots) _ (withInput (slotAt (w .slots) (placeOf n id)) (inputOf d x y j k)) nowhere h (h (placeOf n id)))
+  short-next w (Tune index z) g h = outcome-kept ShortIn w _ _ (tune-outcome w index z) h (λ f. h)
+  short-next w Step g h = step-short w g h
+
+  short-after : (cs : List Call) (w : World) → Settled n w → ShortIn w → ShortIn (after n s ts w cs)
+  short-after [] w g h = h
+  short-after (c ∷ cs) w g h = short-after cs (ran n s ts w c .world) (answer-settled n s ts w c g) (short-next w c g h)
+
+fresh-short : (n : ℕ) → ShortIn (fresh n)
+unfolding fresh spawn tickOf
+fresh-short n = replicate-every (λ x. x .present ≡ true → tickOf (x .character .hook) ≤ maxHookGrabTime) n emptySlot nowhere (λ q. omega arith) (λ q. omega arith)
+
+-- ---- what is read
+-- the record of whoever has held for so long
+record-within : (x : Character) (m : ℕ) → tickOf (x .hook) ≤ m → (c : CharacterCore) → ofRecord (toNet x) ≡ reading.Record c → TicksWithin m c
+unfolding toNet
+record-within x m l c = go (leb (tickOf (x .hook)) mostTick)
+  where
+    go : (b : Bool) → ofRecord (cond b (net.Core (coreOf x)) net.TickTooLarge) ≡ reading.Record c → TicksWithin m c
+    go true e = let q : c ≡ coreOf x = cc in subst (TicksWithin m) (sym q) (core-within x m l)
+    go false e = let z : _≡_ {A = ℕ} 0 1 = cc in absurd (omega arith)
+
+read-within : (n : ℕ) (w : World) → ShortIn w → (id : ℤ) (c : CharacterCore) → readOf n w (query.Record id) ≡ reading.Record c → TicksWithin maxHookGrabTime c
+unfolding seated
+read-within n w h id c = let k = placeOf n id in by-test Told (ltb k n) (λ l. by-test Told (slotAt (w .slots) k .present) (λ p. record-within (slotAt (w .slots) k .character) maxHookGrabTime (h k p) c) (λ p. none)) (λ l. none)
+  where
+    Told : Seated → Type 0
+    Told x = ofSeated recordNow x ≡ reading.Record c → TicksWithin maxHookGrabTime c
+
+    none : {r : ℕ} → reading.Refused r ≡ reading.Record c → TicksWithin maxHookGrabTime c
+    none e = let z : _≡_ {A = ℕ} 0 1 = cc in absurd (omega arith)
+
+-- ---- the theorem
+pub hook-hold : (n : ℕ) → HookHold n
+unfolding tune mayTune isHold placeOf fresh freshTunings holdOf tuningOf
+hook-hold n = record {
+  first = refl;
+  limits = (refl, refl, refl, refl);
+  unknown = λ w index z e. rw e refl;
+  alters = λ w z e. rw e refl;
+  taken = λ w z e l. ap (λ (y : ℤ). pos (holdOf y)) (getD-set-same (w .tunings) hookHold z (pos 0) (omega (arith, l))) ∙ hold-is z e;
+  declined = λ w z e. rw e refl;
+  step-within = λ s ts w full. step-answer n w s ts full .told;
+  ever-within = λ s ts cs id c. read-within n (after n s ts (fresh n) cs) (short-after n s ts cs (fresh n) (after-settled n s ts []) (fresh-short n)) id c;
+}
