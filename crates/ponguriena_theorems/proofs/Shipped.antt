@@ -1,12 +1,14 @@
 -- Every theorem holds for any number of seats, so for those that there are. Assumes nothing.
 use Prim.Native.Nat.{ℕ}
 use Rattle.character.specs.Tick.{seats}
+use Rattle.character_cases.proofs.Holding.{holding}
 use Rattle.world.proofs.Demand1.{demand1}
 use Rattle.world.proofs.Demand3.{demand3}
 use Rattle.world.proofs.Marks.{marks-follow}
 use Rattle.world.proofs.Leave.{leave-releases}
 use Rattle.world.proofs.Held.{held-present}
 use Rattle.world.proofs.Deadly.{step-spikes}
+use Rattle.world.proofs.Hold.{hook-hold}
 use Rattle.world_solo.proofs.Solo.{solo}
 use Rattle.trial_rule.proofs.Tables.{rows-tell, independent}
 use Rattle.trial_rule.proofs.Runs.{counts-steps}
@@ -60,6 +62,7 @@ all-theorems n = record {
   jumps = jumps-after-stay n;
   trialCalls = runs-by-calls n;
   ways = search-reaches n;
+  hold = hook-hold n;
 }
 
 pub shipped : Shipped
@@ -75,4 +78,5 @@ shipped = record {
   writes = change-writes;
   follows = change-follows;
   reaches = change-reaches;
+  holding = holding;
 }

@@ -1,12 +1,14 @@
 -- The theorems that customers were given, for any number of seats, and what is shipped. Definitions only; proofs/Shipped.antt cites their proofs.
 use Prim.Native.Nat.{ℕ}
 use Rattle.character.specs.Tick.{seats}
+use Rattle.character_cases.specs.Holding.{Holding}
 use Rattle.world.specs.Demand1.{Demand1}
 use Rattle.world.specs.Demand3.{Demand3}
 use Rattle.world.specs.Marks.{MarksFollow}
 use Rattle.world.specs.Leave.{LeaveReleases}
 use Rattle.world.specs.Held.{HeldPresent}
 use Rattle.world.specs.Deadly.{StepSpikes}
+use Rattle.world.specs.Hold.{HookHold}
 use Rattle.world_solo.specs.Solo.{Solo}
 use Rattle.trial_rule.specs.Laws.{RowsTell, Independent, CountsSteps, TellsSmallest, TellsNobody, JumpsAfterStay, RunsByCalls}
 use Rattle.send_rule.specs.Shown.{Shown}
@@ -63,6 +65,8 @@ pub record Theorems (n : ℕ) : Type 0 where
   pub trialCalls : RunsByCalls n
   -- request 12: the first way to a place
   pub ways : Reaches n
+  -- request 13: the hook's hold
+  pub hold : HookHold n
 
 -- at the seats that there are; and that the numbers which C programs hold are those of the worlds and links that the theorems speak of
 pub record Shipped : Type 0 where
@@ -81,3 +85,5 @@ pub record Shipped : Type 0 where
   pub writes : ChangeWrites
   pub follows : ChangeFollows
   pub reaches : ChangeReaches
+  -- request 13: what a tick makes of a hook that holds somebody, whatever the hold
+  pub holding : Holding
