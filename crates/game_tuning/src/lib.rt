@@ -93,7 +93,7 @@ fn tuning_at(hundredths: [i32; TUNINGS], index: usize) -> f32
     num_convert::hundredths_to_f32(hundredths[index])
 }
 
-fn is_hold(steps: i32) -> bool
+pub fn is_hold(steps: i32) -> bool
     ensures { λ r. ⌜ r ≡ isHold steps ⌝ }
 {
     if steps < 1 {

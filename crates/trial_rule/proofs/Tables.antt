@@ -5,18 +5,20 @@ use mathlib.Core.List.{List, [], _∷_, _++_, map}
 use mathlib.Core.Path.{_≡_, refl, sym, ap, ap₂, _∙_}
 use native.Mathlib.Nat.{mul-suc, add-comm}
 use native.Mathlib.Omega.{arith}
+use lib.Dec.{eqb}
 use lib.IntN.{ℤ}
 use lib.ListN.{length, take, drop, getD, length-map, List·getD-map}
 use lib.Seq.{take-at, drop-at, drop-drop}
+use borrow.Author.Tests.{eqb-false}
 use Rattle.base_turns.specs.Turns.{Turn, more, stop, next}
-use Rattle.game_refusals.specs.Refusals.{badMap, badTrial, badLength}
+use Rattle.game_refusals.specs.Refusals.{badMap, badLength}
 use Rattle.game_tuning.specs.Tuning.{tuningCount}
 use Rattle.map_tiles.specs.Map.{isMap, count}
 use Rattle.map_tiles.specs.declared.tiles.Sides.{Sides}
 use Rattle.world_numbers.specs.Encoding.{each}
 use Rattle.world_numbers.proofs.RowsIn.{row-in, rows-long}
 use Rattle.trial_rule.specs.Trial.{Trying, tried, enterAll, nobodyYet, tunedTo, trial}
-use Rattle.trial_rule.specs.Calls.{rowCount, tuningsIn, areWhole, entrants, tuningRows, triedNumbers, isTrial, LeftTrial, trialLeft, trialIn}
+use Rattle.trial_rule.specs.Calls.{rowCount, tuningsIn, areWhole, entrants, tuningRows, triedNumbers, trialFault, LeftTrial, trialLeft, trialIn}
 use Rattle.trial_rule.specs.Laws.{rowOf, Tells, RowsTell, Independent}
 use Rattle.trial_rule.specs.declared.Tried.{Tried}
 use Rattle.trial_rule.proofs.Rows.{tried-long}
@@ -56,16 +58,16 @@ module _ (n : ℕ) (s : Sides) (ts : List ℕ) (joins targets tunings : List ℤ
 
 pub rows-tell : (n : ℕ) → RowsTell n
 unfolding trialIn trial
-rows-tell n s ts joins targets tunings steps result = go (areWhole n (length joins) (length targets) (length tunings) (length result)) (isMap s ts) (isTrial (tuningsIn tunings) steps)
+rows-tell n s ts joins targets tunings steps result = go (areWhole n (length joins) (length targets) (length tunings) (length result)) (isMap s ts) (eqb (trialFault tunings steps) 0) refl
   where
     left : LeftTrial
     left = trialLeft result (next (λ t. more (map (λ zs. tried n s ts (count steps) (tunedTo zs t)) (tuningRows tunings))) (enterAll n s ts (entrants joins targets) (nobodyYet n)))
 
-    go : (a b c : Bool) → let l = cond a (cond b (cond c left (record { number = badTrial; result = result })) (record { number = badMap; result = result })) (record { number = badLength; result = result }) in l .number ≡ 0 → Tells n s ts joins targets tunings steps (l .result)
-    go true true true z = told n s ts joins targets tunings steps result (enterAll n s ts (entrants joins targets) (nobodyYet n)) refl z
-    go true true false z = absurd (omega (arith, z))
-    go true false c z = absurd (omega (arith, z))
-    go false b c z = absurd (omega (arith, z))
+    go : (a b c : Bool) → eqb (trialFault tunings steps) 0 ≡ c → let l = cond a (cond b (cond c left (record { number = trialFault tunings steps; result = result })) (record { number = badMap; result = result })) (record { number = badLength; result = result }) in l .number ≡ 0 → Tells n s ts joins targets tunings steps (l .result)
+    go true true true e z = told n s ts joins targets tunings steps result (enterAll n s ts (entrants joins targets) (nobodyYet n)) refl z
+    go true true false e z = absurd (eqb-false (trialFault tunings steps) 0 e z)
+    go true false c e z = absurd (omega (arith, z))
+    go false b c e z = absurd (omega (arith, z))
 
 pub independent : (n : ℕ) → Independent n
 independent n s ts joins targets steps tunings result otherTunings otherResult i j p q h k e =

@@ -1,13 +1,13 @@
 -- The trial as a call on lent buffers of numbers: what it answers, and what it leaves in the result. A refusal leaves it as it was. Definitions only.
 use Prim.Native.Nat.{ℕ, _+_, _*_, _/_, _%_}
-use mathlib.Core.Bool.{Bool, false, cond, _&&_}
+use mathlib.Core.Bool.{Bool, true, false, cond, _&&_}
 use mathlib.Core.List.{List, [], _∷_}
 use lib.Dec.{leb, eqb}
 use lib.IntN.{ℤ, pos, negsuc}
-use lib.ListN.{length, take, replicate}
+use lib.ListN.{length, getD, take, replicate}
 use Rattle.base_turns.specs.Turns.{Turn, more, stop}
-use Rattle.game_refusals.specs.Refusals.{badMap, badTrial, badLength}
-use Rattle.game_tuning.specs.Tuning.{tuningCount}
+use Rattle.game_refusals.specs.Refusals.{badMap, badTrial, badHold, badLength}
+use Rattle.game_tuning.specs.Tuning.{tuningCount, hookHold, isHold}
 use Rattle.map_tiles.specs.Map.{isMap, count}
 use Rattle.map_tiles.specs.declared.tiles.Sides.{Sides}
 use Rattle.world_numbers.specs.Encoding.{each}
@@ -77,6 +77,21 @@ isSteps (negsuc m) = false
 unfoldable pub isTrial : ℕ → ℤ → Bool
 isTrial tunings steps = leb 1 tunings && leb tunings 8 && isSteps steps
 
+-- ---- refusal 16
+
+-- a tuning's hold is one
+abbrev pub hasHold : List ℤ → Bool
+hasHold zs = isHold (getD zs hookHold (pos 0))
+
+-- every tuning's
+abbrev pub haveHolds : List (List ℤ) → Bool
+haveHolds [] = true
+haveHolds (zs ∷ rows) = hasHold zs && haveHolds rows
+
+-- the number that refuses a trial before its joins, 15 and then 16; 0 where neither does
+unfoldable pub trialFault : List ℤ → ℤ → ℕ
+trialFault tunings steps = cond (isTrial (tuningsIn tunings) steps) (cond (haveHolds (tuningRows tunings)) 0 badHold) badTrial
+
 -- ---- the call
 
 -- a number, and the result that is left
@@ -89,13 +104,13 @@ abbrev pub trialLeft : List ℤ → Turn (List Tried) ℕ → LeftTrial
 trialLeft result (more rs) = record { number = 0; result = each triedNumbers rs }
 trialLeft result (stop k) = record { number = k; result = result }
 
--- refused with 17 where a buffer has another length, with 1 where there is no map, with 15 where there are no tunings, too many, or too many steps; then by its joins
+-- refused with 17 where a buffer has another length, with 1 where there is no map, with 15 where there are no tunings, too many, or too many steps, with 16 where a hold is none; then by its joins
 unfoldable pub trialIn : ℕ → Sides → List ℕ → List ℤ → List ℤ → List ℤ → ℤ → List ℤ → LeftTrial
 trialIn n s ts joins targets tunings steps result =
     cond (areWhole n (length joins) (length targets) (length tunings) (length result))
     (cond (isMap s ts)
-    (cond (isTrial (tuningsIn tunings) steps)
+    (cond (eqb (trialFault tunings steps) 0)
     (trialLeft result (trial n s ts (entrants joins targets) (tuningRows tunings) (count steps)))
-    (record { number = badTrial; result = result }))
+    (record { number = trialFault tunings steps; result = result }))
     (record { number = badMap; result = result }))
     (record { number = badLength; result = result })

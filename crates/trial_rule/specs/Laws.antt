@@ -21,7 +21,7 @@ use Rattle.world.specs.declared.Published.{Published}
 use Rattle.world_numbers.specs.Encoding.{flag}
 use Rattle.game_records.specs.Numbers.{sameNumber}
 use Rattle.trial_rule.specs.Trial.{Entrant, targetColumn, targetRow, distanceTo, Trying, playerAt, inputFor, inputsFor, stepFrom, afterStep, towards, tried, enterAll, nobodyYet, tunedTo}
-use Rattle.trial_rule.specs.Calls.{rowCount, tuningsIn, entrants, triedNumbers, trialIn}
+use Rattle.trial_rule.specs.Calls.{rowCount, tuningsIn, entrants, triedNumbers, hasHold, trialIn}
 use Rattle.trial_rule.specs.declared.Player.{Player}
 use Rattle.trial_rule.specs.declared.Tried.{Tried}
 
@@ -128,6 +128,6 @@ stepsOf n s ts u (suc k) = stepsOf n s ts u k ++ (inputsFor n s (stateAfter n s 
 
 -- the world of a run is the one that its calls reach from a fresh world
 abbrev pub RunsByCalls : ℕ → Type 0
-RunsByCalls n = (s : Sides) (ts : List ℕ) (es : List Entrant) (t : Trying) (zs : List ℤ) (k : ℕ) → enterAll n s ts es (nobodyYet n) ≡ more t → length zs ≡ tuningCount →
+RunsByCalls n = (s : Sides) (ts : List ℕ) (es : List Entrant) (t : Trying) (zs : List ℤ) (k : ℕ) → enterAll n s ts es (nobodyYet n) ≡ more t → length zs ≡ tuningCount → hasHold zs ≡ true →
     let u = tunedTo zs t in
     stateAfter n s ts u k .world ≡ after n s ts (fresh n) (joinsOf es ++ (tunesOf 0 zs ++ stepsOf n s ts u k))

@@ -25,7 +25,7 @@ targets = pos 5 ∷ pos 9 ∷ pos 1 ∷ negsuc 6 ∷ []
 
 -- a tuning whose ramp makes of every speed one that is too far
 abbrev pub steepRamp : List ℤ
-steepRamp = pos 1000 ∷ pos 200 ∷ pos 50 ∷ pos 1320 ∷ pos 1200 ∷ pos 500 ∷ pos 150 ∷ pos 95 ∷ pos 38000 ∷ pos 8000 ∷ pos 300 ∷ pos 1500 ∷ pos 50 ∷ pos 0 ∷ pos 100 ∷ pos 1 ∷ pos 100 ∷ pos 100 ∷ []
+steepRamp = pos 1000 ∷ pos 200 ∷ pos 50 ∷ pos 1320 ∷ pos 1200 ∷ pos 500 ∷ pos 150 ∷ pos 95 ∷ pos 38000 ∷ pos 8000 ∷ pos 300 ∷ pos 1500 ∷ pos 50 ∷ pos 0 ∷ pos 100 ∷ pos 1 ∷ pos 100 ∷ pos 100 ∷ pos 60 ∷ []
 
 pub record Worked : Type 0 where
   -- id 0 goes right and falls: two tiles away at the start, one after step 1, on its target after step 3; id 1 is below its target, and its x stays in step 1, so it jumps in step 2, which brings it there;

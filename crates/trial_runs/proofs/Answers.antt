@@ -1,19 +1,19 @@
 -- What a trial answers, by the tests that decide it, and its rows one after another. Assumes nothing.
 use Prim.Native.Nat.{ℕ, _+_, _*_, _/_, _%_, _≤_, _<_}
-use mathlib.Core.Bool.{true, false, _&&_}
+use mathlib.Core.Bool.{Bool, true, false, cond, _&&_}
 use mathlib.Core.List.{List, [], _++_, map}
-use mathlib.Core.Path.{_≡_, sym, ap, ap₂, _∙_, subst}
+use mathlib.Core.Path.{_≡_, refl, sym, ap, ap₂, _∙_, subst}
 use native.Mathlib.Numerals.{add-one}
 use native.Mathlib.Omega.{arith}
 use lib.Dec.{leb, eqb}
 use lib.IntN.{ℤ, pos, negsuc}
 use lib.ListN.{length, take, getD}
 use lib.Seq.{take-suc}
-use borrow.Author.Tests.{leb-true, eqb-true}
+use borrow.Author.Tests.{leb-true, eqb-true, eq-eqb, ne-eqb}
 use Rattle.base_rows.specs.Put.{put}
 use Rattle.base_rows.proofs.Puts.{take-put}
 use Rattle.base_turns.specs.Turns.{Turn, more, stop}
-use Rattle.game_refusals.specs.Refusals.{badMap, badTrial, badLength}
+use Rattle.game_refusals.specs.Refusals.{badMap, badTrial, badHold, badLength}
 use Rattle.game_tuning.specs.Tuning.{tuningCount}
 use Rattle.map_tiles.specs.Map.{isMap, count}
 use Rattle.map_tiles.specs.declared.tiles.Sides.{Sides}
@@ -29,7 +29,7 @@ use Rattle.world_numbers.proofs.Rows.{each-last}
 use Rattle.world_buffers.specs.Buffers.{Left, acceptedIn, freshIn}
 use Rattle.world_buffers.proofs.Answers.{a-world}
 use Rattle.trial_rule.specs.Trial.{Trying, tried, enterAll, nobodyYet, tunedTo, trial}
-use Rattle.trial_rule.specs.Calls.{joinCount, targetCount, rowCount, tuningsIn, areWhole, entrants, tuningRows, triedNumbers, isSteps, isTrial, LeftTrial, trialIn}
+use Rattle.trial_rule.specs.Calls.{joinCount, targetCount, rowCount, tuningsIn, areWhole, entrants, tuningRows, triedNumbers, isSteps, isTrial, haveHolds, trialFault, LeftTrial, trialIn}
 use Rattle.trial_runs.specs.InPlace.{IsWorld, Enters}
 use Rattle.trial_runs.specs.declared.entering.Entered.{Entered}
 use Rattle.trial_runs.proofs.Worlds.{is-encoding}
@@ -60,18 +60,18 @@ module _ (s : Sides) (ts : List ℕ) (joins targets tunings : List ℤ) (steps :
     no-map e = rw (whole, e)
 
     module _ (map-there : isMap s ts ≡ true) where
-      pub no-trial : isTrial (tuningsIn tunings) steps ≡ false → answer ≡ record { number = badTrial; result = result }
+      pub no-trial : (trialFault tunings steps ≡ 0 → ⊥) → answer ≡ record { number = trialFault tunings steps; result = result }
       unfolding trialIn
-      no-trial e = rw (whole, map-there, e)
+      no-trial e = rw (whole, map-there, ne-eqb (trialFault tunings steps) 0 e)
 
-      module _ (fits : isTrial (tuningsIn tunings) steps ≡ true) where
+      module _ (fits : trialFault tunings steps ≡ 0) where
         pub by-join : (k : ℕ) → enterAll seats s ts (entrants joins targets) (nobodyYet seats) ≡ stop k → answer ≡ record { number = k; result = result }
         unfolding trialIn trial
-        by-join k e = rw (whole, map-there, fits, e)
+        by-join k e = rw (whole, map-there, eq-eqb (trialFault tunings steps) 0 fits, e)
 
         pub by-runs : (t : Trying) → enterAll seats s ts (entrants joins targets) (nobodyYet seats) ≡ more t → answer ≡ record { number = 0; result = each triedNumbers (map (λ zs. tried seats s ts (count steps) (tunedTo zs t)) (tuningRows tunings)) }
         unfolding trialIn trial
-        by-runs t e = rw (whole, map-there, fits, e)
+        by-runs t e = rw (whole, map-there, eq-eqb (trialFault tunings steps) 0 fits, e)
 
 -- ---- the next row
 pub row-on : {A : Type 0} (f : A → List ℤ) (xs : List A) (x : A) (i at next : ℕ) (d e r : List ℤ) → i < length xs → at ≤ length d → take at d ≡ each f (take i xs) → r ≡ f (getD xs i x) → e ≡ put d at r → next ≡ at + length r → take next e ≡ each f (take (i + 1) xs)
@@ -102,13 +102,20 @@ are-whole joins targets tunings result e =
     let z = both a b (y .0) in
     record { aims = eqb-true _ _ (z .1); whole = eqb-true _ _ (y .1); rows = eqb-true _ _ (x .1) }
 
-pub few-steps : (t : ℕ) (z : ℤ) → isTrial t z ≡ true → count z ≤ 3000
-unfolding isTrial
-few-steps t z e = go z (both (leb 1 t && leb t 8) (isSteps z) e .1)
+pub few-steps : (l : List ℤ) (z : ℤ) → trialFault l z ≡ 0 → count z ≤ 3000
+unfolding trialFault isTrial
+few-steps l z = by (isTrial (tuningsIn l) z) (haveHolds (tuningRows l)) refl
   where
+    t : ℕ
+    t = tuningsIn l
+
     go : (y : ℤ) → isSteps y ≡ true → count y ≤ 3000
     go (pos m) q = leb-true m 3000 q
     go (negsuc m) q = omega arith
+
+    by : (b d : Bool) → isTrial t z ≡ b → cond b (cond d 0 badHold) badTrial ≡ 0 → count z ≤ 3000
+    by true d e q = go z (both (leb 1 t && leb t 8) (isSteps z) e .1)
+    by false d e q = absurd (omega (arith, q))
 
 -- ---- a fresh world
 pub fresh-is : (l m : List ℤ) (k : ℕ) → length l ≡ worldCount → freshIn l ≡ record { number = k; world = m } → IsWorld m × (decoding seats m ≡ fresh seats)

@@ -1,6 +1,6 @@
 // The trial: refusals, the joins, and the run of each tuning into its row of the result.
 use crate::checks::are_whole;
-use crate::checks::is_trial;
+use crate::checks::trial_fault;
 use crate::entering::enter_all;
 use crate::running::run_tuning;
 use crate::telling::ROW;
@@ -9,7 +9,6 @@ use base_rows::copy;
 use character::SEATS;
 use game_refusals::BAD_LENGTH;
 use game_refusals::BAD_MAP;
-use game_refusals::BAD_TRIAL;
 use game_tuning::TUNINGS;
 use map_tiles::Sides;
 use map_tiles::count;
@@ -48,8 +47,9 @@ pub fn trial(
     if !is_map(sides, tiles) {
         return BAD_MAP;
     }
-    if !is_trial(tunings.len() / TUNINGS, steps) {
-        return BAD_TRIAL;
+    let fault = trial_fault(tunings, steps);
+    if fault != 0 {
+        return fault;
     }
     let mut world = [0i32; WORLD];
     fresh_in(&mut world);

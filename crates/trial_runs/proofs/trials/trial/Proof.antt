@@ -17,7 +17,7 @@ use Rattle.world_numbers.specs.Encoding.{each}
 use Rattle.world_numbers.specs.Decoding.{decoding}
 use Rattle.world.specs.World.{fresh}
 use Rattle.trial_rule.specs.Trial.{Trying, noPlayer, enterAll, nobodyYet, tried, tunedTo}
-use Rattle.trial_rule.specs.Calls.{tuningsIn, tuningRows, areWhole, isTrial, entrants, triedNumbers}
+use Rattle.trial_rule.specs.Calls.{tuningsIn, tuningRows, areWhole, trialFault, entrants, triedNumbers}
 use Rattle.trial_runs.specs.InPlace.{IsWorld, Enters}
 use Rattle.trial_runs.proofs.OneTurn.{state}
 use Rattle.trial_runs.proofs.Answers.{joins-refused, joins-accepted, not-whole, no-map, no-trial, by-join, by-runs, are-whole, few-steps, fresh-is}
@@ -32,11 +32,11 @@ whole-is c = sym (c .before .are-whole .ensures) ∙ not-false _ (c .if1 .left)
 map-is : (c : tie.Else2) → isMap (c .before .before .before .before .before .args .sides) (c .before .before .before .before .before .args .tiles .now) ≡ true
 map-is c = sym (c .before .is-map .ensures) ∙ not-false _ (c .if2 .left)
 
-trial-is : (c : tie.After-is-trial) → c .is-trial .result ≡ isTrial (tuningsIn (c .before .before .before .before .before .before .args .tunings .now)) (c .before .before .before .before .before .before .args .steps)
-trial-is c = c .is-trial .ensures ∙ ap (isTrial (tuningsIn (c .before .before .before .before .before .before .args .tunings .now))) (toZ-ofZ (c .before .before .before .before .before .before .fits .steps))
+fault-is : (c : tie.After-trial-fault) → c .trial-fault .result ≡ trialFault (c .before .before .before .before .before .before .args .tunings .now) (c .before .before .before .before .before .before .args .steps)
+fault-is c = c .trial-fault .ensures ∙ ap (trialFault (c .before .before .before .before .before .before .args .tunings .now)) (toZ-ofZ (c .before .before .before .before .before .before .fits .steps))
 
-fits-is : (c : tie.Else3) → isTrial (tuningsIn (c .before .before .before .before .before .before .before .args .tunings .now)) (c .before .before .before .before .before .before .before .args .steps) ≡ true
-fits-is c = sym (trial-is (c .before)) ∙ not-false _ (c .if3 .left)
+fits-is : (c : tie.Else3) → trialFault (c .before .before .before .before .before .before .before .args .tunings .now) (c .before .before .before .before .before .before .before .args .steps) ≡ 0
+fits-is c = sym (fault-is (c .before)) ∙ c .if3 .left
 
 steps-are : (c : tie.After-count) → c .count .result ≡ count (c .before .before .before .before .before .before .before .before .before .before .before .before .before .before .before .before .before .args .steps)
 steps-are c = c .count .ensures .0 ∙ ap count (toZ-ofZ (c .before .before .before .before .before .before .before .before .before .before .before .before .before .before .before .before .before .fits .steps))
@@ -65,11 +65,14 @@ is-map-requires c κs = search needs
 returns-2 : tie.Need-returns-2
 returns-2 c = let a = c .before .before .before .before .before .args in no-map (a .sides) (a .tiles .now) (a .joins .now) (a .targets .now) (a .tunings .now) (a .steps) (a .result .now) (whole-is (c .before .before)) (sym (c .before .is-map .ensures) ∙ not-true _ (c .if2 .taken))
 
-is-trial-requires : tie.Need-is-trial-requires
-is-trial-requires c κs = search needs
+trial-fault-requires : tie.Need-trial-fault-requires
+trial-fault-requires c κs = search needs
 
 returns-3 : tie.Need-returns-3
-returns-3 c = let a = c .before .before .before .before .before .before .before .args in no-trial (a .sides) (a .tiles .now) (a .joins .now) (a .targets .now) (a .tunings .now) (a .steps) (a .result .now) (whole-is (c .before .before .before .before)) (map-is (c .before .before)) (sym (trial-is (c .before)) ∙ not-true _ (c .if3 .taken))
+returns-3 c =
+    let a = c .before .before .before .before .before .before .before .args in
+    let e = fault-is (c .before) in
+    no-trial (a .sides) (a .tiles .now) (a .joins .now) (a .targets .now) (a .tunings .now) (a .steps) (a .result .now) (whole-is (c .before .before .before .before)) (map-is (c .before .before)) (λ z. c .if3 .taken (e ∙ z)) ∙ ap (λ (k : ℕ). record { number = k; result = a .result .now }) (sym e)
 
 slice-aggregate-fresh-in : tie.Need-slice-aggregate-fresh-in
 slice-aggregate-fresh-in c = search needs
@@ -126,7 +129,7 @@ trial-spec =
     returns
     is-map-requires
     returns-2
-    is-trial-requires
+    trial-fault-requires
     returns-3
     slice-aggregate-fresh-in
     fresh-in-requires
