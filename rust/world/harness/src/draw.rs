@@ -3,7 +3,7 @@
 use crate::call::Call;
 use crate::roles::{Ask, BOARD, REFEREE};
 use crate::slot::SEATS;
-use crate::tunings::{ORDINARY, TUNINGS};
+use crate::tunings::{HOOK_HOLD, ORDINARY, TUNINGS};
 use crate::world::World;
 pub use crate::world::is_clear;
 use libtw2_gamenet::snap_obj::PlayerInput;
@@ -15,6 +15,9 @@ use tile_map::draw::{below, pick, somewhere};
 /// What is recorded is drawn among these: with more of them it would be other play. Where
 /// all seats are meant it is [`SEATS`].
 pub const FIRST_SEATS: usize = 16;
+
+/// And among these tunings, which are all but the hold.
+pub const FIRST_TUNINGS: usize = HOOK_HOLD;
 
 /// Ids that no seat has.
 const NO_SEATS: [i32; 4] = [-1, SEATS as i32, i32::MIN, i32::MAX];
@@ -106,11 +109,32 @@ pub fn any_join(seats: usize, map: &Map, random: &mut Xorshift) -> Call {
 
 /// Near what is ordinary, or 0.
 fn mild_tune(random: &mut Xorshift) -> Call {
-    let index = below(random, TUNINGS);
+    let index = below(random, FIRST_TUNINGS);
     let ordinary = ORDINARY[index];
     let hundredths = pick(random, &[0, ordinary / 2, ordinary, ordinary, ordinary * 2]);
     let index = index as i32;
     Call::Tune { index, hundredths }
+}
+
+/// A hold within its limits or outside, of a call that may be refused or in lent numbers.
+pub fn any_hold(random: &mut Xorshift) -> i32 {
+    let within = 1 + below(random, 60) as i32;
+    let any = random.pattern() as i32;
+    let limits = [1, 2, 59, 60];
+    let outside = pick(random, &[0, 61, -1, 6000, any, i32::MIN, i32::MAX]);
+    let hold = pick(random, &limits);
+    pick(random, &[within, within, hold, hold, outside])
+}
+
+/// Any call, or now and then one that sets a hold.
+pub fn any_call_or_hold(seats: usize, world: &World, map: &Map, random: &mut Xorshift) -> Call {
+    match below(random, 24) {
+        0 => Call::Tune {
+            index: HOOK_HOLD as i32,
+            hundredths: any_hold(random),
+        },
+        _ => any_call(seats, world, map, random),
+    }
 }
 
 /// One of the ends, or anything.

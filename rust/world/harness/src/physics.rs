@@ -3,19 +3,30 @@
 use crate::others::Others;
 use crate::refusal::Refusal;
 use crate::slot::Slots;
+use crate::tunings::{HOOK_HOLD, TUNINGS, read_tuning, tune_params};
 use crate::walks::Walks;
 use libtw2_gamenet::msg::game::SvTuneParams;
-use original::{CHARACTER_SIZE, Character, Collision, Hook, State, vec2};
+use original::{CHARACTER_SIZE, Character, Collision, Hook, MAX_HOOK_GRAB_TIME, State, vec2};
 use tile_map::Map;
 
 /// What is the same for everybody in a step.
 #[derive(Clone, Copy)]
 pub struct Rules<'a> {
-    pub map: &'a Map,
-    pub tuning: &'a SvTuneParams,
+    map: &'a Map,
+    tuning: SvTuneParams,
+    /// For how many steps a hook holds somebody.
+    hold: u32,
 }
 
-impl Rules<'_> {
+impl<'a> Rules<'a> {
+    pub fn new(map: &'a Map, tunings: [i32; TUNINGS]) -> Rules<'a> {
+        Rules {
+            map,
+            tuning: tune_params(tunings),
+            hold: read_tuning(&tunings, HOOK_HOLD).cast_unsigned(),
+        }
+    }
+
     /// What `tick` finds out and keeps to itself: whether one of two points below is solid.
     pub fn grounded(self, character: Character) -> bool {
         let pos = State::from(character).pos;
@@ -38,10 +49,10 @@ impl Rules<'_> {
 
     /// Changes the velocities of others that are dragged; after a refusal they are void.
     pub fn ticked(self, slots: &mut Slots, id: usize) -> Result<Character, Refusal> {
-        let me = without_overflow(slots[id].character);
+        let me = self.timed(slots[id].character);
         let input = slots[id].input;
         self.walked(me, &mut Others::new(id, slots), |me, walks, others| {
-            me.tick(walks, others, input, self.tuning)
+            me.tick(walks, others, input, &self.tuning)
         })
     }
 
@@ -49,8 +60,22 @@ impl Rules<'_> {
     pub fn moved(self, slots: &mut Slots, id: usize) -> Result<Character, Refusal> {
         let me = slots[id].character;
         self.walked(me, &mut Others::new(id, slots), |me, walks, others| {
-            me.move_(walks, others, self.tuning)
+            me.move_(walks, others, &self.tuning)
         })
+    }
+
+    /// A hook that has held for the hold is handed to `tick` as one that has held for as long as
+    /// libtw2 lets it: that takes it back. All others are below that time, so they are counted up.
+    fn timed(self, character: Character) -> Character {
+        let state = State::from(character);
+        match state.hook {
+            Hook::Grabbed(id, tick) if tick >= self.hold => State {
+                hook: Hook::Grabbed(id, MAX_HOOK_GRAB_TIME),
+                ..state
+            }
+            .into(),
+            _ => character,
+        }
     }
 
     fn walked(
@@ -64,18 +89,5 @@ impl Rules<'_> {
         act(&mut me, &mut walks, others);
         walks.answer()?;
         Ok(me)
-    }
-}
-
-/// The sum of the last tick and 1 overflows; by document 01 it is Retracted as with the tick before.
-fn without_overflow(character: Character) -> Character {
-    let state = State::from(character);
-    match state.hook {
-        Hook::Grabbed(id, u32::MAX) => State {
-            hook: Hook::Grabbed(id, u32::MAX - 1),
-            ..state
-        }
-        .into(),
-        _ => character,
     }
 }

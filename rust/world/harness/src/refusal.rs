@@ -15,6 +15,7 @@ pub enum Refusal {
     TickTooLarge = 10,
     NotAllowed = 13,
     Trial = 15,
+    Hold = 16,
     /// Of the C interface: a buffer that was lent.
     Length = 17,
 }

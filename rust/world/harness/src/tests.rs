@@ -1,5 +1,6 @@
 //! The example of document 01, the order among refusals, and that a refused call changes nothing.
 
+mod holds;
 mod rewriting;
 mod roles;
 mod screens;
@@ -178,7 +179,7 @@ fn who_left_is_held_by_nobody() {
 fn a_tuning_is_any_number() {
     let mut world = World::fresh();
     assert_eq!(world.tune(-1, 5), Err(Refusal::TuningIndex));
-    assert_eq!(world.tune(18, 5), Err(Refusal::TuningIndex));
+    assert_eq!(world.tune(19, 5), Err(Refusal::TuningIndex));
     assert_eq!(world.tunings, ORDINARY);
     assert_eq!(world.tune(17, i32::MIN), Ok(()));
     assert_eq!(world.tunings[17], i32::MIN);

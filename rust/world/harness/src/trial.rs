@@ -9,7 +9,7 @@ use crate::call::Call;
 use crate::published::Published;
 use crate::refusal::Refusal;
 use crate::slot::SEATS;
-use crate::tunings::TUNINGS;
+use crate::tunings::{HOOK_HOLD, TUNINGS, check_tuning};
 use crate::world::{World, check_map};
 use libtw2_gamenet::snap_obj::{CharacterCore, PlayerInput};
 use original::{State, vec2};
@@ -82,6 +82,9 @@ impl Trial {
         let counts = 1..=MOST_TUNINGS;
         Refusal::Trial.when(!counts.contains(&self.tunings.len()))?;
         Refusal::Trial.when(!(0..=MOST_STEPS).contains(&self.steps))?;
+        for tunings in &self.tunings {
+            check_tuning(HOOK_HOLD, tunings[HOOK_HOLD])?;
+        }
         let mut world = World::fresh();
         for &Player { id, place, .. } in &self.players {
             world.join(map, id, place.0, place.1)?;

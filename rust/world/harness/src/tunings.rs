@@ -1,13 +1,36 @@
-//! The eighteen tunings, in hundredths.
+//! The nineteen tunings: those of libtw2 in hundredths, and change request 13's hold behind them.
 
+use crate::refusal::Refusal;
 use libtw2_gamenet::msg::game::{SvTuneParams, TuneParam};
+use original::MAX_HOOK_GRAB_TIME;
 
-pub const TUNINGS: usize = 18;
+pub const TUNINGS: usize = 19;
+
+/// In whole steps. A world may hold for no longer than libtw2, and is fresh as libtw2 is.
+const SHORTEST_HOLD: i32 = 1;
+const LONGEST_HOLD: i32 = MAX_HOOK_GRAB_TIME as i32;
 
 /// Those of the game.
 pub const ORDINARY: [i32; TUNINGS] = [
-    1000, 200, 50, 1320, 1200, 500, 150, 95, 38000, 8000, 300, 1500, 50, 55000, 200_000, 140, 100,
+    1000,
+    200,
+    50,
+    1320,
+    1200,
+    500,
+    150,
+    95,
+    38000,
+    8000,
+    300,
+    1500,
+    50,
+    55000,
+    200_000,
+    140,
     100,
+    100,
+    LONGEST_HOLD,
 ];
 
 pub const GROUND_CONTROL_SPEED: usize = 0;
@@ -26,11 +49,28 @@ pub const RAMP_RANGE: usize = 14;
 pub const RAMP_CURVATURE: usize = 15;
 pub const PLAYER_COLLISION: usize = 16;
 pub const PLAYER_HOOKING: usize = 17;
+pub const HOOK_HOLD: usize = 18;
 
-/// As `tick` and `move_` take them.
+/// Whether the tuning at that place may be set to that number.
+pub fn check_tuning(place: usize, number: i32) -> Result<(), Refusal> {
+    let is_hold = (SHORTEST_HOLD..=LONGEST_HOLD).contains(&number);
+    Refusal::Hold.when(place == HOOK_HOLD && !is_hold)
+}
+
+/// The tuning at that place as it is read: a hold that no call has set is the nearest that one
+/// may set.
+pub fn read_tuning(tunings: &[i32; TUNINGS], place: usize) -> i32 {
+    let number = tunings[place];
+    if place == HOOK_HOLD {
+        return number.clamp(SHORTEST_HOLD, LONGEST_HOLD);
+    }
+    number
+}
+
+/// Those of libtw2, as `tick` and `move_` take them.
 pub fn tune_params(tunings: [i32; TUNINGS]) -> SvTuneParams {
     let mut values = tunings.into_iter().map(TuneParam);
-    let mut next = || values.next().expect("eighteen tunings");
+    let mut next = || values.next().expect("a tuning");
     SvTuneParams {
         ground_control_speed: next(),
         ground_control_accel: next(),

@@ -5,7 +5,7 @@ use crate::physics::Rules;
 use crate::published::{NOTHING, Published};
 use crate::refusal::Refusal;
 use crate::slot::{SEATS, Slot, Slots, vacate};
-use crate::tunings::{ORDINARY, TUNINGS, tune_params};
+use crate::tunings::{ORDINARY, TUNINGS, check_tuning, read_tuning};
 use libtw2_gamenet::snap_obj::{CharacterCore, PlayerInput};
 use original::{CHARACTER_SIZE, Character, Collision, State, vec2};
 use tile_map::Map;
@@ -61,14 +61,15 @@ impl World {
     }
 
     pub fn tune(&mut self, index: i32, hundredths: i32) -> Result<(), Refusal> {
-        self.tunings[tuning_place(index)?] = hundredths;
+        let place = tuning_place(index)?;
+        check_tuning(place, hundredths)?;
+        self.tunings[place] = hundredths;
         Ok(())
     }
 
     pub fn step(&mut self, map: &Map) -> Result<Published, Refusal> {
         check_map(map)?;
-        let tuning = &tune_params(self.tunings);
-        let rules = Rules { map, tuning };
+        let rules = Rules::new(map, self.tunings);
         let mut slots = self.slots;
         tick_all(rules, &mut slots)?;
         let mut published = move_all(rules, &mut slots)?;
@@ -93,7 +94,7 @@ impl World {
     }
 
     pub fn tuning(&self, index: i32) -> Result<i32, Refusal> {
-        Ok(self.tunings[tuning_place(index)?])
+        Ok(read_tuning(&self.tunings, tuning_place(index)?))
     }
 
     fn present(&mut self, id: i32) -> Result<&mut Slot, Refusal> {

@@ -64,7 +64,11 @@ fn accepted_and_refused_calls() {
     assert_third_call_is("5 17 -2147483648 0 0 0 0\n", 0);
     assert_third_call_is("2 63 0 0 0 0 0\n", 8);
     assert_third_call_is("2 64 0 0 0 0 0\n", 2);
-    assert_third_call_is("5 18 0 0 0 0 0\n", 3);
+    assert_third_call_is("5 19 0 0 0 0 0\n", 3);
+    assert_third_call_is("5 18 0 0 0 0 0\n", 16);
+    assert_third_call_is("5 18 1 0 0 0 0\n", 0);
+    assert_third_call_is("5 18 60 0 0 0 0\n", 0);
+    assert_third_call_is("5 18 61 0 0 0 0\n", 16);
     assert_third_call_is("1 0 100001 0 0 0 0\n", 4);
     assert_third_call_is("1 0 48 48 0 0 0\n", 7);
     assert_third_call_is("3 1 0 0 0 0 0\n", 8);

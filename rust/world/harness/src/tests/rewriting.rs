@@ -1,10 +1,11 @@
 //! What is written of a call is what it changes.
 
 use crate::World;
-use crate::draw::any_call;
+use crate::draw::any_call_or_hold;
 use crate::encoding::{decoded, encoded};
 use crate::rewriting::rewritten;
 use crate::slot::SEATS;
+use crate::tunings::TUNINGS;
 use crate::{Call, NOTHING};
 use libtw2_gamenet::snap_obj::PlayerInput;
 use reference::Xorshift;
@@ -23,7 +24,7 @@ fn the_numbers_follow_the_world() {
         let mut world = World::fresh();
         let mut numbers = encoded(&world);
         for _ in 0..CALLS {
-            let call = any_call(SEATS, &world, &map, &mut random);
+            let call = any_call_or_hold(SEATS, &world, &map, &mut random);
             if let Ok(told) = world.call(&map, call) {
                 numbers = rewritten(numbers, call, &world, &told);
             }
@@ -36,7 +37,10 @@ fn the_numbers_follow_the_world() {
 #[test]
 fn an_input_writes_five_numbers() {
     let mut numbers = encoded(&World::fresh());
-    numbers.iter_mut().skip(18).for_each(|number| *number = 7);
+    numbers
+        .iter_mut()
+        .skip(TUNINGS)
+        .for_each(|number| *number = 7);
     let mut world = decoded(&numbers);
     let input = PlayerInput {
         direction: -1,

@@ -1,7 +1,7 @@
 //! Lists of calls: the screen shows what the steps took, and a message comes when it is due
 //! and at no other time, by a count of its own along the calls.
 
-use crate::draw::{FIRST_SEATS, any_call, any_join, extreme_tuning};
+use crate::draw::{FIRST_SEATS, any_call_or_hold, any_join, extreme_tuning};
 use crate::sending::{Link, MOST_STEPS, Passed, Sent, encoded_screen, encoded_sender};
 use crate::tunings::{ORDINARY, TUNINGS};
 use crate::{Call, SEATS, World};
@@ -139,7 +139,7 @@ fn plan(number: u64) -> Plan {
 /// Mostly of ordinary play.
 fn drawn_call(world: &World, map: &Map, plan: &Plan, random: &mut Xorshift) -> Call {
     if !plan.wild || below(random, 6) > 0 {
-        return any_call(plan.seats, world, map, random);
+        return any_call_or_hold(plan.seats, world, map, random);
     }
     let place = below(random, TUNINGS);
     let hundredths = match below(random, 2) {

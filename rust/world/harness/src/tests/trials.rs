@@ -3,8 +3,8 @@
 use super::{NO_SEAT, open, spiked, walled};
 use crate::trial::{Nearest, Player, ROW_NUMBERS, Run, Trial, lent_trial};
 use crate::tunings::{
-    AIR_CONTROL_ACCEL, AIR_CONTROL_SPEED, GRAVITY, GROUND_CONTROL_SPEED, ORDINARY, RAMP_CURVATURE,
-    RAMP_RANGE, RAMP_START, TUNINGS,
+    AIR_CONTROL_ACCEL, AIR_CONTROL_SPEED, GRAVITY, GROUND_CONTROL_SPEED, HOOK_HOLD, ORDINARY,
+    RAMP_CURVATURE, RAMP_RANGE, RAMP_START, TUNINGS,
 };
 use crate::{Refusal, SEATS};
 use tile_map::Map;
@@ -172,6 +172,34 @@ fn refusals_in_their_order() {
         joined(&[(5, 48), (3, 48), (-1, 48)]),
         Some(Refusal::Present)
     );
+}
+
+/// After the counts and before the joins, whichever tuning has it; else it changes nothing, since
+/// nobody hooks.
+#[test]
+fn holds_of_tunings() {
+    let held = |holds: &[i32]| Trial {
+        players: vec![player(3, (48, 49), (2, 1))],
+        tunings: holds
+            .iter()
+            .map(|&hold| tuned(&[(HOOK_HOLD, hold)]))
+            .collect(),
+        steps: 20,
+    };
+    let runs = held(&[1, 59, 60]).told(&walled()).expect("a trial");
+    assert!(runs.iter().all(|run| *run == runs[0]));
+    for bad in [0, 61, -1, 6000, i32::MIN, i32::MAX] {
+        let trial = held(&[60, bad, 1]);
+        assert_eq!(trial.told(&walled()), Err(Refusal::Hold));
+        let mut refused_join = trial.clone();
+        refused_join
+            .players
+            .insert(0, player(NO_SEAT, (0, 0), (0, 0)));
+        assert_eq!(refused_join.told(&walled()), Err(Refusal::Hold));
+        let steps = -1;
+        let bad_steps = Trial { steps, ..trial };
+        assert_eq!(bad_steps.told(&walled()), Err(Refusal::Trial));
+    }
 }
 
 /// The second player's numbers stand behind those of the seats below it.
