@@ -35,16 +35,18 @@ ghost use Prim.Native.Nat.{_<_};
 ghost use Rattle.test_physics.specs.Scene.{scene};
 
 // The length of a line.
-const LINE: usize = 2566;
+const LINE: usize = 2575;
 
 // Where the words of a scene begin.
 const ID: usize = 0;
 
 const TUNING: usize = 1;
 
-const INPUT: usize = 19;
+const INPUT: usize = TUNING + TUNINGS;
 
-const SLOTS: usize = 24;
+const INPUT_WORDS: usize = 5;
+
+const SLOTS: usize = INPUT + INPUT_WORDS;
 
 const SLOT_WORDS: usize = 13;
 

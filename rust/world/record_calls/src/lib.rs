@@ -1,6 +1,7 @@
 //! Sequences of calls on a world, with the answers of document 01's world over libtw2.
 
 pub mod digest;
+mod holds;
 mod hooks;
 pub mod inputs;
 mod leavers;
@@ -17,6 +18,7 @@ mod steering;
 mod tests;
 mod too_far;
 
+pub use holds::hold_sequences;
 pub use seats::seat_sequences;
 pub use sequence::{Line, Sequence, line_text, told_map};
 pub use spikes::spike_sequences;
@@ -29,6 +31,7 @@ pub fn all_sequences() -> Vec<Sequence> {
     sequences.extend(marks::mark_sequences());
     sequences.push(leavers::held_by_several());
     sequences.extend(spike_sequences());
+    sequences.extend(hold_sequences());
     sequences.extend(seat_sequences());
     sequences
 }

@@ -3,8 +3,9 @@
 use crate::inputs::{hook, walk};
 use crate::maps::all;
 use crate::sequence::Sequence;
-use harness::draw::{FIRST_SEATS, any_join, extreme_tuning, input_at_somebody, present_id};
-use harness::tunings::TUNINGS;
+use harness::draw::{
+    FIRST_SEATS, FIRST_TUNINGS, any_join, extreme_tuning, input_at_somebody, present_id,
+};
 use libtw2_gamenet::snap_obj::PlayerInput;
 use reference::Xorshift;
 use tile_map::draw::pick;
@@ -17,7 +18,7 @@ const RANDOM: usize = 20;
 
 pub fn limit_sequences(random: &mut Xorshift) -> Vec<Sequence> {
     let mut sequences = Vec::new();
-    for index in 0..TUNINGS {
+    for index in 0..FIRST_TUNINGS {
         sequences.extend(EXTREMES.map(|hundredths| one_tuning(index, hundredths)));
     }
     let maps = all(random);
@@ -46,7 +47,7 @@ fn all_tunings(mut sequence: Sequence, random: &mut Xorshift) -> Sequence {
         let call = any_join(FIRST_SEATS, &sequence.map, random);
         sequence.call(call);
     }
-    for index in 0..TUNINGS {
+    for index in 0..FIRST_TUNINGS {
         sequence = sequence.tuned(index, extreme_tuning(index, random));
     }
     for _ in 0..6 {

@@ -3,6 +3,7 @@
 use crate::inputs::{hook, walk};
 use crate::maps::{corridor, drawn};
 use crate::sequence::Sequence;
+use harness::tunings::TUNINGS;
 use harness::{Call, SEATS};
 use tile_map::Map;
 use tile_map::maps::{open, room};
@@ -17,6 +18,9 @@ const FAR: i32 = 100_001;
 
 /// One more than the last id.
 const NO_SEAT: i32 = SEATS as i32;
+
+/// One more than the last index.
+const NO_TUNING: i32 = TUNINGS as i32;
 
 pub fn refusal_sequences() -> Vec<Sequence> {
     let mut sequences: Vec<Sequence> = [room(), open(), corridor()].iter().map(sides).collect();
@@ -96,7 +100,7 @@ fn ids() -> Sequence {
 
 fn tunings() -> Sequence {
     let mut sequence = Sequence::on(&open()).join(4, 0, 0);
-    for index in [-1, 18, 19, i32::MIN, i32::MAX, 0, 17] {
+    for index in [-1, NO_TUNING, NO_TUNING + 1, i32::MIN, i32::MAX, 0, 17] {
         for hundredths in [0, 7, -7, i32::MIN, i32::MAX] {
             sequence.call(Call::Tune { index, hundredths });
         }

@@ -1,7 +1,6 @@
 //! A tick or a move, the answer of the original, and both as a line of text.
 
 use crate::scene::{SCENE, Scene};
-use harness::tunings::tune_params;
 use harness::{Rules, Slot, Slots};
 use original::{State, input_numbers};
 use reference::Bits;
@@ -38,10 +37,7 @@ impl Case {
 
     pub fn answer(&self) -> Answer {
         let scene = &self.scene;
-        let rules = Rules {
-            map: &scene.map,
-            tuning: &tune_params(scene.tunings),
-        };
+        let rules = Rules::new(&scene.map, scene.tunings);
         let mut slots = scene.slots;
         let me = match self.op {
             Op::Tick => rules.ticked(&mut slots, scene.id),

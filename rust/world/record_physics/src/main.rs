@@ -3,6 +3,7 @@
 
 mod case;
 mod crowd;
+mod holds;
 mod hooks;
 mod meetings;
 mod moves;
@@ -28,5 +29,6 @@ fn all_cases() -> Vec<Case> {
     cases.extend(steering::steering_cases(&mut random));
     cases.extend(moves::move_cases(&mut random));
     cases.extend(seats::seat_cases());
+    cases.extend(holds::hold_cases());
     cases
 }

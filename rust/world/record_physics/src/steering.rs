@@ -3,8 +3,8 @@
 use crate::case::Case;
 use crate::crowd::crowd;
 use crate::scene::{SCENE, Scene, at};
-use harness::draw::extreme_tuning;
-use harness::tunings::{AIR_FRICTION, GRAVITY, TUNINGS};
+use harness::draw::{FIRST_TUNINGS, extreme_tuning};
+use harness::tunings::{AIR_FRICTION, GRAVITY};
 use libtw2_gamenet::snap_obj::PlayerInput;
 use original::{State, vec2};
 use reference::Xorshift;
@@ -123,7 +123,7 @@ fn velocities(random: &mut Xorshift) -> Vec<Scene> {
 
 fn one_tuning(random: &mut Xorshift) -> Vec<Scene> {
     let mut scenes = Vec::new();
-    for index in 0..TUNINGS {
+    for index in 0..FIRST_TUNINGS {
         for hundredths in EXTREME_TUNINGS {
             let count = 2 + below(random, 4);
             let map = all()[scenes.len() % 4].clone();
@@ -139,7 +139,7 @@ fn all_tunings(random: &mut Xorshift) -> Vec<Scene> {
         let map = all()[scenes.len() % 4].clone();
         let count = 2 + below(random, SCENE - 1);
         let mut scene = crowd(&map, count, random);
-        for index in 0..TUNINGS {
+        for index in 0..FIRST_TUNINGS {
             scene = scene.tuned(index, extreme_tuning(index, random));
         }
         scenes.push(scene);

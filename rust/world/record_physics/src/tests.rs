@@ -4,10 +4,10 @@ use crate::all_cases;
 use crate::case::{Case, Op};
 use crate::scene::SCENE;
 use harness::SEATS;
-use harness::tunings::PLAYER_COLLISION;
+use harness::tunings::{HOOK_HOLD, PLAYER_COLLISION};
 use original::{Hook, State};
 
-const LINE_LENGTH: usize = 2565;
+const LINE_LENGTH: usize = 2574;
 const HOOK: usize = 4;
 
 #[test]
@@ -79,6 +79,35 @@ fn ids_beyond_the_scene_occur() {
     for id in beyond.into_iter().chain([SEATS]) {
         let id = Some(id as u32);
         assert!(holds.contains(&[id, id]) && holds.contains(&[id, None]));
+    }
+}
+
+/// At the hold, one below it and one above; in the tick of the grab, and where it is no hold.
+#[test]
+fn holds_end() {
+    let tick = |state: State| match state.hook {
+        Hook::Grabbed(_, tick) => Some(tick),
+        _ => None,
+    };
+    let seen: Vec<(i32, [Option<u32>; 2])> = all_of(Op::Tick)
+        .iter()
+        .map(|case| {
+            let hold = case.scene.tunings[HOOK_HOLD];
+            (hold, [case.scene.me(), case.answer().me].map(tick))
+        })
+        .collect();
+    for hold in [1, 2, 30, 59, 60i32] {
+        let at = hold.cast_unsigned();
+        assert!(seen.contains(&(hold, [Some(at - 1), Some(at)])));
+        assert!(seen.contains(&(hold, [Some(at), None])));
+        assert!(seen.contains(&(hold, [Some(at + 1), None])));
+        assert!(seen.contains(&(hold, [None, Some(1)])));
+    }
+    for (no_hold, second) in [(0, None), (-1, None), (61, Some(2)), (i32::MAX, Some(2))] {
+        assert!(seen.contains(&(no_hold, [None, Some(1)])));
+        assert!(seen.contains(&(no_hold, [Some(0), Some(1)])));
+        assert!(seen.contains(&(no_hold, [Some(1), second])));
+        assert!(seen.contains(&(no_hold, [Some(60), None])));
     }
 }
 

@@ -4,7 +4,7 @@ use crate::asks::{input, join, leave, reads, step, tune};
 use crate::sequence::RoleSequence;
 use harness::SEATS;
 use harness::roles::{Ask, BOARD, REFEREE};
-use harness::tunings::{HOOK_FIRE_SPEED, HOOK_LENGTH, TUNINGS};
+use harness::tunings::{HOOK_FIRE_SPEED, HOOK_HOLD, HOOK_LENGTH, TUNINGS};
 use record_calls::Sequence;
 use record_calls::inputs::{hook, walk};
 use tile_map::maps::room;
@@ -51,6 +51,9 @@ fn faults(role: i32) -> RoleSequence {
     for index in [TUNINGS as i32, -1] {
         let asks = [tune(index, 7), Ask::Tuning { index }];
         sequence = sequence.all(role, asks);
+    }
+    for no_hold in [0, 61] {
+        sequence = sequence.ask(role, tune(HOOK_HOLD as i32, no_hold));
     }
     too_far(sequence, role)
 }

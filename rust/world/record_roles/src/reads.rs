@@ -1,10 +1,10 @@
 //! Reads of everybody who is there and who is not, and of every tuning.
 
-use crate::asks::reads;
+use crate::asks::{reads, tune};
 use crate::sequence::RoleSequence;
 use harness::SEATS;
 use harness::roles::{Ask, BOARD, REFEREE};
-use harness::tunings::{GRAVITY, TUNINGS};
+use harness::tunings::{GRAVITY, HOOK_HOLD, TUNINGS};
 use record_calls::Sequence;
 use record_calls::inputs::{hook, walk};
 use tile_map::maps::floor;
@@ -19,6 +19,7 @@ const INDEXES: [i32; 4] = [0, TUNINGS as i32 - 1, TUNINGS as i32, -1];
 pub fn read_sequences() -> Vec<RoleSequence> {
     let mut sequences: Vec<_> = [BOARD, REFEREE, 3].map(of_all).into();
     sequences.push(between_calls());
+    sequences.push(holds());
     sequences
 }
 
@@ -55,4 +56,29 @@ fn between_calls() -> RoleSequence {
             .ask(REFEREE, Ask::StoredInput { id: 7 });
     }
     sequence
+}
+
+/// Before and after a tune, whoever asks for it, and while somebody is held.
+fn holds() -> RoleSequence {
+    let start = Sequence::on(&floor())
+        .join(3, 60, 60)
+        .join(5, 160, 60)
+        .told(5, hook(-9, 0))
+        .steps(3);
+    let index = HOOK_HOLD as i32;
+    let reads = [Ask::Tuning { index }, Ask::Record { id: 5 }];
+    let mut sequence = RoleSequence::refereed(&start);
+    for (role, hold) in [
+        (BOARD, 1),
+        (5, 1),
+        (REFEREE, 4),
+        (REFEREE, 61),
+        (REFEREE, 0),
+    ] {
+        sequence = sequence.ask(role, tune(index, hold)).all(REFEREE, reads);
+    }
+    for _ in 0..2 {
+        sequence = sequence.steps(1).all(REFEREE, reads);
+    }
+    sequence.ask(BOARD, reads[0]).ask(5, reads[0])
 }

@@ -1,9 +1,9 @@
 //! Ordinary play, and play with tunings at their ends.
 
 use harness::draw::{
-    FIRST_SEATS, any_call, any_join, extreme_tuning, input_at_somebody, place, present_id,
+    FIRST_SEATS, FIRST_TUNINGS, any_call, any_join, extreme_tuning, input_at_somebody, place,
+    present_id,
 };
-use harness::tunings::TUNINGS;
 use record_calls::Sequence;
 use record_calls::maps::all;
 use reference::Xorshift;
@@ -59,7 +59,7 @@ fn extreme(map: &Map, random: &mut Xorshift) -> Sequence {
         sequence.call(any_join(FIRST_SEATS, map, random));
     }
     sequence = sequence.steps(1);
-    for index in 0..TUNINGS {
+    for index in 0..FIRST_TUNINGS {
         sequence = sequence.tuned(index, extreme_tuning(index, random));
     }
     for _ in 0..4 {

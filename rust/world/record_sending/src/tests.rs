@@ -12,8 +12,8 @@ use original::{CORE_NUMBERS, Hook, State, core_numbers};
 use std::collections::BTreeSet;
 
 const LINE_LENGTH: usize = 189;
-const MOST_LINES: usize = 2_300;
-const MOST_BYTES: usize = 450_000;
+const MOST_LINES: usize = 2_400;
+const MOST_BYTES: usize = 460_000;
 
 /// An accepted step, with what it passed along.
 struct Step<'a> {
@@ -80,7 +80,7 @@ fn every_call_gives_just_its_answers() {
         (2, &[0, 2, 8]),
         (3, &[0, 2, 8]),
         (4, &[0, 1, 9]),
-        (5, &[0, 3]),
+        (5, &[0, 3, 16]),
     ];
     let expected = answers
         .iter()
@@ -104,7 +104,7 @@ fn refused_calls_and_others_pass_nothing_along() {
             refused.insert(line.line.number());
         }
     });
-    assert_eq!(refused, [1, 2, 3, 4, 5, 7, 8, 9].into());
+    assert_eq!(refused, [1, 2, 3, 4, 5, 7, 8, 9, 16].into());
 }
 
 /// Of everybody who is still there, and both sides have the same copies.

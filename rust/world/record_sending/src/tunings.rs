@@ -2,7 +2,7 @@
 
 use harness::tunings::{
     AIR_FRICTION, GRAVITY, GROUND_CONTROL_SPEED, HOOK_DRAG_ACCEL, HOOK_DRAG_SPEED, HOOK_FIRE_SPEED,
-    HOOK_LENGTH, ORDINARY, PLAYER_COLLISION,
+    HOOK_HOLD, HOOK_LENGTH, ORDINARY, PLAYER_COLLISION, PLAYER_HOOKING,
 };
 use libtw2_gamenet::snap_obj::PlayerInput;
 use record_calls::Sequence;
@@ -17,6 +17,7 @@ pub fn tuning_sequences() -> Vec<Sequence> {
         before_anybody(),
     ];
     sequences.extend([0, i32::MAX].map(every_one));
+    sequences.extend([1, 3, 4, 60].map(hold_while_held));
     sequences
 }
 
@@ -48,6 +49,24 @@ fn while_held() -> Sequence {
         .tuned(HOOK_DRAG_SPEED, 100)
         .tuned(GRAVITY, -50)
         .steps(4)
+}
+
+/// The copy counts by the same hold, and is not dragged since player hooking is off. What is no
+/// hold is not passed along.
+fn hold_while_held(hold: i32) -> Sequence {
+    Sequence::on(&open())
+        .join(4, 0, 0)
+        .join(8, 100, 0)
+        .told(4, hook(9, 0))
+        .steps(1)
+        .tuned(PLAYER_HOOKING, 0)
+        .steps(2)
+        .tuned(HOOK_HOLD, 61)
+        .tuned(HOOK_HOLD, hold)
+        .steps(3)
+        .tuned(HOOK_HOLD, 0)
+        .tuned(HOOK_HOLD, 60)
+        .steps(2)
 }
 
 /// The same value again, with players in every state; and others that nobody meets.

@@ -1,6 +1,7 @@
 //! Trials, with the answers of the harness.
 
 mod case;
+mod holds;
 mod lengths;
 mod paths;
 pub mod playing;
@@ -19,5 +20,6 @@ pub fn all_cases() -> Vec<Case> {
     cases.extend(refusals::refused_cases());
     cases.extend(lengths::length_cases());
     cases.extend(playing::drawn_cases(&mut random));
+    cases.extend(holds::hold_cases());
     cases
 }

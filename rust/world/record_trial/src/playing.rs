@@ -3,9 +3,9 @@
 use crate::case::Case;
 use crate::tunings::Tunings;
 use harness::SEATS;
-use harness::draw::{any_id, extreme_tuning, is_clear, place};
+use harness::draw::{FIRST_TUNINGS, any_id, extreme_tuning, is_clear, place};
 use harness::trial::MOST_TUNINGS;
-use harness::tunings::{ORDINARY, TUNINGS};
+use harness::tunings::ORDINARY;
 use record_calls::maps::all;
 use reference::Xorshift;
 use tile_map::Map;
@@ -61,7 +61,7 @@ pub fn target(map: &Map, random: &mut Xorshift) -> [i32; 2] {
 fn tunings(random: &mut Xorshift) -> Tunings {
     let mut tunings = ORDINARY;
     for _ in 0..below(random, 5) {
-        let index = below(random, TUNINGS);
+        let index = below(random, FIRST_TUNINGS);
         let ordinary = ORDINARY[index];
         tunings[index] = match below(random, 5) {
             0 => extreme_tuning(index, random),

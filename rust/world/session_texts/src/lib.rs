@@ -19,7 +19,7 @@ pub use programs::output_of;
 pub use timed::timed;
 
 use Draw::{Bytes, Game};
-use record_calls::{Sequence, seat_sequences, spike_sequences};
+use record_calls::{Sequence, hold_sequences, seat_sequences, spike_sequences};
 use reference::Xorshift;
 use written::sequence_text;
 
@@ -67,6 +67,9 @@ const SEAT_GAMES: [(&str, Draw, usize); 4] = [
 /// Recorded as sequences.
 const SEATS: &str = "seats";
 
+/// Games with holds, and how many are recorded, behind those; more are recorded as sequences.
+const HOLD_GAMES: [(&str, Draw, usize); 1] = [("hook holds", Game(play::holds), 4)];
+
 /// Each fault is recorded so often.
 const FAULTS_RECORDED: usize = 3;
 
@@ -88,7 +91,7 @@ impl Draw {
 
 /// All that are drawn.
 fn games() -> Vec<(&'static str, Draw, usize)> {
-    [GAMES.as_slice(), &SEAT_GAMES].concat()
+    [GAMES.as_slice(), &SEAT_GAMES, &HOLD_GAMES].concat()
 }
 
 /// The text of that number. Games and faults take turns.
@@ -126,6 +129,8 @@ pub fn recorded() -> Vec<Text> {
     texts.extend(written(SPIKES, &spike_sequences()));
     texts.extend(written(SEATS, &seat_sequences()));
     texts.extend(recorded_of(&SEAT_GAMES, &mut random));
+    texts.extend(written(HOLD_GAMES[0].0, &hold_sequences()));
+    texts.extend(recorded_of(&HOLD_GAMES, &mut random));
     texts
 }
 

@@ -2,7 +2,8 @@
 
 use crate::maps::{end_map, spiked_map, walled_map};
 use harness::draw::{
-    FIRST_SEATS, any_call, any_id, extreme_tuning, input_at_somebody, place, present_id,
+    FIRST_SEATS, FIRST_TUNINGS, any_call, any_call_or_hold, any_id, extreme_tuning,
+    input_at_somebody, place, present_id,
 };
 use harness::tunings::{PLAYER_COLLISION, TUNINGS};
 use harness::{Call, SEATS};
@@ -13,6 +14,9 @@ use tile_map::maps::{open, room};
 
 /// One more than the last id.
 const NO_SEAT: i32 = SEATS as i32;
+
+/// One more than the last index.
+const NO_TUNING: i32 = TUNINGS as i32;
 
 const SHORT: usize = 70;
 const LONG: usize = 600;
@@ -101,12 +105,23 @@ pub fn any_seats(random: &mut Xorshift) -> Sequence {
     calls(SEATS, sequence, SHORT, random)
 }
 
+/// A few players who hook each other, under holds that are short, long or none.
+pub fn holds(random: &mut Xorshift) -> Sequence {
+    let count = 2 + below(random, 4);
+    let mut sequence = joined(Sequence::on(&walled_map(random)), count, random);
+    for _ in 0..SHORT {
+        let call = any_call_or_hold(FIRST_SEATS, &sequence.world, &sequence.map, random);
+        sequence.call(call);
+    }
+    sequence
+}
+
 /// Many tunings, or all, at their ends.
 pub fn extreme(random: &mut Xorshift) -> Sequence {
     let count = 2 + below(random, 5);
     let mut sequence = joined(Sequence::on(&walled_map(random)), count, random);
     let one_in = pick(random, &[1, 2, 6]);
-    for index in 0..TUNINGS {
+    for index in 0..FIRST_TUNINGS {
         if below(random, one_in) == 0 {
             sequence = sequence.tuned(index, extreme_tuning(index, random));
         }
@@ -165,7 +180,7 @@ fn call_at_limits(ids: &[i32], random: &mut Xorshift) -> Call {
         i32::MAX,
     ];
     let id = pick(random, &[ids, &[-1, i32::MIN, i32::MAX]].concat());
-    let index = pick(random, &[-1, 0, 16, 17, 18, i32::MIN, i32::MAX]);
+    let index = pick(random, &[-1, 0, 16, 17, NO_TUNING, i32::MIN, i32::MAX]);
     let mut end = || pick(random, &ENDS);
     let [a, b, c, d, e] = [end(), end(), end(), end(), end()];
     let (x, y) = (pick(random, &PLACES), pick(random, &PLACES));
