@@ -5,7 +5,7 @@
 //! ```
 
 use ponguriena::trial::game_tunings;
-use ponguriena::{Map, Nearest, Refusal, Trial};
+use ponguriena::{Map, Nearest, Refusal, Trial, Tuning};
 
 /// That of examples/race.txt: solid at `#`, hooks do not hold at `=`, deadly at `^`.
 const COURSE: [&str; 12] = [
@@ -30,8 +30,8 @@ const START_Y: i32 = 337;
 /// The last tile before the wall, behind the spikes.
 const TARGET: (i32, i32) = (34, 10);
 
-/// The tuning's index, and its hundredths; 50 is the game's own.
-const GRAVITY: usize = 12;
+/// The tuning that is tried, and its hundredths; 50 is the game's own.
+const GRAVITY: usize = Tuning::Gravity as usize;
 const GRAVITIES: [i32; 8] = [10, 20, 30, 40, 50, 60, 80, 100];
 
 const STEPS: i32 = 500;

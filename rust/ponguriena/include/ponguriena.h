@@ -36,6 +36,8 @@ enum {
                                      or the totals are not one for each tile */
     PONGURIENA_BAD_TRIAL = 15,    /* a trial with no tunings or more than 8, or with steps outside
                                      0 to 3,000 */
+    PONGURIENA_BAD_HOLD = 16,     /* a hold outside PONGURIENA_SHORTEST_HOLD to
+                                     PONGURIENA_LONGEST_HOLD */
     PONGURIENA_BAD_LENGTH = 17    /* a buffer of the wrong length; comes before the others but 13:
                                      without a world there is no call to decline */
 };
@@ -49,10 +51,36 @@ enum {
     PONGURIENA_BOARD = -2    /* may read records and floor marks, and nothing else */
 };
 
+/* The tunings by their indexes. All but the last are in hundredths, and may be any number. */
+enum {
+    PONGURIENA_TUNING_GROUND_CONTROL_SPEED = 0,
+    PONGURIENA_TUNING_GROUND_CONTROL_ACCEL = 1,
+    PONGURIENA_TUNING_GROUND_FRICTION = 2,
+    PONGURIENA_TUNING_GROUND_JUMP_IMPULSE = 3,
+    PONGURIENA_TUNING_AIR_JUMP_IMPULSE = 4,
+    PONGURIENA_TUNING_AIR_CONTROL_SPEED = 5,
+    PONGURIENA_TUNING_AIR_CONTROL_ACCEL = 6,
+    PONGURIENA_TUNING_AIR_FRICTION = 7,
+    PONGURIENA_TUNING_HOOK_LENGTH = 8,
+    PONGURIENA_TUNING_HOOK_FIRE_SPEED = 9,
+    PONGURIENA_TUNING_HOOK_DRAG_ACCEL = 10,
+    PONGURIENA_TUNING_HOOK_DRAG_SPEED = 11,
+    PONGURIENA_TUNING_GRAVITY = 12,
+    PONGURIENA_TUNING_VELRAMP_START = 13,
+    PONGURIENA_TUNING_VELRAMP_RANGE = 14,
+    PONGURIENA_TUNING_VELRAMP_CURVATURE = 15,
+    PONGURIENA_TUNING_PLAYER_COLLISION = 16, /* off at 0 */
+    PONGURIENA_TUNING_PLAYER_HOOKING = 17,   /* off at 0 */
+    PONGURIENA_TUNING_HOOK_HOLD = 18         /* for how many steps a hook holds a player */
+};
+
+/* The limits of the hold, in steps; the longest is that of a fresh world. */
+enum { PONGURIENA_SHORTEST_HOLD = 1, PONGURIENA_LONGEST_HOLD = 60 };
+
 /* Lengths, in numbers. */
 enum {
     PONGURIENA_SEATS = 64,                /* ids are 0 to 63 */
-    PONGURIENA_TUNINGS = 18,              /* each in hundredths */
+    PONGURIENA_TUNINGS = 19,              /* by their indexes */
     PONGURIENA_RECORD = 15,               /* tick, x, y, vel_x, vel_y, angle, direction, jumped,
                                              hooked_player, hook_state, hook_tick, hook_x, hook_y,
                                              hook_dx, hook_dy */
@@ -76,7 +104,8 @@ uint32_t ponguriena_unpack(const uint8_t *bytes, size_t bytes_length, int32_t *r
                            size_t record_length, size_t *used);
 
 /* The world: PONGURIENA_WORLD numbers that the caller keeps. Any numbers are taken for a world;
- * a call writes those that it changes and no other.
+ * a call writes those that it changes and no other. A hold outside its limits, which no call
+ * writes, stays where it is and counts as the nearest one.
  *
  * A map is width times height tiles row by row, each side 1 to 1,024. Tile 1 is solid, 3 is solid
  * and holds no hook, 2 is deadly, every other is open. A deadly tile is no floor and stops neither
@@ -98,9 +127,11 @@ uint32_t ponguriena_input(int32_t role, int32_t *world, size_t world_length, int
                           int32_t direction, int32_t target_x, int32_t target_y, int32_t jump,
                           int32_t hook);
 
-/* Sets a tuning; every number is taken. */
+/* Sets a tuning; every number is taken, but for a hold outside its limits: 16. A new hold alters
+ * nothing by itself: a hook that has held somebody for as long or longer is retracted in the next
+ * step in which its button is still held. */
 uint32_t ponguriena_tune(int32_t role, int32_t *world, size_t world_length, int32_t index,
-                         int32_t hundredths);
+                         int32_t value);
 
 /* Everybody present ticks, then moves; the records are PONGURIENA_RECORDS numbers. When they are
  * taken, whoever has a corner (14 from the middle in each coordinate) on a deadly tile is removed
@@ -128,9 +159,9 @@ uint32_t ponguriena_player_input(int32_t role, const int32_t *world, size_t worl
 uint32_t ponguriena_floor_mark(int32_t role, const int32_t *world, size_t world_length, int32_t id,
                                int32_t *mark);
 
-/* A tuning. */
+/* A tuning; a hold is told as it counts, so always within its limits. */
 uint32_t ponguriena_tuning(int32_t role, const int32_t *world, size_t world_length, int32_t index,
-                           int32_t *hundredths);
+                           int32_t *value);
 
 /* How could she get there? The longest list that is tried, and a way as numbers. */
 enum {
@@ -181,7 +212,7 @@ enum {
     PONGURIENA_PASSED_MESSAGE = 1, /* id, record, input */
     PONGURIENA_PASSED_REMOVAL = 2, /* id: by a deadly tile */
     PONGURIENA_PASSED_LEAVE = 3,   /* id */
-    PONGURIENA_PASSED_TUNE = 4     /* index, hundredths */
+    PONGURIENA_PASSED_TUNE = 4     /* index, value */
 };
 
 /* Nothing was sent yet: for a fresh world. The sender is PONGURIENA_SENDER numbers. */
@@ -198,7 +229,7 @@ uint32_t ponguriena_send_leave(int32_t role, int32_t *world, size_t world_length
 
 /* As ponguriena_tune; passed along also where it changes nothing. */
 uint32_t ponguriena_send_tune(int32_t role, int32_t *world, size_t world_length, int32_t *sender,
-                              size_t sender_length, int32_t index, int32_t hundredths,
+                              size_t sender_length, int32_t index, int32_t value,
                               int32_t *passed, size_t passed_length, size_t *count);
 
 /* As ponguriena_step. A mark is passed along, then the messages by rising id, then the removals. */
@@ -211,7 +242,8 @@ uint32_t ponguriena_send_step(int32_t role, int32_t *world, size_t world_length,
 
 /* The screen takes the first thing that is passed along; used gets how many numbers it has, and the
  * next begins behind them. Answers 0, 2, 3, or 17 also where the numbers begin with no whole
- * thing. Where the map is none a mark moves nobody. */
+ * thing. A hold is taken as any other tuning and counts as the nearest one. Where the map is none a
+ * mark moves nobody. */
 uint32_t ponguriena_receive(int32_t *screen, size_t screen_length, uint32_t width, uint32_t height,
                             const uint8_t *tiles, size_t tiles_length, const int32_t *passed,
                             size_t passed_length, size_t *used);
@@ -266,10 +298,10 @@ enum {
 };
 
 /* Joins are PONGURIENA_TRIAL_JOIN numbers each, made in their order; targets are as many times
- * PONGURIENA_TRIAL_TARGET, each clamped to the map; tunings are PONGURIENA_TUNINGS numbers each, of
- * which any are taken. The result gets PONGURIENA_TRIAL_ROW numbers for each tuning. Answers 0, 1,
- * 15, or 17; else the first join that is refused refuses the trial with its own number: 2, 4, 5 or
- * 7. */
+ * PONGURIENA_TRIAL_TARGET, each clamped to the map; tunings are PONGURIENA_TUNINGS numbers each. The
+ * result gets PONGURIENA_TRIAL_ROW numbers for each tuning. Answers 0, 1, 15, 16 where a tuning's
+ * hold is outside its limits, or 17; else the first join that is refused refuses the trial with its
+ * own number: 2, 4, 5 or 7. */
 uint32_t ponguriena_trial(uint32_t width, uint32_t height, const uint8_t *tiles,
                           size_t tiles_length, const int32_t *joins, size_t joins_length,
                           const int32_t *targets, size_t targets_length, const int32_t *tunings,

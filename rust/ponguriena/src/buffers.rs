@@ -3,10 +3,10 @@
 //! A world is [`WORLD_NUMBERS`] numbers: the tunings, then for each seat its
 //! presence, 1, its record, its input and its floor mark, or zeros where nobody is.
 //! Every such list of numbers is taken for a world: who is absent is as in a fresh one
-//! whatever stands there, a hook's tick below 0 counts as 0, and every floor mark but 0
-//! as true. A call writes the numbers that it changes and no other; a refused one leaves
-//! every buffer as it was. A buffer of another length is refused with
-//! [`Refusal::BadLength`].
+//! whatever stands there, a hook's tick below 0 counts as 0, every floor mark but 0 as true,
+//! and a [hold](crate::Tuning::HookHold) outside its limits as the nearest. A call writes the
+//! numbers that it changes and no other; a refused one leaves every buffer as it was. A buffer
+//! of another length is refused with [`Refusal::BadLength`].
 //!
 //! A call on a world names its role as a number, that of a [`Role`](crate::Role): -1 is the
 //! referee, -2 a board, and a seat is its id. Any other number may do nothing. What the role
@@ -37,8 +37,8 @@ use crate::walks::Map;
 /// less.
 pub const SEATS: usize = 64;
 
-/// The tunings of a world, each in hundredths.
-pub const TUNINGS: usize = 18;
+/// The tunings of a world, by the indexes of [`Tuning`](crate::Tuning).
+pub const TUNINGS: usize = 19;
 
 /// A seat's presence, record, input and floor mark.
 pub const SEAT_NUMBERS: usize = 1 + CORE_NUMBERS + INPUT_NUMBERS + 1;
@@ -87,13 +87,7 @@ unsafe extern "C" {
         jump: i32,
         hook: i32,
     ) -> u32;
-    fn ponguriena_tune(
-        role: i32,
-        world: *mut i32,
-        length: usize,
-        index: i32,
-        hundredths: i32,
-    ) -> u32;
+    fn ponguriena_tune(role: i32, world: *mut i32, length: usize, index: i32, value: i32) -> u32;
     fn ponguriena_step(
         role: i32,
         world: *mut i32,
@@ -129,7 +123,7 @@ unsafe extern "C" {
         world: *const i32,
         length: usize,
         index: i32,
-        hundredths: &mut i32,
+        value: &mut i32,
     ) -> u32;
     fn ponguriena_floor_mark(
         role: i32,
@@ -216,10 +210,9 @@ pub fn input(role: i32, world: &mut [i32], id: i32, input: PlayerInput) -> Resul
 
 /// Sets a tuning.
 #[inline]
-pub fn tune(role: i32, world: &mut [i32], index: i32, hundredths: i32) -> Result<(), Refusal> {
+pub fn tune(role: i32, world: &mut [i32], index: i32, value: i32) -> Result<(), Refusal> {
     // SAFETY: the pointer and the length are those of one slice.
-    let answer =
-        unsafe { ponguriena_tune(role, world.as_mut_ptr(), world.len(), index, hundredths) };
+    let answer = unsafe { ponguriena_tune(role, world.as_mut_ptr(), world.len(), index, value) };
     Refusal::of_answer(answer)
 }
 
@@ -281,11 +274,11 @@ pub fn player_input(role: i32, world: &[i32], id: i32, input: &mut [i32]) -> Res
     })
 }
 
-/// Writes a tuning.
+/// Writes a tuning; a hold as it counts.
 #[inline]
-pub fn tuning(role: i32, world: &[i32], index: i32, hundredths: &mut i32) -> Result<(), Refusal> {
+pub fn tuning(role: i32, world: &[i32], index: i32, value: &mut i32) -> Result<(), Refusal> {
     // SAFETY: the pointer and the length are those of one slice.
-    let answer = unsafe { ponguriena_tuning(role, world.as_ptr(), world.len(), index, hundredths) };
+    let answer = unsafe { ponguriena_tuning(role, world.as_ptr(), world.len(), index, value) };
     Refusal::of_answer(answer)
 }
 

@@ -23,6 +23,7 @@ pub mod send_buffers;
 mod sender;
 mod snap_obj;
 pub mod trial;
+mod tuning;
 mod walks;
 mod world;
 
@@ -41,5 +42,6 @@ pub use search::{Buttons, Way};
 pub use sender::Sender;
 pub use snap_obj::{CORE_NUMBERS, CharacterCore, INPUT_NUMBERS, PlayerInput};
 pub use trial::{Nearest, Run, Trial};
+pub use tuning::{LONGEST_HOLD, SHORTEST_HOLD, Tuning};
 pub use walks::{Map, Tile, check_line, check_point, move_box};
 pub use world::{Records, RecordsIter, World};

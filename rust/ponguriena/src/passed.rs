@@ -20,7 +20,7 @@ pub enum Passed {
     Removal { id: i32 },
     /// This id has left.
     Leave { id: i32 },
-    /// A tuning was set.
+    /// A tuning was set, in hundredths; [`Tuning::HookHold`](crate::Tuning::HookHold) in steps.
     Tune { index: i32, hundredths: i32 },
 }
 

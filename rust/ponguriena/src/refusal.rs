@@ -37,6 +37,9 @@ pub enum Refusal {
     BadArea,
     /// 15: a trial with no tunings or more than eight, or with steps outside 0 to 3,000.
     BadTrial,
+    /// 16: a [hold](crate::Tuning::HookHold) outside [`SHORTEST_HOLD`](crate::SHORTEST_HOLD) to
+    /// [`LONGEST_HOLD`](crate::LONGEST_HOLD), of a tune or of a trial's tunings.
+    BadHold,
     /// 17: a buffer of the wrong length. Comes before all others but 13.
     BadLength,
     /// A number that has no name here. No function of this library gives one: who
@@ -64,6 +67,7 @@ impl Refusal {
             13 => Refusal::NotAllowed,
             14 => Refusal::BadArea,
             15 => Refusal::BadTrial,
+            16 => Refusal::BadHold,
             17 => Refusal::BadLength,
             other => Refusal::Unnamed(other),
         })
@@ -87,6 +91,7 @@ impl Refusal {
             Refusal::NotAllowed => 13,
             Refusal::BadArea => 14,
             Refusal::BadTrial => 15,
+            Refusal::BadHold => 16,
             Refusal::BadLength => 17,
             Refusal::Unnamed(number) => number,
         }
@@ -111,6 +116,7 @@ impl Display for Refusal {
             Refusal::NotAllowed => "the role does not allow it",
             Refusal::BadArea => "the area is not one of the map, or its totals do not fit",
             Refusal::BadTrial => "the trial has too few or too many tunings or steps",
+            Refusal::BadHold => "the hold has too few or too many steps",
             Refusal::BadLength => "a buffer has the wrong length",
             Refusal::Unnamed(_) => "refused",
         };

@@ -10,7 +10,7 @@
 //!
 //! What is passed along is numbers too, one thing behind another, and each begins with
 //! its kind: a mark is `0`, a message `1`, its id, its record and its input, a removal `2`
-//! and its id, a leave `3` and its id, a tuning `4`, its index and its hundredths. A call
+//! and its id, a leave `3` and its id, a tuning `4`, its index and its value. A call
 //! answers how many numbers it has written; those behind them stay as they were.
 //!
 //! A call on a world names its role as in [`buffers`](crate::buffers), and the calls here are
@@ -82,7 +82,7 @@ unsafe extern "C" {
         sender: *mut i32,
         sender_length: usize,
         index: i32,
-        hundredths: i32,
+        value: i32,
         passed: *mut i32,
         passed_length: usize,
         count: &mut usize,
@@ -185,7 +185,7 @@ pub fn tune(
     world: &mut [i32],
     sender: &mut [i32],
     index: i32,
-    hundredths: i32,
+    value: i32,
     passed: &mut [i32],
 ) -> Result<usize, Refusal> {
     let mut count = 0;
@@ -198,7 +198,7 @@ pub fn tune(
             sender.as_mut_ptr(),
             sender.len(),
             index,
-            hundredths,
+            value,
             passed.as_mut_ptr(),
             passed.len(),
             &mut count,

@@ -79,10 +79,10 @@ impl Sender {
         role: Role,
         world: &mut World,
         index: i32,
-        hundredths: i32,
+        value: i32,
     ) -> Result<PassedAlong, Refusal> {
         let (role, world, sender) = (role.number(), world.numbers_mut(), &mut self.numbers);
-        PassedAlong::by(|passed| send_buffers::tune(role, world, sender, index, hundredths, passed))
+        PassedAlong::by(|passed| send_buffers::tune(role, world, sender, index, value, passed))
     }
 
     /// [`World::step`], passed along: a mark, the messages by rising id, the removals.

@@ -53,8 +53,9 @@ unsafe extern "C" {
 ///
 /// # Errors
 ///
-/// [`Refusal::BadLength`], then [`Refusal::BadMap`], then [`Refusal::BadTrial`]; then what the
-/// first join is refused with that is.
+/// [`Refusal::BadLength`], then [`Refusal::BadMap`], then [`Refusal::BadTrial`], then
+/// [`Refusal::BadHold`] where any of the holds is outside its limits; then what the first join is
+/// refused with that is.
 #[inline]
 pub fn run(
     map: &Map<'_>,
@@ -89,11 +90,11 @@ pub fn run(
 ///
 /// ```
 /// use ponguriena::trial::game_tunings;
-/// use ponguriena::{Map, Refusal, Trial};
+/// use ponguriena::{Map, Refusal, Trial, Tuning};
 ///
 /// let map = Map { width: 4, height: 2, tiles: &[0, 0, 0, 0, 1, 1, 1, 1] };
 /// let mut slow = game_tunings();
-/// slow[0] = 200;
+/// slow[Tuning::GroundControlSpeed as usize] = 200;
 /// let trial = Trial::new()
 ///     .player(7, (20, 17), (3, 0))
 ///     .tuning(game_tunings())
@@ -146,14 +147,15 @@ impl Trial {
         self
     }
 
-    /// One more tuning is tried: each setting in hundredths, by its index.
-    pub fn tuning(mut self, hundredths: [i32; TUNINGS]) -> Trial {
-        self.tunings.extend(hundredths);
+    /// One more tuning is tried: each setting by its index, that of a [`Tuning`](crate::Tuning).
+    pub fn tuning(mut self, settings: [i32; TUNINGS]) -> Trial {
+        self.tunings.extend(settings);
         self
     }
 
     /// A run of so many steps for each tuning. Refused: a map at fault, then
-    /// [`Refusal::BadTrial`], then the first join that [`World::join`] would refuse.
+    /// [`Refusal::BadTrial`], then [`Refusal::BadHold`], then the first join that [`World::join`]
+    /// would refuse.
     pub fn run(&self, map: &Map<'_>, steps: i32) -> Result<Vec<Run>, Refusal> {
         let mut result = vec![0; self.tunings.len() / TUNINGS * ROW_NUMBERS];
         let (joins, targets, tunings) = (&self.joins, &self.targets, &self.tunings);

@@ -98,9 +98,21 @@ impl World {
         buffers::input(role.number(), &mut self.numbers, id, input)
     }
 
-    /// Sets a tuning, in hundredths; every number is taken.
-    pub fn tune(&mut self, role: Role, index: i32, hundredths: i32) -> Result<(), Refusal> {
-        buffers::tune(role.number(), &mut self.numbers, index, hundredths)
+    /// Sets the [`Tuning`](crate::Tuning) of this index; every number is taken but for a hold
+    /// outside its limits.
+    ///
+    /// ```
+    /// # use ponguriena::{Refusal, Role, Tuning, World};
+    /// # let mut world = World::fresh();
+    /// world.tune(Role::Referee, Tuning::Gravity as i32, -25)?;
+    /// world.tune(Role::Referee, Tuning::HookHold as i32, 30)?;
+    /// let no_hold = world.tune(Role::Referee, Tuning::HookHold as i32, 61);
+    /// assert_eq!(no_hold, Err(Refusal::BadHold));
+    /// assert_eq!(world.tuning(Role::Referee, Tuning::HookHold as i32), Ok(30));
+    /// # Ok::<(), Refusal>(())
+    /// ```
+    pub fn tune(&mut self, role: Role, index: i32, value: i32) -> Result<(), Refusal> {
+        buffers::tune(role.number(), &mut self.numbers, index, value)
     }
 
     /// Everybody present ticks by rising id; then each moves and is quantized. Their
@@ -187,11 +199,12 @@ impl World {
         Ok(Way::of_numbers(numbers))
     }
 
-    /// A tuning, in hundredths.
+    /// The [`Tuning`](crate::Tuning) of this index; a hold as it counts, so always within its
+    /// limits.
     pub fn tuning(&self, role: Role, index: i32) -> Result<i32, Refusal> {
-        let mut hundredths = 0;
-        buffers::tuning(role.number(), &self.numbers, index, &mut hundredths)?;
-        Ok(hundredths)
+        let mut value = 0;
+        buffers::tuning(role.number(), &self.numbers, index, &mut value)?;
+        Ok(value)
     }
 }
 

@@ -5,7 +5,7 @@ mod common;
 use common::{HOOK, NO_MAP, OPEN};
 use ponguriena::Role::Referee;
 use ponguriena::buffers::{self, WAY_NUMBERS, WORLD_NUMBERS};
-use ponguriena::{Map, Refusal, Role, SEATS, World};
+use ponguriena::{Map, Refusal, Role, SEATS, Tuning, World};
 
 const FLOOR: Map = Map {
     width: 3,
@@ -20,13 +20,23 @@ const SPIKED: Map = Map {
     tiles: &[0, 0, 2, 0, 0, 2, 0, 0, 2],
 };
 
-const GRAVITY: i32 = 12;
+const GRAVITY: i32 = Tuning::Gravity as i32;
 
 /// Start, range and curvature: who walks is too fast for a step.
-const RAMP: [(i32, i32); 3] = [(13, 0), (14, 1), (15, 1)];
+const RAMP: [(Tuning, i32); 3] = [
+    (Tuning::VelrampStart, 0),
+    (Tuning::VelrampRange, 1),
+    (Tuning::VelrampCurvature, 1),
+];
 
 /// Without gravity: the jump in the air, control and curvature, so that all ways are as fast.
-const FAST: [(i32, i32); 5] = [(GRAVITY, 0), (4, 1300), (5, 1300), (6, 1300), (15, 100)];
+const FAST: [(Tuning, i32); 5] = [
+    (Tuning::Gravity, 0),
+    (Tuning::AirJumpImpulse, 1300),
+    (Tuning::AirControlSpeed, 1300),
+    (Tuning::AirControlAccel, 1300),
+    (Tuning::VelrampCurvature, 100),
+];
 
 /// Nobody writes this.
 const UNWRITTEN: i32 = -77;
@@ -77,8 +87,8 @@ fn direction_comes_before_jump() -> Result<(), Refusal> {
     };
     let mut world = World::fresh();
     world.join(Referee, &corner, 7, 46, 46)?;
-    for (index, hundredths) in FAST {
-        world.tune(Referee, index, hundredths)?;
+    for (tuning, hundredths) in FAST {
+        world.tune(Referee, tuning as i32, hundredths)?;
     }
     assert_eq!(way(&world, &corner, 7, (46, 46))?, [[-1, 1]]);
     assert_eq!(way(&world, &corner, 7, (33, 46))?, [[-1, 0]]);
@@ -122,8 +132,8 @@ fn spikes() -> Result<(), Refusal> {
 #[test]
 fn steps_that_are_refused() -> Result<(), Refusal> {
     let mut world = standing()?;
-    for (index, hundredths) in RAMP {
-        world.tune(Referee, index, hundredths)?;
+    for (tuning, hundredths) in RAMP {
+        world.tune(Referee, tuning as i32, hundredths)?;
     }
     assert_eq!(way(&world, &FLOOR, 7, (40, 49))?, [[0, 0]]);
     assert_eq!(way(&world, &FLOOR, 7, (42, 49))?, [[0; 2]; 0]);

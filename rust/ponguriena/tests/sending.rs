@@ -6,7 +6,7 @@ mod common;
 use common::{HOOK, NO_MAP, OPEN};
 use ponguriena::Role::Referee;
 use ponguriena::{
-    CharacterCore, Map, Passed, PassedAlong, Records, Refusal, SEATS, Screen, Sender, World,
+    CharacterCore, Map, Passed, PassedAlong, Records, Refusal, SEATS, Screen, Sender, Tuning, World,
 };
 
 const FLOOR: Map = Map {
@@ -22,7 +22,8 @@ const SPIKED: Map = Map {
     tiles: &[0, 0, 2, 0, 0, 2, 0, 0, 2],
 };
 
-const GRAVITY: i32 = 12;
+const GRAVITY: i32 = Tuning::Gravity as i32;
+const HOLD: i32 = Tuning::HookHold as i32;
 
 /// A server and a screen.
 struct Link {
@@ -174,7 +175,8 @@ fn refused_calls_change_nothing() -> Result<(), Refusal> {
     assert_eq!(by.leave(Referee, now, no_seat), Err(Refusal::BadId));
     assert_eq!(by.leave(Referee, now, -1), Err(Refusal::BadId));
     assert_eq!(by.leave(Referee, now, 3), Err(Refusal::Absent));
-    assert_eq!(by.tune(Referee, now, 18, 5), Err(Refusal::BadTuning));
+    assert_eq!(by.tune(Referee, now, HOLD + 1, 0), Err(Refusal::BadTuning));
+    assert_eq!(by.tune(Referee, now, HOLD, 0), Err(Refusal::BadHold));
     assert_eq!(by.tune(Referee, now, -1, 5), Err(Refusal::BadTuning));
     assert_eq!(by.step(Referee, now, &NO_MAP), Err(Refusal::BadMap));
     assert_eq!((link.world, link.sender), (world, sender));
@@ -203,7 +205,7 @@ fn a_screen_takes_all_or_nothing() -> Result<(), Refusal> {
         (&[1, 2, 0, 0], Refusal::BadLength),
         (&[2, no_seat], Refusal::BadId),
         (&[3, -1], Refusal::BadId),
-        (&[4, 18, 0], Refusal::BadTuning),
+        (&[4, HOLD + 1, 0], Refusal::BadTuning),
     ];
     for (fault, refusal) in faults {
         let numbers = [&start, fault].concat();

@@ -2,7 +2,7 @@
 
 use ponguriena::buffers::TUNINGS;
 use ponguriena::trial::{self, MOST_STEPS, MOST_TUNINGS, ROW_NUMBERS, game_tunings};
-use ponguriena::{Map, Nearest, Refusal, Run, SEATS, Trial};
+use ponguriena::{Map, Nearest, Refusal, Run, SEATS, Trial, Tuning};
 
 /// The ground begins at y = 64.
 const FLOOR: Map = Map {
@@ -28,13 +28,13 @@ const SPIKED: Map = Map {
 /// Nobody writes this.
 const UNWRITTEN: i32 = -77;
 
-const GROUND_CONTROL_SPEED: usize = 0;
-const AIR_CONTROL_SPEED: usize = 5;
-const AIR_CONTROL_ACCEL: usize = 6;
-const GRAVITY: usize = 12;
-const RAMP_START: usize = 13;
-const RAMP_RANGE: usize = 14;
-const RAMP_CURVATURE: usize = 15;
+const GROUND_CONTROL_SPEED: usize = Tuning::GroundControlSpeed as usize;
+const AIR_CONTROL_SPEED: usize = Tuning::AirControlSpeed as usize;
+const AIR_CONTROL_ACCEL: usize = Tuning::AirControlAccel as usize;
+const GRAVITY: usize = Tuning::Gravity as usize;
+const RAMP_START: usize = Tuning::VelrampStart as usize;
+const RAMP_RANGE: usize = Tuning::VelrampRange as usize;
+const RAMP_CURVATURE: usize = Tuning::VelrampCurvature as usize;
 
 fn with(changes: &[(usize, i32)]) -> [i32; TUNINGS] {
     let mut tunings = game_tunings();

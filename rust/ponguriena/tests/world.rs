@@ -4,7 +4,8 @@ mod common;
 
 use common::{HOOK, NO_MAP, OPEN};
 use ponguriena::Role::Referee;
-use ponguriena::{CharacterCore, Map, PlayerInput, Refusal, SEATS, World};
+use ponguriena::buffers::TUNINGS;
+use ponguriena::{CharacterCore, Map, PlayerInput, Refusal, SEATS, Tuning, World};
 
 /// Its right column is solid.
 const WALLED: Map = Map {
@@ -26,8 +27,8 @@ const SPIKED: Map = Map {
     tiles: &[0, 0, 2, 0, 0, 2, 0, 0, 2],
 };
 
-const HOOK_LENGTH: i32 = 8;
-const HOOK_FIRE_SPEED: i32 = 9;
+const HOOK_LENGTH: i32 = Tuning::HookLength as i32;
+const HOOK_FIRE_SPEED: i32 = Tuning::HookFireSpeed as i32;
 
 #[test]
 fn the_example_of_document_01() -> Result<(), Refusal> {
@@ -209,7 +210,7 @@ fn a_tuning_is_any_number() {
     assert_eq!(world.tuning(Referee, HOOK_LENGTH), Ok(38000));
     assert_eq!(world.tune(Referee, HOOK_LENGTH, i32::MIN), Ok(()));
     assert_eq!(world.tuning(Referee, HOOK_LENGTH), Ok(i32::MIN));
-    for index in [-1, 18] {
+    for index in [-1, TUNINGS as i32] {
         assert_eq!(world.tune(Referee, index, 0), Err(Refusal::BadTuning));
         assert_eq!(world.tuning(Referee, index), Err(Refusal::BadTuning));
     }

@@ -11,7 +11,7 @@
 enum { REFEREE = PONGURIENA_REFEREE };
 
 /* The last id, and one that no seat has. */
-enum { LAST = PONGURIENA_SEATS - 1, NO_SEAT = PONGURIENA_SEATS };
+enum { LAST = PONGURIENA_SEATS - 1, NO_SEAT = PONGURIENA_SEATS, NO_TUNING = PONGURIENA_TUNINGS };
 
 typedef struct {
     uint32_t width, height;
@@ -79,8 +79,8 @@ static uint32_t input(int32_t id, const int32_t *n) {
     return ponguriena_input(REFEREE, world, LENGTH(world), id, n[0], n[1], n[2], n[3], n[4]);
 }
 
-static uint32_t tune(int32_t index, int32_t hundredths) {
-    return ponguriena_tune(REFEREE, world, LENGTH(world), index, hundredths);
+static uint32_t tune(int32_t index, int32_t value) {
+    return ponguriena_tune(REFEREE, world, LENGTH(world), index, value);
 }
 
 static uint32_t send_step(Map map) {
@@ -95,9 +95,9 @@ static uint32_t send_leave(int32_t id) {
                                  LENGTH(passed), &passed_count);
 }
 
-static uint32_t send_tune(int32_t index, int32_t hundredths) {
+static uint32_t send_tune(int32_t index, int32_t value) {
     return ponguriena_send_tune(REFEREE, world, LENGTH(world), sender, LENGTH(sender), index,
-                                hundredths, passed, LENGTH(passed), &passed_count);
+                                value, passed, LENGTH(passed), &passed_count);
 }
 
 static uint32_t shown(int32_t id, int32_t *record) {
@@ -148,18 +148,51 @@ static void an_input(void) {
     same_numbers("player_input", read, told, LENGTH(told));
 }
 
+static uint32_t tuning(int32_t index, int32_t *value) {
+    return ponguriena_tuning(REFEREE, world, LENGTH(world), index, value);
+}
+
 static void tunings(void) {
-    int32_t hundredths = 0;
-    same("tuning", ponguriena_tuning(REFEREE, world, LENGTH(world), 8, &hundredths),
-         PONGURIENA_ACCEPTED);
-    same("hook length", hundredths, 38000);
-    same("tune", tune(8, -5), PONGURIENA_ACCEPTED);
-    same("tuning", ponguriena_tuning(REFEREE, world, LENGTH(world), 8, &hundredths),
-         PONGURIENA_ACCEPTED);
-    same("hook length after", hundredths, -5);
-    same("tuning 18", ponguriena_tuning(REFEREE, world, LENGTH(world), 18, &hundredths),
-         PONGURIENA_BAD_TUNING);
+    int32_t value = 0;
+    same("tuning", tuning(PONGURIENA_TUNING_HOOK_LENGTH, &value), PONGURIENA_ACCEPTED);
+    same("hook length", value, 38000);
+    same("tune", tune(PONGURIENA_TUNING_HOOK_LENGTH, -5), PONGURIENA_ACCEPTED);
+    same("tuning", tuning(PONGURIENA_TUNING_HOOK_LENGTH, &value), PONGURIENA_ACCEPTED);
+    same("hook length after", value, -5);
+    same("tuning 19", tuning(NO_TUNING, &value), PONGURIENA_BAD_TUNING);
     same("tune -1", tune(-1, 0), PONGURIENA_BAD_TUNING);
+}
+
+/* Who holds somebody lets go after two steps; a hold that no call wrote counts as the nearest. */
+static void holds(void) {
+    static const int32_t told[] = {0, 1, 0, 0, 1};
+    const int32_t *record = records + PONGURIENA_PUBLISHED + 1;
+    int32_t value = 0;
+    same("fresh", fresh(), PONGURIENA_ACCEPTED);
+    same("the last tuning", PONGURIENA_TUNING_HOOK_HOLD + 1, PONGURIENA_TUNINGS);
+    same("a fresh hold", world[PONGURIENA_TUNING_HOOK_HOLD], PONGURIENA_LONGEST_HOLD);
+    same("too short", tune(PONGURIENA_TUNING_HOOK_HOLD, PONGURIENA_SHORTEST_HOLD - 1),
+         PONGURIENA_BAD_HOLD);
+    same("too long", tune(PONGURIENA_TUNING_HOOK_HOLD, PONGURIENA_LONGEST_HOLD + 1),
+         PONGURIENA_BAD_HOLD);
+    same("no tuning", tune(NO_TUNING, PONGURIENA_SHORTEST_HOLD - 1),
+         PONGURIENA_BAD_TUNING);
+    same("join", join(OPEN, 1, 0, 0), PONGURIENA_ACCEPTED);
+    same("join", join(OPEN, 2, 100, 0), PONGURIENA_ACCEPTED);
+    same("input", input(1, told), PONGURIENA_ACCEPTED);
+    same("tune", tune(PONGURIENA_TUNING_HOOK_HOLD, 2), PONGURIENA_ACCEPTED);
+    for (int32_t tick = 1; tick <= 2; tick++) {
+        same("step", step(OPEN), PONGURIENA_ACCEPTED);
+        same("held", record[8], 2);
+        same("tick", record[10], tick);
+    }
+    same("step", step(OPEN), PONGURIENA_ACCEPTED);
+    same("retracted", record[9], -1);
+    world[PONGURIENA_TUNING_HOOK_HOLD] = -7;
+    same("tuning", tuning(PONGURIENA_TUNING_HOOK_HOLD, &value), PONGURIENA_ACCEPTED);
+    same("the nearest hold", value, PONGURIENA_SHORTEST_HOLD);
+    same("step", step(OPEN), PONGURIENA_ACCEPTED);
+    same("as it was", world[PONGURIENA_TUNING_HOOK_HOLD], -7);
 }
 
 /* With id 3 present. A refused call leaves the world as it was. */
@@ -192,7 +225,7 @@ static void lengths(void) {
     same("leave", ponguriena_leave(REFEREE, world, less, NO_SEAT), PONGURIENA_BAD_LENGTH);
     same("input", ponguriena_input(REFEREE, world, less, NO_SEAT, 0, 0, 0, 0, 0),
          PONGURIENA_BAD_LENGTH);
-    same("tune", ponguriena_tune(REFEREE, world, less, 18, 0), PONGURIENA_BAD_LENGTH);
+    same("tune", ponguriena_tune(REFEREE, world, less, NO_TUNING, 0), PONGURIENA_BAD_LENGTH);
     same("step",
          ponguriena_step(REFEREE, world, LENGTH(world), 0, 0, OPEN_TILES, 9, records,
                          LENGTH(records) - 1, removed, LENGTH(removed), &removed_count),
@@ -206,7 +239,7 @@ static void lengths(void) {
     same("player_input",
          ponguriena_player_input(REFEREE, world, LENGTH(world), NO_SEAT, &number, 1),
          PONGURIENA_BAD_LENGTH);
-    same("tuning", ponguriena_tuning(REFEREE, world, less, 18, &number), PONGURIENA_BAD_LENGTH);
+    same("tuning", ponguriena_tuning(REFEREE, world, less, NO_TUNING, &number), PONGURIENA_BAD_LENGTH);
     same("mark", ponguriena_floor_mark(REFEREE, world, less, NO_SEAT, &number),
          PONGURIENA_BAD_LENGTH);
 }
@@ -346,7 +379,8 @@ static void refused_sending(void) {
     size_t used = 77;
     memcpy(before, screen, sizeof screen);
     same("leave of no seat", send_leave(NO_SEAT), PONGURIENA_BAD_ID);
-    same("tune 18", send_tune(PONGURIENA_TUNINGS, 0), PONGURIENA_BAD_TUNING);
+    same("tune 19", send_tune(NO_TUNING, 0), PONGURIENA_BAD_TUNING);
+    same("hold 61", send_tune(PONGURIENA_TUNING_HOOK_HOLD, 61), PONGURIENA_BAD_HOLD);
     same("step without a map", send_step(NO_MAP), PONGURIENA_BAD_MAP);
     same("removal of no seat",
          ponguriena_receive(screen, LENGTH(screen), 3, 3, OPEN_TILES, 9, no_seat, 2, &used),
@@ -386,18 +420,18 @@ static void not_allowed(const char *who, int32_t role) {
     same(who, ponguriena_join(role, world, less, 0, 0, OPEN_TILES, 9, NO_SEAT, 0, 0), no);
     same(who, ponguriena_leave(role, world, less, NO_SEAT), no);
     same(who, ponguriena_input(role, world, less, -1, 0, 0, 0, 0, 0), no);
-    same(who, ponguriena_tune(role, world, less, 18, 0), no);
+    same(who, ponguriena_tune(role, world, less, NO_TUNING, 0), no);
     same(who,
          ponguriena_step(role, world, less, 0, 0, OPEN_TILES, 9, records, 1, removed, 1,
                          &removed_count),
          no);
     same(who, ponguriena_player_input(role, world, less, -1, records, 1), no);
-    same(who, ponguriena_tuning(role, world, less, 18, records), no);
+    same(who, ponguriena_tuning(role, world, less, NO_TUNING, records), no);
     same(who,
          ponguriena_search(role, world, less, 0, 0, OPEN_TILES, 9, NO_SEAT, 0, 0, records, 1), no);
     same(who, ponguriena_send_leave(role, world, less, sender, 1, -1, passed, 1, &passed_count),
          no);
-    same(who, ponguriena_send_tune(role, world, less, sender, 1, 18, 0, passed, 1, &passed_count),
+    same(who, ponguriena_send_tune(role, world, less, sender, 1, NO_TUNING, 0, passed, 1, &passed_count),
          no);
     same(who,
          ponguriena_send_step(role, world, less, sender, 1, 0, 0, OPEN_TILES, 9, records, 1,
@@ -569,7 +603,7 @@ static void trials(void) {
     same("fresh", fresh(), PONGURIENA_ACCEPTED);
     memcpy(trial_tunings, world, tunings);
     memcpy(trial_tunings + PONGURIENA_TUNINGS, world, tunings);
-    trial_tunings[PONGURIENA_TUNINGS] /= 10;
+    trial_tunings[PONGURIENA_TUNINGS + PONGURIENA_TUNING_GROUND_CONTROL_SPEED] /= 10;
     same("trial", trial(FLOOR, joins, 1, targets, 1, 30), PONGURIENA_ACCEPTED);
     same_row("under the game's tunings", trial_result, 30, 0, 7);
     same_row("under slow ones", trial_result + PONGURIENA_TRIAL_ROW, 30, 1, 12);
@@ -577,6 +611,8 @@ static void trials(void) {
     same("too many steps", trial(FLOOR, joins, 2, targets, 2, PONGURIENA_TRIAL_STEPS + 1),
          PONGURIENA_BAD_TRIAL);
     same("joined twice", trial(FLOOR, joins, 2, targets, 2, 1), PONGURIENA_PRESENT);
+    trial_tunings[PONGURIENA_TUNINGS + PONGURIENA_TUNING_HOOK_HOLD] = 0;
+    same("a hold of 0", trial(FLOOR, joins, 2, targets, 2, 1), PONGURIENA_BAD_HOLD);
     same("one target", trial(NO_MAP, joins, 2, targets, 1, 1), PONGURIENA_BAD_LENGTH);
     same_row("after refusals", trial_result, 30, 0, 7);
 }
@@ -636,5 +672,6 @@ int main(void) {
     areas();
     trials();
     searches();
+    holds();
     return differences != 0;
 }
