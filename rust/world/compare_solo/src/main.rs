@@ -10,7 +10,7 @@ fn main() -> Result<(), String> {
     let [count, seed] = numbers("two", "pairs, seed")?;
     let mut tally = Tally::default();
     for number in 0..count {
-        compare(&drawn(seed, number, 0), &mut tally)
+        compare(&drawn(seed, number, 0).with_holds(number), &mut tally)
             .map_err(|what| format!("pair {number} of seed {seed}: {what}"))?;
     }
     let Tally {

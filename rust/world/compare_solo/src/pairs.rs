@@ -1,7 +1,7 @@
 //! The pairs that are drawn.
 
-use harness::draw::{any_id, any_input, place};
-use harness::tunings::{ORDINARY, PLAYER_COLLISION, PLAYER_HOOKING};
+use harness::draw::{any_hold, any_id, any_input, place};
+use harness::tunings::{HOOK_HOLD, ORDINARY, PLAYER_COLLISION, PLAYER_HOOKING};
 use harness::{Call, SEATS};
 use reference::Xorshift;
 use tile_map::Map;
@@ -12,6 +12,9 @@ const SHARED: usize = 60;
 
 /// Less than so many are for others, before each of those.
 const OTHERS: usize = 5;
+
+/// A hold is tuned after so many steps.
+const HOLD_EVERY: usize = 7;
 
 /// One id, and two lists that are the same once the calls for other ids are struck out.
 pub struct Pair {
@@ -31,6 +34,28 @@ pub fn drawn(seed: u64, number: u64, tuned: i32) -> Pair {
     let shared = shared(id, &map, tuned, &mut random);
     let lists = [(); 2].map(|()| beside_others(&shared, id, &map, &mut random));
     Pair { map, id, lists }
+}
+
+impl Pair {
+    /// With holds that are tuned after the same steps in both lists.
+    pub fn with_holds(self, seed: u64) -> Pair {
+        let mut random = Xorshift::seeded(seed);
+        let holds = [(); SHARED / HOLD_EVERY].map(|()| any_hold(&mut random));
+        let lists = self.lists.map(|calls| held(calls, &holds));
+        Pair { lists, ..self }
+    }
+}
+
+fn held(calls: Vec<Call>, holds: &[i32]) -> Vec<Call> {
+    let (mut steps, mut with_holds) = (0, Vec::new());
+    for call in calls {
+        with_holds.push(call);
+        steps += usize::from(matches!(call, Call::Step));
+        if matches!(call, Call::Step) && steps.is_multiple_of(HOLD_EVERY) {
+            with_holds.push(tune(HOOK_HOLD, holds[steps / HOLD_EVERY - 1]));
+        }
+    }
+    with_holds
 }
 
 /// Those of the id, the tunes and the steps.

@@ -9,7 +9,7 @@ const PAIRS: u64 = 100;
 fn others_differ_and_the_id_is_there() {
     let mut tally = Tally::default();
     for number in 0..PAIRS {
-        assert!(compare(&drawn(1, number, 0), &mut tally).is_ok());
+        assert!(compare(&drawn(1, number, 0).with_holds(number), &mut tally).is_ok());
     }
     assert!(tally.present * 2 > tally.steps);
     assert!(tally.beside_others * 10 > tally.steps * 9);

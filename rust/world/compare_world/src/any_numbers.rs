@@ -2,8 +2,9 @@
 //! left them.
 
 use harness::SEATS;
+use harness::draw::any_hold;
 use harness::encoding::{WORLD_NUMBERS, encoded};
-use harness::tunings::{ORDINARY, TUNINGS};
+use harness::tunings::{HOOK_HOLD, ORDINARY, TUNINGS};
 use reference::Xorshift;
 use tile_map::draw::{below, pick};
 
@@ -27,11 +28,14 @@ const ENDS: [i32; 11] = [
 /// One number in so many of a world is another one.
 const DAMAGED: [usize; 3] = [3, 10, 60];
 
-/// With the game's tunings half of the times, since others refuse most steps.
+/// With the game's tunings half of the times, since others refuse most steps; of these every
+/// other with a hold that may be none.
 pub fn drawn(world: &harness::World, random: &mut Xorshift) -> Numbers {
     let mut numbers = drawn_near(encoded(world), random);
     if below(random, 2) == 0 {
         numbers[..TUNINGS].copy_from_slice(&ORDINARY);
+        let hold = any_hold(random);
+        numbers[HOOK_HOLD] = pick(random, &[ORDINARY[HOOK_HOLD], hold]);
     }
     numbers
 }

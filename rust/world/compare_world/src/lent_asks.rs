@@ -3,7 +3,7 @@
 use crate::any_numbers::{self, Numbers};
 use crate::differs::{Differs, same, same_numbers};
 use crate::sequences;
-use harness::draw::{any_ask, any_call, any_role, wrong_call};
+use harness::draw::{any_ask, any_call_or_hold, any_role, wrong_call};
 use harness::encoding::{RECORDS_NUMBERS, WORLD_NUMBERS, decoded, encoded};
 use harness::encoding::{encoded_records, encoded_removed};
 use harness::rewriting::rewritten;
@@ -97,7 +97,7 @@ pub fn replay(sequence: &RoleSequence, tally: &mut Tally) -> Result<(), Differs>
 pub fn drawn_turn(world: &World, map: &Map, random: &mut Xorshift) -> Turn {
     let call = match below(random, 4) {
         0 => Call::Step,
-        1 => any_call(SEATS, world, map, random),
+        1 => any_call_or_hold(SEATS, world, map, random),
         _ => return anybodys_turn(world, map, random),
     };
     Turn {

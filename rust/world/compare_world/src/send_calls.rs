@@ -4,7 +4,7 @@ use crate::any_numbers::{self, Numbers, drawn_near};
 use crate::differs::{Differs, same, same_numbers};
 use crate::receives;
 use crate::sequences;
-use harness::draw::{any_call, any_role};
+use harness::draw::{any_call_or_hold, any_role};
 use harness::encoding::{RECORDS_NUMBERS, decoded, encoded_records, encoded_removed};
 use harness::rewriting::rewritten;
 use harness::roles::{Ask, REFEREE, check_role};
@@ -91,7 +91,7 @@ pub fn compare(seed: u64, number: u64, tally: &mut Tally) -> Result<(), Differs>
     for turn in 0..CALLS {
         let call = match below(&mut random, 2) {
             0 => Call::Step,
-            _ => any_call(SEATS, &decoded(&world), &sequence.map, &mut random),
+            _ => any_call_or_hold(SEATS, &decoded(&world), &sequence.map, &mut random),
         };
         let role = drawn_role(call, &mut random);
         let told = |what: Differs| {

@@ -1,7 +1,7 @@
 //! The sequences that are drawn.
 
 use harness::SEATS;
-use harness::draw::{any_call, any_join};
+use harness::draw::{any_call_or_hold, any_join};
 use record_calls::Sequence;
 use reference::Xorshift;
 use session_texts::play;
@@ -9,8 +9,8 @@ use tile_map::draw::{below, pick, random_map};
 
 type Draw = fn(&mut Xorshift) -> Sequence;
 
-/// The last are of all seats.
-const KINDS: [Draw; 11] = [
+/// Most of the last are of all seats.
+const KINDS: [Draw; 12] = [
     play::ordinary,
     play::full,
     play::apart,
@@ -22,6 +22,7 @@ const KINDS: [Draw; 11] = [
     play::all_seats,
     play::any_seats,
     play::id_limits,
+    play::holds,
 ];
 
 const CALLS: usize = 70;
@@ -39,7 +40,7 @@ fn wrong_sides(random: &mut Xorshift) -> Sequence {
     let mut sequence = Sequence::on(&map);
     sequence.call(any_join(SEATS, &map, random));
     for _ in 0..CALLS {
-        let call = any_call(SEATS, &sequence.world, &map, random);
+        let call = any_call_or_hold(SEATS, &sequence.world, &map, random);
         let sides = sides((width as u32, height as u32), random);
         sequence.with_sides(sides, call);
     }

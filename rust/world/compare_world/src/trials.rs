@@ -3,9 +3,9 @@
 use crate::differs::{Differs, same, same_numbers};
 use crate::sequences;
 use harness::SEATS;
-use harness::draw::{any_id, place};
+use harness::draw::{any_hold, any_id, place};
 use harness::trial::{MOST_STEPS, MOST_TUNINGS, ROW_NUMBERS};
-use harness::tunings::ORDINARY;
+use harness::tunings::{HOOK_HOLD, ORDINARY};
 use ponguriena::trial;
 use port_calls::{lent, number};
 use record_trial::playing::{self, target};
@@ -69,12 +69,22 @@ fn faulty(case: Case, random: &mut Xorshift) -> Case {
 
 fn with_fault(mut case: Case, random: &mut Xorshift) -> Case {
     let any = random.pattern() as i32;
-    match below(random, 5) {
+    match below(random, 6) {
         0 => case.sides = sequences::sides(case.sides, random),
         1 => case.steps = pick(random, &[-1, MOST_STEPS + 1, i32::MIN, i32::MAX, any]),
         2 => case.tunings = vec![ORDINARY; pick(random, &[0, MOST_TUNINGS + 1])],
-        3 => case = with_join(case, random),
+        3 => case = with_hold(case, random),
+        4 => case = with_join(case, random),
         _ => case = with_length(case, random),
+    }
+    case
+}
+
+/// Of one of the tunings, if there is one: also such as is no fault.
+fn with_hold(mut case: Case, random: &mut Xorshift) -> Case {
+    if !case.tunings.is_empty() {
+        let at = below(random, case.tunings.len());
+        case.tunings[at][HOOK_HOLD] = any_hold(random);
     }
     case
 }

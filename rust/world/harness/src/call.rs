@@ -9,11 +9,24 @@ pub const CALL_NUMBERS: usize = 7;
 
 #[derive(Clone, Copy)]
 pub enum Call {
-    Join { id: i32, x: i32, y: i32 },
-    Leave { id: i32 },
-    Input { id: i32, input: PlayerInput },
+    Join {
+        id: i32,
+        x: i32,
+        y: i32,
+    },
+    Leave {
+        id: i32,
+    },
+    Input {
+        id: i32,
+        input: PlayerInput,
+    },
     Step,
-    Tune { index: i32, hundredths: i32 },
+    /// Of the hold it is whole steps.
+    Tune {
+        index: i32,
+        hundredths: i32,
+    },
 }
 
 impl Call {
