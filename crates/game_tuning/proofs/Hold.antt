@@ -1,16 +1,15 @@
 -- The hook's hold: what a number stands for is one of 1 to 60, and a hold stands for itself. Assumes nothing.
-use Prim.Native.Nat.{ℕ, _≤_, _<_, _^_}
-use native.Mathlib.Omega.{arith}
+use Prim.Native.Nat.{_≤_, _<_, _^_}
 use native.Mathlib.Nat.{lt-of-lt-of-le}
 use mathlib.Core.Bool.{Bool, true, false, cond, _&&_, true≢false}
-use mathlib.Core.Path.{_≡_, refl, sym, ap, subst}
+use mathlib.Core.Path.{_≡_, refl, sym}
 use lib.Dec.{T, leb, lit≤}
 use lib.IntN.{ℤ, pos, negsuc, natAbs}
 use lib.Signed.{ltZ, nonNeg, mag}
 use mir.Facts.{fits-of-lt}
 use mir.Syntax.{w32}
 use mir.Val.{Fits}
-use borrow.Author.Tests.{le-leb, lt-leb, leb-true, leb-false, ltb-true, ltb-false}
+use borrow.Author.Tests.{le-leb, lt-leb, leb-true, ltb-true, ltb-false}
 use Rattle.game_constants.specs.Constants.{maxHookGrabTime}
 use Rattle.game_tuning.specs.Tuning.{isHold, holdOf}
 

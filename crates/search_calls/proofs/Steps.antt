@@ -1,8 +1,8 @@
 -- A step of a way on numbers is the one of the world that they stand for. Assumes nothing.
 use Prim.Native.Nat.{ℕ, _+_, _*_, _<_}
-use mathlib.Core.Bool.{Bool, true, false}
+use mathlib.Core.Bool.{true, false}
 use mathlib.Core.List.{List}
-use mathlib.Core.Path.{_≡_, refl, sym, ap, _∙_, subst}
+use mathlib.Core.Path.{_≡_, sym, ap, _∙_, subst}
 use native.Mathlib.Decide.{decLt}
 use native.Mathlib.Omega.{arith}
 use lib.Dec.{eqb, lit<}
@@ -15,8 +15,7 @@ use mir.Val.{toZ, ofZ}
 use Rattle.num_convert.specs.Casts.{IsI32}
 use Rattle.num_convert.proofs.Signed.{read}
 use Rattle.game_records.specs.Numbers.{numberAt, coreNumbers}
-use Rattle.game_records.specs.Numbers.{numberAt, coreNumbers, sameNumber}
-use Rattle.game_records.specs.declared.PlayerInput.{PlayerInput}
+use Rattle.game_records.specs.Numbers.{numberAt, coreNumbers}
 use Rattle.map_tiles.specs.declared.tiles.Sides.{Sides}
 use Rattle.character.specs.Tick.{seats, slotAt}
 use Rattle.world.specs.Calls.{placeOf, input}

@@ -1,17 +1,17 @@
 -- Every id that a sender passes along is that of a seat, and every index that of a tuning. Assumes nothing.
 use Prim.Native.Nat.{ℕ, suc, _≤_, _<_}
-use mathlib.Core.Bool.{Bool, true, false, cond, _&&_}
+use mathlib.Core.Bool.{true, _&&_}
 use mathlib.Core.List.{List, [], _∷_, _++_, map}
 use mathlib.Core.Path.{_≡_, refl, ap}
 use native.Mathlib.Omega.{arith}
-use lib.Dec.{eqb, ltb}
+use lib.Dec.{eqb}
 use lib.IntN.{ℤ}
-use borrow.Author.Tests.{ltb-true, eq-eqb, eqb-true}
+use borrow.Author.Tests.{eq-eqb, eqb-true}
 use Rattle.game_tuning.specs.Tuning.{tuningCount}
 use Rattle.map_tiles.specs.declared.tiles.Sides.{Sides}
 use Rattle.character.specs.Tick.{seats, slotAt}
 use Rattle.world.specs.World.{withTuning}
-use Rattle.world.specs.Calls.{accepted, refused, placeOf, vacate, leave, tune}
+use Rattle.world.specs.Calls.{placeOf, vacate, leave, tune}
 use Rattle.world.specs.Removal.{idsIn, isIn}
 use Rattle.world.specs.Run.{ran}
 use Rattle.world.specs.Step.{step}

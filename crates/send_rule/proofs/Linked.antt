@@ -4,7 +4,7 @@ use native.Mathlib.Omega.{arith}
 use mathlib.Core.Bool.{Bool, true, false, cond, _&&_}
 use mathlib.Core.List.{List, [], _∷_, _++_, map}
 use mathlib.Core.Path.{_≡_, refl, sym, ap, _∙_}
-use lib.Dec.{eqb, ltb}
+use lib.Dec.{eqb}
 use lib.IntN.{ℤ}
 use lib.ListN.{length, set, length-replicate}
 use borrow.Author.Tests.{eq-eqb, ne-eqb, eqb-true, eqb-false}
@@ -13,7 +13,7 @@ use Rattle.game_tuning.specs.Tuning.{tuningCount}
 use Rattle.map_tiles.specs.declared.tiles.Sides.{Sides}
 use Rattle.character.specs.Tick.{slotAt}
 use Rattle.world.specs.World.{fresh, withTuning}
-use Rattle.world.specs.Calls.{accepted, refused, placeOf, tune}
+use Rattle.world.specs.Calls.{accepted, placeOf, tune}
 use Rattle.world.specs.Removal.{idsIn}
 use Rattle.world.specs.Run.{inputOf, ran}
 use Rattle.world.specs.Settled.{Settled}

@@ -55,7 +55,7 @@ pub fn read_joins(joins: &mut [i32], targets: &mut [i32], count: u32)
 }
 
 pub fn read_tunings(tunings: &mut [i32], count: u32)
-    requires { ⌜ length (now tunings) ≡ 163 ⌝ }
+    requires { ⌜ length (now tunings) ≡ 172 ⌝ }
 {
     for i in 0..at_most(count, MOST_TUNINGS) {
         let mut line = [0u8; TUNING_LINE];

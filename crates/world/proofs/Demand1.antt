@@ -3,16 +3,11 @@ use Prim.Native.Nat.{ℕ}
 use mathlib.Core.Bool.{Bool, true, false, cond}
 use mathlib.Core.List.{List}
 use mathlib.Core.Path.{_≡_, refl, ap}
-use lib.Dec.{ltb}
-use lib.IntN.{ℤ}
 use Rattle.base_turns.specs.Turns.{Turn, more, stop, next}
 use Rattle.map_tiles.specs.Map.{isMap}
 use Rattle.map_tiles.specs.declared.tiles.Sides.{Sides}
 use Rattle.game_tuning.specs.Tuning.{tuningOf}
 use Rattle.world.specs.declared.call.Call.the-variants.{Join, Leave, Input, Step, Tune}
-use Rattle.world.specs.World.{withTuning}
-use Rattle.game_tuning.specs.Tuning.{tuningCount}
-use Rattle.world.specs.Calls.{refused, accepted, placeOf, tune}
 use Rattle.world.specs.Demand1.{Demand1}
 use Rattle.world.specs.Run.{inputOf}
 use Rattle.world.specs.Step.{Moving, tickAll, moveAll, stepRefused, stepAnswer, stepOn, step}

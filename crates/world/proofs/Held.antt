@@ -3,13 +3,13 @@ use Prim.Native.Nat.{ℕ}
 use mathlib.Core.Bool.{Bool, true, false, cond, true≢false}
 use mathlib.Core.List.{List, [], _∷_}
 use mathlib.Core.Path.{_≡_, refl, sym, ap, _∙_, subst}
-use lib.Dec.{leb, ltb}
+use lib.Dec.{leb}
 use lib.ListN.{set}
 use Rattle.base_turns.specs.Turns.{Turn, more, stop, next}
 use Rattle.base_turns.proofs.Kept.{Ends, run-kept}
 use Rattle.map_tiles.specs.Map.{isMap}
 use Rattle.map_tiles.specs.declared.tiles.Sides.{Sides}
-use Rattle.game_tuning.specs.Tuning.{tuningCount, tuningOf}
+use Rattle.game_tuning.specs.Tuning.{tuningOf}
 use Rattle.game_tuning.specs.declared.Tuning.{Tuning}
 use Rattle.character_hook.specs.Hook.{holds, tickOf}
 use Rattle.character_hook.specs.declared.hook.Hook.{Hook}
@@ -30,11 +30,10 @@ use Rattle.character_laws.proofs.Others.{Then, pulled-others}
 use Rattle.character_laws.proofs.Slots.{set-every, replicate-every}
 use Rattle.world.specs.declared.call.Call.{Call}
 use Rattle.world.specs.declared.call.Call.the-variants.{Join, Leave, Input, Step, Tune}
-use Rattle.world.specs.declared.Answer.{Answer}
 use Rattle.world.specs.declared.Stepped.{Stepped}
 use Rattle.world.specs.declared.World.{World}
 use Rattle.world.specs.World.{fresh, withSlot}
-use Rattle.world.specs.Calls.{placeOf, pointOf, vacate, tune}
+use Rattle.world.specs.Calls.{placeOf, pointOf, vacate}
 use Rattle.world.specs.Removal.{dying}
 use Rattle.world.specs.Step.{Moving, afterTick, tickTurn, tickAll, ofNet, recordOf, publish, moveIn, moveTurn, movingFrom, moveAll, stepAnswer, stepOn, step}
 use Rattle.world.specs.Run.{inputOf, ran, after}

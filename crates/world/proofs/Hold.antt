@@ -6,13 +6,13 @@ use mathlib.Core.Bool.{Bool, true, false, cond}
 use mathlib.Core.List.{List, [], _∷_}
 use mathlib.Core.Path.{_≡_, refl, sym, ap, _∙_, subst}
 use lib.Dec.{leb, ltb, eqb}
-use lib.IntN.{ℤ, pos, negsuc}
-use lib.ListN.{length, getD}
+use lib.IntN.{ℤ, pos}
+use lib.ListN.{getD}
 use lib.Seq.{getD-set-same}
 use borrow.Author.Tests.{eqb-true, eqb-false}
 use Rattle.game_constants.specs.Constants.{maxHookGrabTime}
 use Rattle.game_records.specs.declared.CharacterCore.{CharacterCore}
-use Rattle.game_tuning.specs.Tuning.{tuningCount, hookHold, freshTunings, isHold, holdOf, mayTune, tuningOf}
+use Rattle.game_tuning.specs.Tuning.{hookHold, freshTunings, isHold, holdOf, mayTune, tuningOf}
 use Rattle.game_tuning.proofs.Hold.{hold-is, hold-most}
 use Rattle.map_tiles.specs.declared.tiles.Sides.{Sides}
 use Rattle.character_hook.specs.Hook.{tickOf}
@@ -21,11 +21,10 @@ use Rattle.character.specs.Records.{coreOf, mostTick, toNet}
 use Rattle.character.specs.Slot.{emptySlot, joinedSlot, withInput}
 use Rattle.character.specs.Tick.{slotAt, nowhere}
 use Rattle.character.specs.declared.Character.{Character}
-use Rattle.character.specs.declared.Slot.{Slot}
 use Rattle.character.specs.declared.records.Net.the-variants as net
 use Rattle.character_laws.proofs.Slots.{set-every, replicate-every}
 use Rattle.world.specs.Calls.{placeOf, pointOf, tune}
-use Rattle.world.specs.Hold.{holdIn, TicksWithin, HookHold}
+use Rattle.world.specs.Hold.{TicksWithin, HookHold}
 use Rattle.world.specs.Readers.{seated, ofSeated, ofRecord, recordNow, readOf}
 use Rattle.world.specs.Run.{inputOf, ran, after}
 use Rattle.world.specs.Step.{step}
@@ -34,7 +33,6 @@ use Rattle.world.specs.declared.World.{World}
 use Rattle.world.specs.declared.call.Call.{Call}
 use Rattle.world.specs.declared.call.Call.the-variants.{Join, Leave, Input, Step, Tune}
 use Rattle.world.specs.declared.reading.Query.the-variants as query
-use Rattle.world.specs.declared.reading.Reading.{Reading}
 use Rattle.world.specs.declared.reading.Reading.the-variants as reading
 use Rattle.world.specs.declared.reading.Seated.{Seated}
 use Rattle.world.specs.Settled.{Settled}

@@ -4,13 +4,12 @@ use native.Mathlib.Omega.{arith}
 use mathlib.Core.Bool.{Bool, true, false, cond, _&&_}
 use mathlib.Core.List.{List}
 use mathlib.Core.Path.{_≡_, refl, sym, ap, _∙_}
-use lib.Dec.{eqb, ltb}
+use lib.Dec.{eqb}
 use lib.IntN.{ℤ}
 use lib.ListN.{length}
 use borrow.Author.Tests.{eq-eqb, ne-eqb, eqb-true, eqb-false}
 use Rattle.map_tiles.specs.declared.tiles.Sides.{Sides}
 use Rattle.game_records.specs.declared.PlayerInput.{PlayerInput}
-use Rattle.game_tuning.specs.Tuning.{tuningCount}
 use Rattle.character.specs.Slot.{emptySlot, joinedSlot, withInput}
 use Rattle.character.specs.Tick.{slotAt, nowhere}
 use Rattle.character.specs.declared.Slot.{Slot}
@@ -20,7 +19,6 @@ use Rattle.world.specs.Calls.{placeOf, pointOf, join, releasedSlot, vaca
 use Rattle.world.specs.declared.Answer.{Answer}
 use Rattle.world.specs.declared.World.{World}
 use Rattle.world.proofs.Outcomes.{Outcome, no, yes, outcome-kept, Seated, join-outcome, leave-outcome, input-outcome, tune-outcome}
-use Rattle.world.proofs.Seats.{by-test}
 use Rattle.world.proofs.Vacated.{vacated-at, vacated-others}
 
 module _ {A : Type 0} (x y : A) where

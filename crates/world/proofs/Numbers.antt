@@ -43,7 +43,7 @@ use Rattle.character.specs.declared.walk.MovedAt.the-variants as moved
 use Rattle.world.specs.Demand3.{recordAt}
 use Rattle.world.specs.Hold.{TicksWithin}
 use Rattle.world.specs.Removal.{dying, removeAll}
-use Rattle.world.specs.Step.{unpublished, Moving, afterTick, tickTurn, tickAll, ofNet, recordOf, publish, moveIn, moveTurn, movingFrom, moveAll, stepRefused, stepAnswer, stepOn, step}
+use Rattle.world.specs.Step.{unpublished, Moving, afterTick, tickTurn, tickAll, ofNet, recordOf, publish, moveIn, moveTurn, movingFrom, moveAll, stepAnswer, stepOn, step}
 use Rattle.world.specs.declared.Stepped.{Stepped}
 use Rattle.world.specs.declared.World.{World}
 use Rattle.world.proofs.Removal.{removed-every}

@@ -3,7 +3,6 @@ use Prim.Native.Nat.{ℕ, _<_}
 use mathlib.Core.Bool.{true, false, true≢false}
 use mathlib.Core.List.{List, [], _∷_}
 use mathlib.Core.Path.{_≡_, refl, sym, ap, _∙_}
-use lib.Dec.{ltb}
 use lib.IntN.{ℤ}
 use lib.ListN.{length-set, length-replicate, getD-replicate}
 use Rattle.base_turns.specs.Turns.{Turn, more, stop, next}
@@ -29,7 +28,6 @@ use Rattle.world.specs.Removal.{dying}
 use Rattle.world.specs.Step.{Moving, tickAll, moveAll, stepAnswer, stepOn, step}
 use Rattle.world.specs.Run.{inputOf, ran, after}
 use Rattle.world.specs.Settled.{Settled, AfterSettled}
-use Rattle.world.specs.declared.Answer.{Answer}
 use Rattle.world.specs.declared.Stepped.{Stepped}
 use Rattle.world.specs.declared.World.{World}
 use Rattle.world.proofs.Outcomes.{outcome-kept, reach-i32, Joins, join-outcome, leave-outcome, input-outcome, tune-outcome}

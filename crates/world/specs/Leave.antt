@@ -9,7 +9,6 @@ use Rattle.character_hook.specs.declared.hook.Hook.the-variants.{Retracted, Gra
 use Rattle.character.specs.Character.{withHook}
 use Rattle.character.specs.Slot.{emptySlot, withCharacter}
 use Rattle.character.specs.Tick.{slotAt}
-use Rattle.character.specs.declared.Slot.{Slot}
 use Rattle.world.specs.Calls.{placeOf, leave}
 use Rattle.world.specs.declared.World.{World}
 

@@ -1,7 +1,6 @@
 -- A world of n slots: fresh, and with one of its slots or tunings set. Definitions only.
 use Prim.Native.Nat.{ℕ}
-use mathlib.Core.List.{List, [], _∷_}
-use lib.IntN.{ℤ, pos}
+use lib.IntN.{ℤ}
 use lib.ListN.{set, replicate}
 use Rattle.game_tuning.specs.Tuning.{freshTunings}
 use Rattle.character.specs.Slot.{emptySlot}

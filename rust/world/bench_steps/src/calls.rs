@@ -11,6 +11,9 @@ const PASSES: usize = 50;
 /// Somebody alone is told something less than once in two blocks.
 const INPUTS: usize = 16;
 
+/// What every tuning may be set to, the hold too.
+const TUNED: i32 = 50;
+
 pub fn print_calls(scenes: &[Scene]) {
     print_heading();
     for scene in scenes {
@@ -24,7 +27,7 @@ fn print_calls_in(scene: &Scene) {
     print_call("input", scene, &inputs.take(INPUTS).collect::<Vec<Call>>());
     let tunes = (0..TUNINGS as i32).map(|index| Call::Tune {
         index,
-        hundredths: 100,
+        hundredths: TUNED,
     });
     print_call("tune", scene, &tunes.collect::<Vec<Call>>());
     let is_join = |call: &&Call| matches!(call, Call::Join { .. });

@@ -3,30 +3,19 @@
 use crate::others::Others;
 use crate::refusal::Refusal;
 use crate::slot::Slots;
-use crate::tunings::{HOOK_HOLD, TUNINGS, read_tuning, tune_params};
+use crate::tunings::Tuning;
 use crate::walks::Walks;
-use libtw2_gamenet::msg::game::SvTuneParams;
 use original::{CHARACTER_SIZE, Character, Collision, Hook, MAX_HOOK_GRAB_TIME, State, vec2};
 use tile_map::Map;
 
 /// What is the same for everybody in a step.
 #[derive(Clone, Copy)]
 pub struct Rules<'a> {
-    map: &'a Map,
-    tuning: SvTuneParams,
-    /// For how many steps a hook holds somebody.
-    hold: u32,
+    pub map: &'a Map,
+    pub tuning: &'a Tuning,
 }
 
-impl<'a> Rules<'a> {
-    pub fn new(map: &'a Map, tunings: [i32; TUNINGS]) -> Rules<'a> {
-        Rules {
-            map,
-            tuning: tune_params(tunings),
-            hold: read_tuning(&tunings, HOOK_HOLD).cast_unsigned(),
-        }
-    }
-
+impl Rules<'_> {
     /// What `tick` finds out and keeps to itself: whether one of two points below is solid.
     pub fn grounded(self, character: Character) -> bool {
         let pos = State::from(character).pos;
@@ -52,7 +41,7 @@ impl<'a> Rules<'a> {
         let me = self.timed(slots[id].character);
         let input = slots[id].input;
         self.walked(me, &mut Others::new(id, slots), |me, walks, others| {
-            me.tick(walks, others, input, &self.tuning)
+            me.tick(walks, others, input, &self.tuning.params)
         })
     }
 
@@ -60,7 +49,7 @@ impl<'a> Rules<'a> {
     pub fn moved(self, slots: &mut Slots, id: usize) -> Result<Character, Refusal> {
         let me = slots[id].character;
         self.walked(me, &mut Others::new(id, slots), |me, walks, others| {
-            me.move_(walks, others, &self.tuning)
+            me.move_(walks, others, &self.tuning.params)
         })
     }
 
@@ -69,7 +58,7 @@ impl<'a> Rules<'a> {
     fn timed(self, character: Character) -> Character {
         let state = State::from(character);
         match state.hook {
-            Hook::Grabbed(id, tick) if tick >= self.hold => State {
+            Hook::Grabbed(id, tick) if tick >= self.tuning.hold => State {
                 hook: Hook::Grabbed(id, MAX_HOOK_GRAB_TIME),
                 ..state
             }
@@ -84,7 +73,7 @@ impl<'a> Rules<'a> {
         others: &mut Others,
         act: impl FnOnce(&mut Character, &mut Walks, &mut Others),
     ) -> Result<Character, Refusal> {
-        let player_collision = self.tuning.player_collision.to_float() != 0.0;
+        let player_collision = self.tuning.params.player_collision.to_float() != 0.0;
         let mut walks = Walks::new(self.map, player_collision);
         act(&mut me, &mut walks, others);
         walks.answer()?;

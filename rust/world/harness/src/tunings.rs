@@ -67,8 +67,21 @@ pub fn read_tuning(tunings: &[i32; TUNINGS], place: usize) -> i32 {
     number
 }
 
-/// Those of libtw2, as `tick` and `move_` take them.
-pub fn tune_params(tunings: [i32; TUNINGS]) -> SvTuneParams {
+/// As a step takes them.
+pub struct Tuning {
+    /// For `tick` and `move_`.
+    pub params: SvTuneParams,
+    pub hold: u32,
+}
+
+pub fn tuning_of(tunings: [i32; TUNINGS]) -> Tuning {
+    Tuning {
+        params: tune_params(tunings),
+        hold: read_tuning(&tunings, HOOK_HOLD).cast_unsigned(),
+    }
+}
+
+fn tune_params(tunings: [i32; TUNINGS]) -> SvTuneParams {
     let mut values = tunings.into_iter().map(TuneParam);
     let mut next = || values.next().expect("a tuning");
     SvTuneParams {

@@ -5,7 +5,7 @@ use crate::physics::Rules;
 use crate::published::{NOTHING, Published};
 use crate::refusal::Refusal;
 use crate::slot::{SEATS, Slot, Slots, vacate};
-use crate::tunings::{ORDINARY, TUNINGS, check_tuning, read_tuning};
+use crate::tunings::{ORDINARY, TUNINGS, check_tuning, read_tuning, tuning_of};
 use libtw2_gamenet::snap_obj::{CharacterCore, PlayerInput};
 use original::{CHARACTER_SIZE, Character, Collision, State, vec2};
 use tile_map::Map;
@@ -69,7 +69,8 @@ impl World {
 
     pub fn step(&mut self, map: &Map) -> Result<Published, Refusal> {
         check_map(map)?;
-        let rules = Rules::new(map, self.tunings);
+        let tuning = &tuning_of(self.tunings);
+        let rules = Rules { map, tuning };
         let mut slots = self.slots;
         tick_all(rules, &mut slots)?;
         let mut published = move_all(rules, &mut slots)?;

@@ -7,7 +7,7 @@ mod spikes;
 use crate::all_sequences;
 use crate::sequence::{Line, Sequence};
 use harness::draw::is_clear;
-use harness::tunings::PLAYER_COLLISION;
+use harness::tunings::{PLAYER_COLLISION, tuning_of};
 use harness::{Call, NOTHING, Refusal, Rules, SEATS, Slots, World};
 use original::{Hook, State};
 use std::collections::BTreeSet;
@@ -194,7 +194,10 @@ fn nobody_absent_is_held() {
 
 /// The slots when the step ended, and whether all had ticked by then.
 fn where_refused(world: &World, line: &Line) -> (Slots, bool) {
-    let rules = Rules::new(&line.map, world.tunings);
+    let rules = Rules {
+        map: &line.map,
+        tuning: &tuning_of(world.tunings),
+    };
     let mut slots = world.slots;
     for id in (0..SEATS).filter(|&id| world.slots[id].present) {
         match rules.ticked(&mut slots, id) {

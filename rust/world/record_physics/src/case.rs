@@ -1,6 +1,7 @@
 //! A tick or a move, the answer of the original, and both as a line of text.
 
 use crate::scene::{SCENE, Scene};
+use harness::tunings::tuning_of;
 use harness::{Rules, Slot, Slots};
 use original::{State, input_numbers};
 use reference::Bits;
@@ -37,7 +38,10 @@ impl Case {
 
     pub fn answer(&self) -> Answer {
         let scene = &self.scene;
-        let rules = Rules::new(&scene.map, scene.tunings);
+        let rules = Rules {
+            map: &scene.map,
+            tuning: &tuning_of(scene.tunings),
+        };
         let mut slots = scene.slots;
         let me = match self.op {
             Op::Tick => rules.ticked(&mut slots, scene.id),

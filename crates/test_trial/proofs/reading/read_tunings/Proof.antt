@@ -8,7 +8,7 @@ use Rattle.test_trial.proofs.reading.read_tunings.Statement.{statement}
 use Rattle.test_trial.proofs.reading.read_tunings.Tie as tie
 
 abbrev Inv-loop : tie.InvT-loop
-Inv-loop tunings₀ count i₀ i-end tunings i = (i ≤ 9) × (length tunings ≡ 163)
+Inv-loop tunings₀ count i₀ i-end tunings i = (i ≤ 9) × (length tunings ≡ 172)
 
 abbrev μ-loop : tie.MeasureT-loop
 μ-loop tunings₀ count i₀ i-end tunings i = i-end - i

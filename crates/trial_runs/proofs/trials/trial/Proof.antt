@@ -17,7 +17,7 @@ use Rattle.world_numbers.specs.Encoding.{each}
 use Rattle.world_numbers.specs.Decoding.{decoding}
 use Rattle.world.specs.World.{fresh}
 use Rattle.trial_rule.specs.Trial.{Trying, noPlayer, enterAll, nobodyYet, tried, tunedTo}
-use Rattle.trial_rule.specs.Calls.{tuningsIn, tuningRows, areWhole, trialFault, entrants, triedNumbers}
+use Rattle.trial_rule.specs.Calls.{tuningRows, areWhole, trialFault, entrants, triedNumbers}
 use Rattle.trial_runs.specs.InPlace.{IsWorld, Enters}
 use Rattle.trial_runs.proofs.OneTurn.{state}
 use Rattle.trial_runs.proofs.Answers.{joins-refused, joins-accepted, not-whole, no-map, no-trial, by-join, by-runs, are-whole, few-steps, fresh-is}

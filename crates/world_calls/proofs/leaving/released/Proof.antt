@@ -8,7 +8,6 @@ use borrow.Author.Tests.{eq-eqb, ne-eqb}
 use Rattle.character_hook.proofs.Variants.{not-grabbed}
 use Rattle.character_hook.specs.Hook.{onGrabbed, holds}
 use Rattle.character_hook.specs.declared.hook.CharacterId.{CharacterId}
-use Rattle.character_hook.specs.declared.hook.Hook.{Hook}
 use Rattle.character_hook.specs.declared.hook.Hook.the-variants.{Retracted, Grabbed}
 use Rattle.character.specs.Character.{withHook}
 use Rattle.character.specs.Slot.{withCharacter}

@@ -2,7 +2,7 @@
 use mathlib.Core.Path.{_≡_, refl, ap, _∙_}
 use mir.Facts.{toZ-ofZ}
 use borrow.Author.Tests.{lt-ltb, le-ltb}
-use Rattle.game_tuning.specs.Tuning.{tuningCount, toldTuning}
+use Rattle.game_tuning.specs.Tuning.{tuningCount}
 use Rattle.game_records.proofs.Bits.{again}
 use Rattle.world.specs.Calls.{placeOf}
 use Rattle.world.specs.Readers.{tuningNow}
