@@ -3,10 +3,10 @@ use Prim.Native.Nat.{ℕ, suc, _≤_, _<_}
 use native.Mathlib.Omega.{arith}
 use mathlib.Core.Bool.{Bool, true, false, cond, _&&_}
 use mathlib.Core.List.{List}
-use mathlib.Core.Path.{_≡_, refl}
-use lib.Dec.{ltb}
+use mathlib.Core.Path.{_≡_, refl, sym, ap, _∙_}
+use lib.Dec.{eqb, ltb}
 use lib.IntN.{ℤ, pos, negsuc}
-use borrow.Author.Tests.{ltb-true, leb-true}
+use borrow.Author.Tests.{ltb-true, leb-true, ne-eqb}
 use Rattle.map_tiles.specs.Map.{isMap}
 use Rattle.map_tiles.specs.declared.tiles.Sides.{Sides}
 use Rattle.map_tiles.specs.Box.{checkBox, Clear, characterBox}
@@ -14,6 +14,7 @@ use Rattle.game_records.specs.declared.PlayerInput.{PlayerInput}
 use Rattle.game_refusals.specs.Refusals.{badTuning, badHold}
 use Rattle.game_tuning.specs.Tuning.{tuningCount, mayTune}
 use Rattle.character.specs.Slot.{joinedSlot, withInput}
+use Rattle.character.specs.declared.Slot.{Slot}
 use Rattle.character.specs.Tick.{slotAt}
 use Rattle.num_convert.specs.Casts.{IsI32}
 use Rattle.world.specs.World.{withSlot, withTuning}
@@ -36,6 +37,16 @@ pub reach-i32 : (z : ℤ) → inReach z ≡ true → IsI32 z
 unfolding inReach
 reach-i32 (pos k) e = let h : k ≤ 100000 = leb-true k 100000 e in omega arith
 reach-i32 (negsuc k) e = let h : suc k ≤ 100000 = leb-true (suc k) 100000 e in omega arith
+
+-- it is u where the answer is 0, and w where it is not
+pub outcome-world : {F : Type 0} (w u : World) (a : Answer) → Outcome w u F a → a .world ≡ cond (eqb (a .number) 0) u w
+outcome-world w u a (no r e) = rw (e, ne-eqb (suc r) 0 (λ q. omega arith))
+outcome-world w u a (yes f e) = rw e
+
+-- under those facts
+pub outcome-facts : {F : Type 0} (w u : World) (a : Answer) → Outcome w u F a → a .number ≡ 0 → F
+outcome-facts w u a (no r e) q = let z : suc r ≡ 0 = sym (ap (λ (b : Answer). b .number) e) ∙ q in absurd (omega arith)
+outcome-facts w u a (yes f e) q = f
 
 -- ---- join
 module _ (n : ℕ) (w : World) (s : Sides) (ts : List ℕ) where
@@ -107,3 +118,48 @@ module _ (w : World) (index z : ℤ) where
       go false c l p = no 2 refl
       go true false l p = no 15 refl
       go true true l p = yes (record { index-known = ltb-true k tuningCount l; taken = p }) refl
+
+-- ---- in which number a call ends, by who is at the seat that it names
+module _ (n : ℕ) (w v : World) (id : ℤ) (same : slotAt (w .slots) (placeOf n id) .present ≡ slotAt (v .slots) (placeOf n id) .present) where
+  pub join-number : (s : Sides) (ts : List ℕ) (x y : ℤ) → join n w s ts id x y .number ≡ join n v s ts id x y .number
+  unfolding join joinAt
+  join-number s ts x y = rw same (go (isMap s ts) (ltb j n) (inReach x && inReach y) (checkBox s ts (pointOf x y) characterBox) (slotAt (v .slots) j .present))
+    where
+      j : ℕ
+      j = placeOf n id
+
+      new : Slot
+      new = joinedSlot (pointOf x y)
+
+      go : (a b c d e : Bool) → cond a (cond b (cond c (cond d (refused w 5) (cond e (refused w 7) (accepted (withSlot w j new)))) (refused w 4)) (refused w 2)) (refused w 1) .number ≡ cond a (cond b (cond c (cond d (refused v 5) (cond e (refused v 7) (accepted (withSlot v j new)))) (refused v 4)) (refused v 2)) (refused v 1) .number
+      go false b c d e = refl
+      go true false c d e = refl
+      go true true false d e = refl
+      go true true true true e = refl
+      go true true true false true = refl
+      go true true true false false = refl
+
+  seat-number : (w' v' : World) → cond (ltb (placeOf n id) n) (ifPresent w (placeOf n id) w') (refused w 2) .number ≡ cond (ltb (placeOf n id) n) (ifPresent v (placeOf n id) v') (refused v 2) .number
+  seat-number w' v' = rw same (go (ltb (placeOf n id) n) (slotAt (v .slots) (placeOf n id) .present))
+    where
+      go : (a b : Bool) → cond a (cond b (accepted w') (refused w 8)) (refused w 2) .number ≡ cond a (cond b (accepted v') (refused v 8)) (refused v 2) .number
+      go false b = refl
+      go true false = refl
+      go true true = refl
+
+  pub leave-number : leave n w id .number ≡ leave n v id .number
+  unfolding leave
+  leave-number = seat-number _ _
+
+  pub input-number : (i : PlayerInput) → input n w id i .number ≡ input n v id i .number
+  unfolding input
+  input-number i = seat-number _ _
+
+pub tune-number : (w v : World) (index z : ℤ) → tune w index z .number ≡ tune v index z .number
+unfolding tune
+tune-number w v index z = let k = placeOf tuningCount index in go k (ltb k tuningCount) (mayTune k z)
+  where
+    go : (k : ℕ) (b c : Bool) → cond b (cond c (accepted (withTuning w k z)) (refused w badHold)) (refused w badTuning) .number ≡ cond b (cond c (accepted (withTuning v k z)) (refused v badHold)) (refused v badTuning) .number
+    go k true true = refl
+    go k true false = refl
+    go k false c = refl

@@ -27,7 +27,7 @@ use Rattle.world.specs.declared.Answer.{Answer}
 use Rattle.world.specs.declared.Stepped.{Stepped}
 use Rattle.world.specs.declared.World.{World}
 use Rattle.world.proofs.NextSlot.{join-slot, leave-slot, input-slot, tune-slot}
-use Rattle.world.proofs.Outcomes.{outcome-kept, join-outcome, leave-outcome, input-outcome}
+use Rattle.world.proofs.Outcomes.{outcome-kept, join-outcome, leave-outcome, input-outcome, join-number, leave-number, input-number}
 use Rattle.world.proofs.Seats.{by-test}
 use Rattle.world_solo.specs.Solo.{forOther, SoloStep, Seen, seenBy}
 use Rattle.world_solo.proofs.Free.{Free, empty-free, joined-free, free-released}
@@ -41,42 +41,6 @@ pub record Left : Type 0 where
 
 abbrev pub leftBy : ℕ → Stepped → Call → Left
 leftBy k a c = record { shown = seenBy k a c; slot = slotAt (a .world .slots) k; tunings = a .world .tunings }
-
--- ---- in which number a call ends, by who is at the seat that it names
-module _ (n : ℕ) (w v : World) (id : ℤ) (same : slotAt (w .slots) (placeOf n id) .present ≡ slotAt (v .slots) (placeOf n id) .present) where
-  join-number : (s : Sides) (ts : List ℕ) (x y : ℤ) → join n w s ts id x y .number ≡ join n v s ts id x y .number
-  unfolding join joinAt
-  join-number s ts x y = rw same (go (isMap s ts) (ltb j n) (inReach x && inReach y) (checkBox s ts (pointOf x y) characterBox) (slotAt (v .slots) j .present))
-    where
-      j : ℕ
-      j = placeOf n id
-
-      new : Slot
-      new = joinedSlot (pointOf x y)
-
-      go : (a b c d e : Bool) → cond a (cond b (cond c (cond d (refused w 5) (cond e (refused w 7) (accepted (withSlot w j new)))) (refused w 4)) (refused w 2)) (refused w 1) .number ≡ cond a (cond b (cond c (cond d (refused v 5) (cond e (refused v 7) (accepted (withSlot v j new)))) (refused v 4)) (refused v 2)) (refused v 1) .number
-      go false b c d e = refl
-      go true false c d e = refl
-      go true true false d e = refl
-      go true true true true e = refl
-      go true true true false true = refl
-      go true true true false false = refl
-
-  seat-number : (w' v' : World) → cond (ltb (placeOf n id) n) (ifPresent w (placeOf n id) w') (refused w 2) .number ≡ cond (ltb (placeOf n id) n) (ifPresent v (placeOf n id) v') (refused v 2) .number
-  seat-number w' v' = rw same (go (ltb (placeOf n id) n) (slotAt (v .slots) (placeOf n id) .present))
-    where
-      go : (a b : Bool) → cond a (cond b (accepted w') (refused w 8)) (refused w 2) .number ≡ cond a (cond b (accepted v') (refused v 8)) (refused v 2) .number
-      go false b = refl
-      go true false = refl
-      go true true = refl
-
-  leave-number : leave n w id .number ≡ leave n v id .number
-  unfolding leave
-  leave-number = seat-number _ _
-
-  input-number : (i : PlayerInput) → input n w id i .number ≡ input n v id i .number
-  unfolding input
-  input-number i = seat-number _ _
 
 -- a tune makes of the tunings what comes of them
 tune-tunings : (w v : World) (index z : ℤ) → w .tunings ≡ v .tunings → tune w index z .world .tunings ≡ tune v index z .world .tunings

@@ -1,0 +1,5 @@
+pub mod Changes
+pub mod Seatwise
+pub mod Deeds
+pub mod Calls
+pub mod Late
