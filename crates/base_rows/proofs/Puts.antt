@@ -1,4 +1,4 @@
--- Laws of `put`, of numbers and of bytes alike: one element, one more, one row after another, and what stands before, in and behind it. Assumes nothing.
+-- Laws of `put`, of numbers and of bytes alike: one element, one more, one row after another, what stands before, in and behind it, and two of them. Assumes nothing.
 use Prim.Native.Nat.{ℕ, _+_, _-_, _≤_, _<_}
 use mathlib.Core.Path.{_≡_, refl, sym, ap, ap₂, _∙_}
 use mathlib.Core.List.{List, [], _∷_, _++_, append-assoc, append-nil}
@@ -8,7 +8,7 @@ use native.Mathlib.Nat.{add-zero}
 use native.Mathlib.Numerals.{add-one}
 use lib.Dec.{lit<}
 use lib.ListN.{length, take, drop, set, getD, length-append, length-drop, take-append-drop}
-use lib.Seq.{length-take-le, take-at, drop-at, drop-drop, drop-length, set-split, take-suc, take-add, take-take, take-append-le, getD-take, getD-drop, drop-append-le}
+use lib.Seq.{length-take-le, take-at, drop-at, drop-drop, drop-length, set-split, take-suc, take-add, take-take, take-append-le, getD-take, getD-drop, drop-append-le, drop-append-add}
 use Rattle.base_rows.specs.Put.{put}
 
 module _ {A : Type 0} where
@@ -136,3 +136,29 @@ module _ {A : Type 0} where
       ap₂ (λ (a b : List A). a ++ (w ++ b)) (take-append-le at d e (omega arith)) (drop-append-le (at + length w) d e h)
       ∙ ap (λ (l : List A). take at d ++ l) (sym (append-assoc w (drop (at + length w) d) e))
       ∙ sym (append-assoc (take at d) (w ++ drop (at + length w) d) e)
+
+  -- in the second of them
+  put-second : (d e : List A) (at : ℕ) (w : List A) → length d ≡ at → put (d ++ e) at w ≡ d ++ put e 0 w
+  unfolding put
+  put-second d e at w h =
+      let z : length w ≡ 0 + length w = omega arith in
+      ap₂ (λ (a b : List A). a ++ (w ++ b)) (take-at d e at h) (ap (λ (n : ℕ). drop (n + length w) (d ++ e)) (sym h) ∙ drop-append-add d e (length w) ∙ ap (λ (n : ℕ). drop n e) z)
+
+  -- ---- two rows that are written
+  -- into different places, in either order
+  pub put-apart : (d : List A) (a : ℕ) (u : List A) (b : ℕ) (v : List A) → a + length u ≤ b → b + length v ≤ length d → put (put d a u) b v ≡ put (put d b v) a u
+  put-apart d a u b v h g =
+      let f : List A = take b d in
+      let r : List A = drop b d in
+      let e : length f ≡ b = length-take-le b d (omega arith) in
+      ap (λ (q : List A). put (put q a u) b v) (sym (take-append-drop b d))
+      ∙ ap (λ (q : List A). put q b v) (put-append f r a u (omega arith))
+      ∙ put-second (put f a u) r b v (length-put f a u (omega arith) ∙ e)
+      ∙ sym (put-append f (put r 0 v) a u (omega arith))
+      ∙ ap (λ (q : List A). put q a u) (sym (put-second f r b v e))
+      ∙ ap (λ (q : List A). put (put q b v) a u) (take-append-drop b d)
+
+  -- into the same place: the second stays
+  pub put-over : (d : List A) (at : ℕ) (u v : List A) → length u ≡ length v → at + length u ≤ length d → put (put d at u) at v ≡ put d at v
+  unfolding put
+  put-over d at u v e h = ap₂ (λ (a b : List A). a ++ (v ++ b)) (take-before d at u at (omega arith) (omega arith)) (drop-behind d at u (at + length v) (omega arith) (omega arith))

@@ -101,7 +101,7 @@ pub deeds-commute : (i j : ℕ) (e f : Deed) (w : World) → (i ≡ j → ⊥) �
 deeds-commute i j e f w d = world (ext-getD nowhere _ _ (size j f (act i e w) ∙ size i e w ∙ sym (size i e (act j f w) ∙ size j f w)) (λ m l. each m (subst (λ (r : ℕ). m < r) (size j f (act i e w) ∙ size i e w) l)))
   where
     each : (m : ℕ) → m < length (w .slots) → slotAt (act j f (act i e w) .slots) m ≡ slotAt (act i e (act j f w) .slots) m
-    each = acts-agree (λ u m. slotAt (u .slots) m) (λ u m. m < length (u .slots)) (λ k. Unit {0}) act mine others (λ k g u a m h. subst (λ (r : ℕ). m < r) (sym (size k g u)) h) (λ k g u a h. own k g u h) (λ k g u a m h q. else k g u m q) passes agree i j e f w tt tt d
+    each = acts-agree (λ u m. slotAt (u .slots) m) (λ u m. m < length (u .slots)) (λ k. Unit {0}) (λ x. Unit {0}) act mine others (λ u m h. tt) (λ k g u a m h. subst (λ (r : ℕ). m < r) (sym (size k g u)) h) (λ k g u a h. own k g u h) (λ k g u a m h q. else k g u m q) (λ k g g' x r. passes k g g' x) (λ i j g g' x r. agree i j g g' x) i j e f w tt tt d
 
     tunings : (k : ℕ) (g : Deed) (u : World) → act k g u .tunings ≡ u .tunings
     tunings k (joining p) u = refl

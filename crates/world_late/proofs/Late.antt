@@ -19,61 +19,46 @@ use Rattle.world.specs.Calls.{placeOf}
 use Rattle.world.specs.Run.{inputOf, withoutRecords, ran, after, Told, toldBy, told}
 use Rattle.world.specs.declared.Stepped.{Stepped}
 use Rattle.world.specs.declared.World.{World}
-use Rattle.world.proofs.Outcomes.{outcome-facts, input-outcome}
+use Rattle.world.proofs.Outcomes.{outcome-facts, input-outcome, input-number, tune-number}
 use Rattle.world.proofs.Seats.{present-within}
-use Rattle.world_late.specs.Late.{Subject, seat, tuning, everything, subjectOf, Apart, MayExchange, MayReplace, inputs, tunes, Exchanged, CallsCommute, LaterReplaces, CallTold, callsTold, Reordered, same, exchange, behind, again, LateLists, Struck, StruckLists}
-use Rattle.world_late.proofs.Changes.{Change, left, Commuting, commuting, replacing}
-use Rattle.world_late.proofs.Deeds.{act, storing, else-present, deeds-commute, deed-tuned}
-use Rattle.world_late.proofs.Calls.{places-apart, change, Makes, AtSeat, AtTuning, At, call-at}
+use Rattle.world_late.specs.Late.{subjectOf, MayExchange, MayReplace, inputs, tunes, Exchanged, CallsCommute, LaterReplaces, CallTold, callsTold, Reordered, same, exchange, behind, again, LateLists, Struck, StruckLists}
+use Rattle.world_late.proofs.Changes.{left, Commuting, replacing}
+use Rattle.world_late.proofs.Deeds.{storing, act, deeds-commute, deed-tuned}
+use Rattle.world_late.proofs.Subjects.{both-named, subjects-commute}
+use Rattle.world_late.proofs.Calls.{AnySize, tuned, numberOf, call-at, change, Makes, makes}
 
 module _ (n : ℕ) (s : Sides) (ts : List ℕ) where
   -- a call that tells its number alone tells the same where that is the same
-  tells : (c : Call) (f : World → World) → Makes n s ts c f → (w v : World) → ran n s ts w c .number ≡ ran n s ts v c .number → toldBy (ran n s ts w c) ≡ toldBy (ran n s ts v c)
-  tells c f m w v e = ap toldBy (m .quiet w) ∙ ap (λ (k : ℕ). toldBy (withoutRecords n (record { number = k; world = w }))) e ∙ ap toldBy (sym (m .quiet v))
+  tells : (c : Call) → Makes n s ts c → (w v : World) → ran n s ts w c .number ≡ ran n s ts v c .number → toldBy (ran n s ts w c) ≡ toldBy (ran n s ts v c)
+  tells c m w v e = ap toldBy (m .quiet w) ∙ ap (λ (k : ℕ). toldBy (withoutRecords n (record { number = k; world = w }))) e ∙ ap toldBy (sym (m .quiet v))
 
   -- ---- exchanged
-  module _ (w : World) (c d : Call) where
-    exchanged : (f g : World → World) → Makes n s ts c f → Makes n s ts d g → Commuting (change n s ts c f) (change n s ts d g) w → Exchanged n s ts w c d
-    exchanged f g m k h = record {
-      first = tells c f m (ran n s ts w d .world) w (ap (λ (v : World). ran n s ts v c .number) (k .leaves w) ∙ h .first);
-      second = tells d g k (ran n s ts w c .world) w (ap (λ (v : World). ran n s ts v d .number) (m .leaves w) ∙ h .second);
-      world = k .leaves (ran n s ts w c .world) ∙ ap (left (change n s ts d g)) (m .leaves w) ∙ h .state ∙ sym (m .leaves (ran n s ts w d .world) ∙ ap (left (change n s ts c f)) (k .leaves w));
-    }
-
-    by-subjects : (p q : Subject) → At n s ts c p → At n s ts d q → Apart p q → Exchanged n s ts w c d
-    by-subjects (seat a) (seat b) x y h =
-        let i = placeOf n a in
-        let j = placeOf n b in
-        exchanged (act i (x .deed)) (act j (y .deed)) (x .makes) (y .makes) (commuting _ _ w
-        (λ z. x .number (act j (y .deed) w) w (else-present j (y .deed) w i (places-apart n a b h (y .known w z))))
-        (λ z. y .number (act i (x .deed) w) w (else-present i (x .deed) w j (places-apart n b a (λ e. h (sym e)) (x .known w z))))
-        (λ z t. deeds-commute i j (x .deed) (y .deed) w (places-apart n a b h (y .known w t))))
-    by-subjects (seat a) (tuning b) x y h = exchanged _ _ (x .makes) (y .makes) (commuting _ _ w (λ z. x .number _ w refl) (λ z. y .number _ w) (λ z t. deed-tuned (placeOf n a) (x .deed) w (placeOf tuningCount b) (y .value)))
-    by-subjects (tuning a) (seat b) x y h = exchanged _ _ (x .makes) (y .makes) (commuting _ _ w (λ z. x .number _ w) (λ z. y .number _ w refl) (λ z t. sym (deed-tuned (placeOf n b) (y .deed) w (placeOf tuningCount a) (x .value))))
-    by-subjects (tuning a) (tuning b) x y h =
-        let i = placeOf tuningCount a in
-        let j = placeOf tuningCount b in
-        exchanged _ _ (x .makes) (y .makes) (commuting _ _ w (λ z. x .number _ w) (λ z. y .number _ w)
-        (λ z t. ap (λ (l : List ℤ). record { slots = w .slots; tunings = l }) (set-comm (w .tunings) i j (x .value) (y .value) (places-apart tuningCount a b h (y .known w t)))))
-    by-subjects (seat a) everything x y h = absurd h
-    by-subjects (tuning a) everything x y h = absurd h
-    by-subjects everything q x y h = absurd h
+  exchanged : (w : World) (c d : Call) → Makes n s ts c → Makes n s ts d → Commuting (change n s ts c) (change n s ts d) w → Exchanged n s ts w c d
+  exchanged w c d m k h = record {
+    first = tells c m (ran n s ts w d .world) w (ap (λ (v : World). ran n s ts v c .number) (k .leaves w) ∙ h .first);
+    second = tells d k (ran n s ts w c .world) w (ap (λ (v : World). ran n s ts v d .number) (m .leaves w) ∙ h .second);
+    world = k .leaves (ran n s ts w c .world) ∙ ap (left (change n s ts d)) (m .leaves w) ∙ h .state ∙ sym (m .leaves (ran n s ts w d .world) ∙ ap (left (change n s ts c)) (k .leaves w));
+  }
 
 pub calls-commute : (n : ℕ) → CallsCommute n
-calls-commute n s ts w c d h = by-subjects n s ts w c d (subjectOf c) (subjectOf d) (call-at n s ts c) (call-at n s ts d) h
+calls-commute n s ts w c d h =
+    let p = subjectOf c in
+    let q = subjectOf d in
+    let named = both-named p q h in
+    exchanged n s ts w c d (makes n s ts c (named .0)) (makes n s ts d (named .1))
+    (subjects-commute n AnySize act tuned (numberOf n s ts) (λ i j e f v u l k r. deeds-commute i j e f v r) (λ k e i z v u l r. deed-tuned k e v i z) (λ i j y z v r. ap (λ (l : List ℤ). record { slots = v .slots; tunings = l }) (set-comm (v .tunings) i j y z r)) c d p q (call-at n s ts c) (call-at n s ts d) h w)
 
 -- ---- replaced
 module _ (n : ℕ) (s : Sides) (ts : List ℕ) where
-  module _ (w : World) (c d : Call) where
-    replaced : (f g : World → World) → Makes n s ts c f → Makes n s ts d g
-        → (ran n s ts w c .number ≡ 0 → ran n s ts (f w) d .number ≡ ran n s ts w d .number) → (ran n s ts w c .number ≡ 0 → g (f w) ≡ g w)
-        → ran n s ts (ran n s ts w c .world) d .number ≡ 0 → ran n s ts (ran n s ts w c .world) d ≡ ran n s ts w d
-    replaced f g m k p q z =
-        let v = ran n s ts w c .world in
-        let e = replacing (change n s ts c f) (change n s ts d g) w p (λ i j. q i) (sym (ap (λ (u : World). ran n s ts u d .number) (m .leaves w)) ∙ z) in
-        k .quiet v
-        ∙ ap₂ (λ (i : ℕ) (u : World). withoutRecords n (record { number = i; world = u })) (ap (λ (u : World). ran n s ts u d .number) (m .leaves w) ∙ e .0) (k .leaves v ∙ ap (left (change n s ts d g)) (m .leaves w) ∙ e .1 ∙ sym (k .leaves w))
-        ∙ sym (k .quiet w)
+  replaced : (w : World) (c d : Call) → Makes n s ts c → Makes n s ts d
+      → (ran n s ts w c .number ≡ 0 → change n s ts d .number (change n s ts c .next w) ≡ change n s ts d .number w) → (ran n s ts w c .number ≡ 0 → change n s ts d .next (change n s ts c .next w) ≡ change n s ts d .next w)
+      → ran n s ts (ran n s ts w c .world) d .number ≡ 0 → ran n s ts (ran n s ts w c .world) d ≡ ran n s ts w d
+  replaced w c d m k p q z =
+      let v = ran n s ts w c .world in
+      let e = replacing (change n s ts c) (change n s ts d) w p (λ i j. q i) (sym (ap (λ (u : World). ran n s ts u d .number) (m .leaves w)) ∙ z) in
+      k .quiet v
+      ∙ ap₂ (λ (i : ℕ) (u : World). withoutRecords n (record { number = i; world = u })) (ap (λ (u : World). ran n s ts u d .number) (m .leaves w) ∙ e .0) (k .leaves v ∙ ap (left (change n s ts d)) (m .leaves w) ∙ e .1 ∙ sym (k .leaves w))
+      ∙ sym (k .quiet w)
 
   -- an input at the seat of another
   module _ (w : World) (k : ℕ) (i : PlayerInput) where
@@ -93,13 +78,15 @@ module _ (n : ℕ) (s : Sides) (ts : List ℕ) where
   replaces-at w (inputs {id} {d} {x} {y} {j} {h} {d'} {x'} {y'} {j'} {h'}) =
       let k = placeOf n id in
       let i = inputOf d x y j h in
-      let e = call-at n s ts (Input id d x y j h) in
-      let f = call-at n s ts (Input id d' x' y' j' h') in
-      replaced w _ _ _ _ (e .makes) (f .makes) (λ z. f .number (act k (storing i) w) w (stored-present w k i)) (λ z. stored-again w k i (inputOf d' x' y' j' h') (outcome-facts w _ _ (input-outcome n w id i) z .there))
+      let i' = inputOf d' x' y' j' h' in
+      let c = Input id d x y j h in
+      let e = Input id d' x' y' j' h' in
+      replaced w c e (makes n s ts c tt) (makes n s ts e tt) (λ z. input-number n (act k (storing i) w) w id (stored-present w k i) i') (λ z. stored-again w k i i' (outcome-facts w _ _ (input-outcome n w id i) z .there))
   replaces-at w (tunes {index} {z} {z'}) =
-      let e = call-at n s ts (Tune index z) in
-      let f = call-at n s ts (Tune index z') in
-      replaced w _ _ _ _ (e .makes) (f .makes) (λ q. f .number _ w) (λ q. ap (λ (l : List ℤ). record { slots = w .slots; tunings = l }) (set-set (w .tunings) (placeOf tuningCount index) z z'))
+      let c = Tune index z in
+      let e = Tune index z' in
+      let k = placeOf tuningCount index in
+      replaced w c e (makes n s ts c tt) (makes n s ts e tt) (λ q. tune-number (tuned k z w) w index z') (λ q. ap (λ (l : List ℤ). record { slots = w .slots; tunings = l }) (set-set (w .tunings) k z z'))
 
 pub later-replaces : (n : ℕ) → LaterReplaces n
 later-replaces n s ts w c d h = replaces-at n s ts w h
