@@ -14,6 +14,7 @@ use Rattle.trial_rule.proofs.Tables.{rows-tell, independent}
 use Rattle.trial_rule.proofs.Runs.{counts-steps}
 use Rattle.trial_rule.proofs.Told.{tells-smallest, tells-nobody, jumps-after-stay}
 use Rattle.trial_rule.proofs.ByCalls.{runs-by-calls}
+use Rattle.world_late.proofs.Late.{calls-commute, later-replaces, late-lists, struck-lists}
 use Rattle.send_rule.proofs.Shown.{screen-shows}
 use Rattle.send_rule.proofs.Sparing.{sender-spares}
 use Rattle.send_rule.proofs.Along.{sender-passes}
@@ -24,6 +25,7 @@ use Rattle.world_numbers.proofs.Any.{any-comes-back}
 use Rattle.world_buffers.proofs.Stands.{calls-stand}
 use Rattle.world_buffers.proofs.Refusals.{refusals-leave}
 use Rattle.world_buffers.proofs.Reached.{buffer-follows}
+use Rattle.world_late_buffers.proofs.LateNumbers.{numbers-commute, numbers-replaced, late-numbers}
 use Rattle.send_buffers.proofs.Reached.{link-follows}
 use Rattle.role_rule.proofs.Requests.{roles-hold}
 use Rattle.search_rule.proofs.Laws.{search-reaches}
@@ -63,6 +65,10 @@ all-theorems n = record {
   trialCalls = runs-by-calls n;
   ways = search-reaches n;
   hold = hook-hold n;
+  commute = calls-commute n;
+  replace = later-replaces n;
+  late = late-lists n;
+  struck = struck-lists n;
 }
 
 pub shipped : Shipped
@@ -79,4 +85,7 @@ shipped = record {
   follows = change-follows;
   reaches = change-reaches;
   holding = holding;
+  numbersCommute = numbers-commute;
+  numbersReplaced = numbers-replaced;
+  lateNumbers = late-numbers;
 }

@@ -11,6 +11,7 @@ use Rattle.world.specs.Deadly.{StepSpikes}
 use Rattle.world.specs.Hold.{HookHold}
 use Rattle.world_solo.specs.Solo.{Solo}
 use Rattle.trial_rule.specs.Laws.{RowsTell, Independent, CountsSteps, TellsSmallest, TellsNobody, JumpsAfterStay, RunsByCalls}
+use Rattle.world_late.specs.Late.{CallsCommute, LaterReplaces, LateLists, StruckLists}
 use Rattle.send_rule.specs.Shown.{Shown}
 use Rattle.send_rule.specs.Sparing.{Sparing}
 use Rattle.send_rule.specs.Along.{Along}
@@ -18,6 +19,7 @@ use Rattle.send_rule.specs.Foreseen.{Foreseen, Stays}
 use Rattle.send_alone.specs.Alone.{CopiesAlone}
 use Rattle.world_numbers.specs.Decoding.{ComesBack, AnyComesBack}
 use Rattle.world_buffers.specs.Following.{CallsStand, RefusalsLeave, BufferFollows}
+use Rattle.world_late_buffers.specs.LateNumbers.{NumbersCommute, NumbersReplaced, LateNumbers}
 use Rattle.send_buffers.specs.Following.{LinkFollows}
 use Rattle.role_rule.specs.Requests.{Roles}
 use Rattle.search_rule.specs.Laws.{Reaches}
@@ -67,6 +69,11 @@ pub record Theorems (n : ℕ) : Type 0 where
   pub ways : Reaches n
   -- request 13: the hook's hold
   pub hold : HookHold n
+  -- request 14: calls that arrive late, two of them and in lists
+  pub commute : CallsCommute n
+  pub replace : LaterReplaces n
+  pub late : LateLists n
+  pub struck : StruckLists n
 
 -- at the seats that there are; and that the numbers which C programs hold are those of the worlds and links that the theorems speak of
 pub record Shipped : Type 0 where
@@ -87,3 +94,7 @@ pub record Shipped : Type 0 where
   pub reaches : ChangeReaches
   -- request 13: what a tick makes of a hook that holds somebody, whatever the hold
   pub holding : Holding
+  -- request 14: late calls on any numbers
+  pub numbersCommute : NumbersCommute
+  pub numbersReplaced : NumbersReplaced
+  pub lateNumbers : LateNumbers

@@ -13,7 +13,7 @@ use Rattle.world.specs.declared.World.{World}
 use Rattle.world.proofs.Outcomes.{outcome-world, outcome-facts, join-outcome, leave-outcome, input-outcome, tune-outcome, join-number, leave-number, input-number, tune-number}
 use Rattle.world_late.specs.Late.{subjectOf}
 use Rattle.world_late.proofs.Changes.{Change, left}
-use Rattle.world_late.proofs.Deeds.{Deed, joining, leaving, storing, act, else-present}
+use Rattle.world_late.proofs.Deeds.{joining, leaving, storing, act, else-present}
 use Rattle.world_late.proofs.Subjects.{Named, At, changeAt}
 
 -- worlds have any size

@@ -1,7 +1,6 @@
 -- What a join, a leave and an input do at a seat, and that deeds at two seats may be exchanged, hooks released by them included. Assumes nothing.
 use Prim.Native.Nat.{ℕ, _<_}
 use mathlib.Core.Bool.{Bool, true, false, cond}
-use mathlib.Core.List.{List}
 use mathlib.Core.Path.{_≡_, refl, sym, ap, _∙_, subst}
 use lib.IntN.{ℤ}
 use lib.ListN.{length, length-set}

@@ -1,6 +1,6 @@
 -- Calls for different ids and tunings commute, and a later input or tuning replaces an earlier one, in every world and every list. Assumes nothing.
-use Prim.Native.Nat.{ℕ, _<_}
-use mathlib.Core.Bool.{Bool, true, false, true≢false}
+use Prim.Native.Nat.{ℕ}
+use mathlib.Core.Bool.{true}
 use mathlib.Core.List.{List, [], _∷_, _++_}
 use mathlib.Core.Path.{_≡_, refl, sym, ap, ap₂, _∙_, subst}
 use lib.IntN.{ℤ}
@@ -14,14 +14,14 @@ use Rattle.character.specs.Tick.{slotAt, nowhere}
 use Rattle.character.specs.declared.Slot.{Slot}
 use Rattle.character_laws.proofs.Slots.{set-every}
 use Rattle.world.specs.declared.call.Call.{Call}
-use Rattle.world.specs.declared.call.Call.the-variants.{Join, Leave, Input, Step, Tune}
+use Rattle.world.specs.declared.call.Call.the-variants.{Input, Tune}
 use Rattle.world.specs.Calls.{placeOf}
 use Rattle.world.specs.Run.{inputOf, withoutRecords, ran, after, Told, toldBy, told}
 use Rattle.world.specs.declared.Stepped.{Stepped}
 use Rattle.world.specs.declared.World.{World}
 use Rattle.world.proofs.Outcomes.{outcome-facts, input-outcome, input-number, tune-number}
 use Rattle.world.proofs.Seats.{present-within}
-use Rattle.world_late.specs.Late.{subjectOf, MayExchange, MayReplace, inputs, tunes, Exchanged, CallsCommute, LaterReplaces, CallTold, callsTold, Reordered, same, exchange, behind, again, LateLists, Struck, StruckLists}
+use Rattle.world_late.specs.Late.{subjectOf, MayExchange, MayReplace, inputs, tunes, Exchanged, CallsCommute, LaterReplaces, CallTold, callsTold, Reordered, same, exchange, behind, again, LateLists, StruckLists}
 use Rattle.world_late.proofs.Changes.{left, Commuting, replacing}
 use Rattle.world_late.proofs.Deeds.{storing, act, deeds-commute, deed-tuned}
 use Rattle.world_late.proofs.Subjects.{both-named, subjects-commute}

@@ -1,6 +1,6 @@
 -- Deeds at two seats of a state that is known seat by seat: in either order every seat is left the same. Assumes nothing.
 use Prim.Native.Nat.{ℕ}
-use mathlib.Core.Path.{_≡_, refl, sym, ap, _∙_, subst}
+use mathlib.Core.Path.{_≡_, sym, ap, _∙_, subst}
 use native.Mathlib.Decide.{ℕ-discrete}
 
 -- what a deed makes of the state, of what is at its own seat and at every other; which seats a state has, which a deed may be at, and what may be there

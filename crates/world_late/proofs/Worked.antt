@@ -1,5 +1,5 @@
 -- The worked lists, computed. Assumes nothing.
-use mathlib.Core.Path.{_≡_, refl}
+use mathlib.Core.Path.{refl}
 use Rattle.character_hook.specs.Hook.{holds}
 use Rattle.world.specs.Calls.{released, leave}
 use Rattle.world_late.specs.Worked.{Worked}

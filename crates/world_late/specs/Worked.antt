@@ -1,6 +1,6 @@
 -- What the claims leave out, worked: calls that may not be exchanged, and calls that replace nothing. Definitions only; proofs/Worked.antt computes them.
 use Prim.Native.Nat.{ℕ}
-use mathlib.Core.Bool.{Bool, true, false}
+use mathlib.Core.Bool.{true, false}
 use mathlib.Core.List.{List, [], _∷_, _++_, map}
 use mathlib.Core.Path.{_≡_}
 use lib.IntN.{ℤ, pos, negsuc}

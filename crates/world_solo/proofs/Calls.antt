@@ -8,8 +8,6 @@ use lib.IntN.{ℤ}
 use lib.ListN.{length, set, replicate, length-set, length-replicate}
 use lib.Seq.{getD-set-same}
 use borrow.Author.Tests.{eqb-true}
-use Rattle.map_tiles.specs.Box.{checkBox, characterBox}
-use Rattle.map_tiles.specs.Map.{isMap}
 use Rattle.map_tiles.specs.declared.tiles.Sides.{Sides}
 use Rattle.game_records.specs.declared.PlayerInput.{PlayerInput}
 use Rattle.game_refusals.specs.Refusals.{badTuning, badHold}
@@ -19,8 +17,8 @@ use Rattle.character.specs.Tick.{slotAt, nowhere}
 use Rattle.character.specs.declared.Slot.{Slot}
 use Rattle.world.specs.declared.call.Call.{Call}
 use Rattle.world.specs.declared.call.Call.the-variants.{Join, Leave, Input, Step, Tune}
-use Rattle.world.specs.Calls.{refused, accepted, placeOf, inReach, pointOf, joinAt, join, releasedSlot, ifPresent, leave, input, tune}
-use Rattle.world.specs.World.{withSlot, withTuning}
+use Rattle.world.specs.Calls.{refused, accepted, placeOf, pointOf, join, releasedSlot, leave, input, tune}
+use Rattle.world.specs.World.{withTuning}
 use Rattle.world.specs.Run.{inputOf, ran}
 use Rattle.world.specs.Settled.{Settled}
 use Rattle.world.specs.declared.Answer.{Answer}
