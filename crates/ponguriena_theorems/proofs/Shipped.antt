@@ -14,6 +14,7 @@ use Rattle.trial_rule.proofs.Tables.{rows-tell, independent}
 use Rattle.trial_rule.proofs.Runs.{counts-steps}
 use Rattle.trial_rule.proofs.Told.{tells-smallest, tells-nobody, jumps-after-stay}
 use Rattle.trial_rule.proofs.ByCalls.{runs-by-calls}
+use Rattle.world_late.proofs.Arrival.{any-arrival}
 use Rattle.world_late.proofs.Late.{calls-commute, later-replaces, late-lists, struck-lists}
 use Rattle.send_rule.proofs.Shown.{screen-shows}
 use Rattle.send_rule.proofs.Sparing.{sender-spares}
@@ -85,6 +86,7 @@ shipped = record {
   follows = change-follows;
   reaches = change-reaches;
   holding = holding;
+  arrival = any-arrival;
   numbersCommute = numbers-commute;
   numbersReplaced = numbers-replaced;
   lateNumbers = late-numbers;

@@ -11,6 +11,7 @@ use Rattle.world.specs.Deadly.{StepSpikes}
 use Rattle.world.specs.Hold.{HookHold}
 use Rattle.world_solo.specs.Solo.{Solo}
 use Rattle.trial_rule.specs.Laws.{RowsTell, Independent, CountsSteps, TellsSmallest, TellsNobody, JumpsAfterStay, RunsByCalls}
+use Rattle.world_late.specs.Arrival.{AnyArrival}
 use Rattle.world_late.specs.Late.{CallsCommute, LaterReplaces, LateLists, StruckLists}
 use Rattle.send_rule.specs.Shown.{Shown}
 use Rattle.send_rule.specs.Sparing.{Sparing}
@@ -94,7 +95,8 @@ pub record Shipped : Type 0 where
   pub reaches : ChangeReaches
   -- request 13: what a tick makes of a hook that holds somebody, whatever the hold
   pub holding : Holding
-  -- request 14: late calls on any numbers
+  -- request 14: the orders in which calls may arrive, and late calls on any numbers
+  pub arrival : AnyArrival
   pub numbersCommute : NumbersCommute
   pub numbersReplaced : NumbersReplaced
   pub lateNumbers : LateNumbers

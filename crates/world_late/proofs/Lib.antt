@@ -4,4 +4,5 @@ pub mod Seatwise
 pub mod Deeds
 pub mod Calls
 pub mod Late
+pub mod Arrival
 pub mod Worked

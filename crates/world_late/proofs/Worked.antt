@@ -2,6 +2,7 @@
 use mathlib.Core.Path.{refl}
 use Rattle.character_hook.specs.Hook.{holds}
 use Rattle.world.specs.Calls.{released, leave}
+use Rattle.world_late.specs.Late.{inputs, tunes}
 use Rattle.world_late.specs.Worked.{Worked}
 use Rattle.world_solo.proofs.Computed.{floatRules, numberRules, mapRules, hookRules, characterRules, callRules}
 
@@ -22,8 +23,10 @@ worked = record {
   step-join = refl;
   leave-step = refl;
   step-leave = refl;
+  replaced = inputs;
   runs-last = refl;
   stands-last = refl;
+  tuned = tunes;
   refused-numbers = refl;
   refused-after = refl;
   refused-alone = refl;

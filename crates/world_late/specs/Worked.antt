@@ -16,6 +16,7 @@ use Rattle.world.specs.declared.call.Call.the-variants.{Join, Leave, Input, Ste
 use Rattle.world.specs.World.{fresh}
 use Rattle.world.specs.Run.{after, Told, told}
 use Rattle.world_solo.specs.Worked.{sides, tiles, hooking}
+use Rattle.world_late.specs.Late.{MayReplace}
 
 -- ---- one open tile, two seats
 
@@ -86,10 +87,12 @@ pub record Worked : Type 0 where
   pub step-join : yAfter (Step ∷ joined ∷ []) ≡ pos 0
   pub leave-step : xAfter (joined ∷ beside ∷ Leave (pos 1) ∷ Step ∷ []) ≡ pos 0
   pub step-leave : xAfter (joined ∷ beside ∷ Step ∷ Leave (pos 1) ∷ []) ≡ negsuc 9
-  -- the later input, and the later tuning, is the one that counts
+  -- the later input replaces the earlier, so in either order it is another one that counts
+  pub replaced : MayReplace stands runs
   pub runs-last : slotAfter 0 (joined ∷ stands ∷ runs ∷ []) .input .direction ≡ pos 1
   pub stands-last : slotAfter 0 (joined ∷ runs ∷ stands ∷ []) .input .direction ≡ pos 0
-  -- a tune that is refused replaces nothing
+  -- a later tune would replace an earlier one, but where it is refused it replaces nothing
+  pub tuned : MayReplace shortHold noHold
   pub refused-numbers : numbers (shortHold ∷ noHold ∷ []) ≡ 0 ∷ 16 ∷ []
   pub refused-after : tuningAfter hookHold (shortHold ∷ noHold ∷ []) ≡ pos 30
   pub refused-alone : tuningAfter hookHold (noHold ∷ []) ≡ pos 60

@@ -23,6 +23,6 @@ abbrev pub NumbersReplaced : Type 0
 NumbersReplaced = (s : Sides) (ts : List ℕ) (b : StepBuffers) (l : List ℤ) (c d : Call) → MayReplace c d
     → let m = leftBy s ts b l c .world in leftBy s ts b m d .number ≡ 0 → leftBy s ts b m d ≡ leftBy s ts b l d
 
--- after a whole list the numbers are the same in every order that exchanges lead to, and so is what every later call answers and tells
+-- after a whole list, in every order that exchanges of neighbours lead to
 abbrev pub LateNumbers : Type 0
 LateNumbers = (s : Sides) (ts : List ℕ) (b : StepBuffers) (l : List ℤ) (cs ds : List Call) → Reordered (λ c. c) cs ds → leftByAll s ts b l cs ≡ leftByAll s ts b l ds
