@@ -13,7 +13,7 @@ use Rattle.world.specs.declared.World.{World}
 use Rattle.world.proofs.Outcomes.{outcome-world, outcome-facts, join-outcome, leave-outcome, input-outcome, tune-outcome, join-number, leave-number, input-number, tune-number}
 use Rattle.world_late.specs.Late.{subjectOf}
 use Rattle.world_late.proofs.Changes.{Change, left}
-use Rattle.world_late.proofs.Deeds.{joining, leaving, storing, act, else-present}
+use Rattle.world_late.proofs.Actions.{joining, leaving, storing, act, else-present}
 use Rattle.world_late.proofs.Subjects.{Named, At, changeAt}
 
 -- worlds have any size
@@ -32,21 +32,21 @@ module _ (n : ℕ) (s : Sides) (ts : List ℕ) where
 
   unfoldable pub call-at : (c : Call) → AtIn c
   call-at (Join id x y) = record {
-    deed = joining (pointOf x y);
+    action = joining (pointOf x y);
     elsewhere = λ j e w u l d. join-number n (act j e w) w id (else-present j e w _ d) s ts x y;
     untuned = λ i z w u l. join-number n (tuned i z w) w id refl s ts x y;
     fits = λ w z. tt;
     known = λ w z. outcome-facts w _ _ (join-outcome n w s ts id x y) z .seat;
   }
   call-at (Leave id) = record {
-    deed = leaving;
+    action = leaving;
     elsewhere = λ j e w u l d. leave-number n (act j e w) w id (else-present j e w _ d);
     untuned = λ i z w u l. leave-number n (tuned i z w) w id refl;
     fits = λ w z. tt;
     known = λ w z. outcome-facts w _ _ (leave-outcome n w id) z .seat;
   }
   call-at (Input id d x y j h) = record {
-    deed = storing (inputOf d x y j h);
+    action = storing (inputOf d x y j h);
     elsewhere = λ k e w u l q. input-number n (act k e w) w id (else-present k e w _ q) (inputOf d x y j h);
     untuned = λ i z w u l. input-number n (tuned i z w) w id refl (inputOf d x y j h);
     fits = λ w z. tt;

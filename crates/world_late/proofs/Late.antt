@@ -23,7 +23,7 @@ use Rattle.world.proofs.Outcomes.{outcome-facts, input-outcome, input-number, t
 use Rattle.world.proofs.Seats.{present-within}
 use Rattle.world_late.specs.Late.{subjectOf, MayExchange, MayReplace, inputs, tunes, Exchanged, CallsCommute, LaterReplaces, CallTold, callsTold, Reordered, same, exchange, behind, again, LateLists, StruckLists}
 use Rattle.world_late.proofs.Changes.{left, Commuting, replacing}
-use Rattle.world_late.proofs.Deeds.{storing, act, deeds-commute, deed-tuned}
+use Rattle.world_late.proofs.Actions.{storing, act, actions-commute, action-tuned}
 use Rattle.world_late.proofs.Subjects.{both-named, subjects-commute}
 use Rattle.world_late.proofs.Calls.{AnySize, tuned, numberOf, call-at, change, Makes, makes}
 
@@ -46,7 +46,7 @@ calls-commute n s ts w c d h =
     let q = subjectOf d in
     let named = both-named p q h in
     exchanged n s ts w c d (makes n s ts c (named .0)) (makes n s ts d (named .1))
-    (subjects-commute n AnySize act tuned (numberOf n s ts) (λ i j e f v u l k r. deeds-commute i j e f v r) (λ k e i z v u l r. deed-tuned k e v i z) (λ i j y z v r. ap (λ (l : List ℤ). record { slots = v .slots; tunings = l }) (set-comm (v .tunings) i j y z r)) c d p q (call-at n s ts c) (call-at n s ts d) h w)
+    (subjects-commute n AnySize act tuned (numberOf n s ts) (λ i j e f v u l k r. actions-commute i j e f v r) (λ k e i z v u l r. action-tuned k e v i z) (λ i j y z v r. ap (λ (l : List ℤ). record { slots = v .slots; tunings = l }) (set-comm (v .tunings) i j y z r)) c d p q (call-at n s ts c) (call-at n s ts d) h w)
 
 -- ---- replaced
 module _ (n : ℕ) (s : Sides) (ts : List ℕ) where

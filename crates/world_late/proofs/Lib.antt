@@ -1,7 +1,7 @@
 pub mod Changes
 pub mod Subjects
 pub mod Seatwise
-pub mod Deeds
+pub mod Actions
 pub mod Calls
 pub mod Late
 pub mod Arrival

@@ -1,9 +1,9 @@
--- Deeds at two seats of a state that is known seat by seat: in either order every seat is left the same. Assumes nothing.
+-- Actions at two seats of a state that is known seat by seat: in either order every seat is left the same. Assumes nothing.
 use Prim.Native.Nat.{ℕ}
 use mathlib.Core.Path.{_≡_, sym, ap, _∙_, subst}
 use native.Mathlib.Decide.{ℕ-discrete}
 
--- what a deed makes of the state, of what is at its own seat and at every other; which seats a state has, which a deed may be at, and what may be there
+-- what an action makes of the state, of what is at its own seat and at every other; which seats a state has, which an action may be at, and what may be there
 module _ {S X D : Type 0} (at : S → ℕ → X) (Has : S → ℕ → Type 0) (Seat : ℕ → Type 0) (Row : X → Type 0)
     (act : ℕ → D → S → S) (mine : D → X → X) (others : ℕ → D → X → X)
     (row : (s : S) (m : ℕ) → Has s m → Row (at s m))
@@ -13,7 +13,7 @@ module _ {S X D : Type 0} (at : S → ℕ → X) (Has : S → ℕ → Type 0) (S
     (passes : (k : ℕ) (e f : D) (x : X) → Row x → others k e (mine f x) ≡ mine f (others k e x))
     (agree : (i j : ℕ) (e f : D) (x : X) → Row x → others i e (others j f x) ≡ others j f (others i e x))
   where
-    -- the seat m is that of the deed e at k, and not that of f at q
+    -- the seat m is that of the action e at k, and not that of f at q
     one : (k q m : ℕ) (e f : D) (s : S) → Seat k → Seat q → Has s m → m ≡ k → (m ≡ q → ⊥) → at (act q f (act k e s)) m ≡ at (act k e (act q f s)) m
     one k q m e f s a b h p r =
         else q f (act k e s) b m (has k e s a m h) r ∙ ap (others q f) (here s h) ∙ passes q f e (at s m) (row s m h) ∙ ap (mine e) (sym (else q f s b m h r)) ∙ sym (here (act q f s) (has q f s b m h))

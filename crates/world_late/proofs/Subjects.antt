@@ -39,11 +39,11 @@ both-named (seat a) everything h = absurd h
 both-named (tuning a) everything h = absurd h
 both-named everything q h = absurd h
 
--- a deed at one of n seats, and a tuning that is set, in a state of the right size; what a call answers
+-- an action at one of n seats, and a tuning that is set, in a state of the right size; what a call answers
 module _ {S D : Type 0} (n : ℕ) (Fits : S → Type 0) (act : ℕ → D → S → S) (tuned : ℕ → ℤ → S → S) (number : Call → S → ℕ) where
   -- what an accepted call does, and what its answer does not ask: of an id, who is elsewhere, and the tunings
   pub record AtSeat (c : Call) (id : ℤ) : Type 0 where
-    pub deed : D
+    pub action : D
     pub elsewhere : (j : ℕ) (e : D) (s : S) → Fits s → j < n → (placeOf n id ≡ j → ⊥) → number c (act j e s) ≡ number c s
     pub untuned : (i : ℕ) (z : ℤ) (s : S) → Fits s → i < tuningCount → number c (tuned i z s) ≡ number c s
     pub fits : (s : S) → number c s ≡ 0 → Fits s
@@ -63,7 +63,7 @@ module _ {S D : Type 0} (n : ℕ) (Fits : S → Type 0) (act : ℕ → D → S �
   At c everything = Unit {0}
 
   abbrev nextAt : (c : Call) (p : Subject) → At c p → S → S
-  nextAt c (seat id) x s = act (placeOf n id) (x .deed) s
+  nextAt c (seat id) x s = act (placeOf n id) (x .action) s
   nextAt c (tuning index) x s = tuned (placeOf tuningCount index) (x .value) s
   nextAt c everything x s = s
 
@@ -71,22 +71,22 @@ module _ {S D : Type 0} (n : ℕ) (Fits : S → Type 0) (act : ℕ → D → S �
   abbrev pub changeAt : (c : Call) (p : Subject) → At c p → Change S
   changeAt c p x = record { number = number c; next = nextAt c p x }
 
-  module _ (deeds : (i j : ℕ) (e f : D) (s : S) → Fits s → i < n → j < n → (i ≡ j → ⊥) → act j f (act i e s) ≡ act i e (act j f s))
-      (deed-tuned : (k : ℕ) (e : D) (i : ℕ) (z : ℤ) (s : S) → Fits s → k < n → i < tuningCount → tuned i z (act k e s) ≡ act k e (tuned i z s))
+  module _ (actions : (i j : ℕ) (e f : D) (s : S) → Fits s → i < n → j < n → (i ≡ j → ⊥) → act j f (act i e s) ≡ act i e (act j f s))
+      (action-tuned : (k : ℕ) (e : D) (i : ℕ) (z : ℤ) (s : S) → Fits s → k < n → i < tuningCount → tuned i z (act k e s) ≡ act k e (tuned i z s))
       (tunings : (i j : ℕ) (y z : ℤ) (s : S) → (i ≡ j → ⊥) → tuned j z (tuned i y s) ≡ tuned i y (tuned j z s)) where
     pub subjects-commute : (c d : Call) (p q : Subject) (x : At c p) (y : At d q) → Apart p q → (s : S) → Commuting (changeAt c p x) (changeAt d q y) s
     subjects-commute c d (seat a) (seat b) x y h s = commuting _ _ s
-        (λ z. x .elsewhere _ (y .deed) s (y .fits s z) (y .known s z) (places-apart n a b h (y .known s z)))
-        (λ z. y .elsewhere _ (x .deed) s (x .fits s z) (x .known s z) (places-apart n b a (λ e. h (sym e)) (x .known s z)))
-        (λ z t. deeds _ _ (x .deed) (y .deed) s (x .fits s z) (x .known s z) (y .known s t) (places-apart n a b h (y .known s t)))
+        (λ z. x .elsewhere _ (y .action) s (y .fits s z) (y .known s z) (places-apart n a b h (y .known s z)))
+        (λ z. y .elsewhere _ (x .action) s (x .fits s z) (x .known s z) (places-apart n b a (λ e. h (sym e)) (x .known s z)))
+        (λ z t. actions _ _ (x .action) (y .action) s (x .fits s z) (x .known s z) (y .known s t) (places-apart n a b h (y .known s t)))
     subjects-commute c d (seat a) (tuning b) x y h s = commuting _ _ s
         (λ z. x .untuned _ (y .value) s (y .fits s z) (y .known s z))
-        (λ z. y .anywhere _ (x .deed) s (x .fits s z) (x .known s z))
-        (λ z t. deed-tuned _ (x .deed) _ (y .value) s (x .fits s z) (x .known s z) (y .known s t))
+        (λ z. y .anywhere _ (x .action) s (x .fits s z) (x .known s z))
+        (λ z t. action-tuned _ (x .action) _ (y .value) s (x .fits s z) (x .known s z) (y .known s t))
     subjects-commute c d (tuning a) (seat b) x y h s = commuting _ _ s
-        (λ z. x .anywhere _ (y .deed) s (y .fits s z) (y .known s z))
+        (λ z. x .anywhere _ (y .action) s (y .fits s z) (y .known s z))
         (λ z. y .untuned _ (x .value) s (x .fits s z) (x .known s z))
-        (λ z t. sym (deed-tuned _ (y .deed) _ (x .value) s (x .fits s z) (y .known s t) (x .known s z)))
+        (λ z t. sym (action-tuned _ (y .action) _ (x .value) s (x .fits s z) (y .known s t) (x .known s z)))
     subjects-commute c d (tuning a) (tuning b) x y h s = commuting _ _ s
         (λ z. x .untuned _ (y .value) s (y .fits s z) (y .known s z))
         (λ z. y .untuned _ (x .value) s (x .fits s z) (x .known s z))

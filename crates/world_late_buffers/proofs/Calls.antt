@@ -29,9 +29,9 @@ use Rattle.world_buffers.specs.Stepping.{StepBuffers}
 use Rattle.world_buffers.specs.Following.{leftBy}
 use Rattle.world_late.specs.Late.{subjectOf}
 use Rattle.world_late.proofs.Changes.{Change, left}
-use Rattle.world_late.proofs.Deeds.{joining, leaving, storing}
+use Rattle.world_late.proofs.Actions.{joining, leaving, storing}
 use Rattle.world_late.proofs.Subjects.{Named, At, changeAt}
-use Rattle.world_late_buffers.proofs.Deeds.{actIn, act-size, else-there, tuned-there}
+use Rattle.world_late_buffers.proofs.Actions.{actIn, act-size, else-there, tuned-there}
 
 -- an input's numbers at the seat k
 abbrev pub storedIn : List ℤ → PlayerInput → ℕ → List ℤ
@@ -150,21 +150,21 @@ module _ (s : Sides) (ts : List ℕ) (b : StepBuffers) where
 
   unfoldable pub call-at : (c : Call) → At seats Fits actIn tunedIn numberIn c (subjectOf c)
   call-at (Join id x y) = record {
-    deed = joining (pointOf x y);
+    action = joining (pointOf x y);
     elsewhere = λ j e l h q d. join-number (actIn j e l) l (act-size l h j q e ∙ sym h) id (λ k. else-there l h j q e (placeOf seats id) k d) s ts x y;
     untuned = λ i z l h q. join-number (set l i z) l (length-set l i z) id (λ k. tuned-there l i z q (placeOf seats id)) s ts x y;
     fits = λ l z. join-decided l s ts id x y .facts z .0;
     known = λ l z. join-decided l s ts id x y .facts z .1;
   }
   call-at (Leave id) = record {
-    deed = leaving;
+    action = leaving;
     elsewhere = λ j e l h q d. leave-number (actIn j e l) l (act-size l h j q e ∙ sym h) id (λ k. else-there l h j q e (placeOf seats id) k d);
     untuned = λ i z l h q. leave-number (set l i z) l (length-set l i z) id (λ k. tuned-there l i z q (placeOf seats id));
     fits = λ l z. leave-decided l id .facts z .0;
     known = λ l z. leave-decided l id .facts z .1;
   }
   call-at (Input id d x y j u) = record {
-    deed = storing (inputOf d x y j u);
+    action = storing (inputOf d x y j u);
     elsewhere = λ k e l h q r. input-number (actIn k e l) l (act-size l h k q e ∙ sym h) id (λ i. else-there l h k q e (placeOf seats id) i r) (inputOf d x y j u);
     untuned = λ i z l h q. input-number (set l i z) l (length-set l i z) id (λ k. tuned-there l i z q (placeOf seats id)) (inputOf d x y j u);
     fits = λ l z. input-decided l id (inputOf d x y j u) .facts z .0;

@@ -26,7 +26,7 @@ use Rattle.world_late.specs.Late.{subjectOf, MayReplace, inputs, tunes, Reorder
 use Rattle.world_late.proofs.Changes.{left, replacing}
 use Rattle.world_late.proofs.Subjects.{Named, both-named, subjects-commute}
 use Rattle.world_late_buffers.specs.LateNumbers.{NumbersCommute, NumbersReplaced, LateNumbers}
-use Rattle.world_late_buffers.proofs.Deeds.{actIn, deeds-commute, deed-tuned}
+use Rattle.world_late_buffers.proofs.Actions.{actIn, actions-commute, action-tuned}
 use Rattle.world_late_buffers.proofs.Calls.{input-decided, input-number, tune-number, Fits, tunedIn, numberIn, call-at, changeIn, leaves-in}
 
 pub numbers-commute : NumbersCommute
@@ -36,7 +36,7 @@ numbers-commute s ts b l c d h =
     let named = both-named p q h in
     let f = leaves-in s ts b c (named .0) in
     let g = leaves-in s ts b d (named .1) in
-    let x = subjects-commute seats Fits actIn tunedIn (numberIn s ts b) deeds-commute deed-tuned (λ i j y z m r. set-comm m i j y z r) c d p q (call-at s ts b c) (call-at s ts b d) h l in
+    let x = subjects-commute seats Fits actIn tunedIn (numberIn s ts b) actions-commute action-tuned (λ i j y z m r. set-comm m i j y z r) c d p q (call-at s ts b c) (call-at s ts b d) h l in
     record {
       first = ap (λ (m : List ℤ). leftBy s ts b m c .number) (g l) ∙ x .first;
       second = ap (λ (m : List ℤ). leftBy s ts b m d .number) (f l) ∙ x .second;

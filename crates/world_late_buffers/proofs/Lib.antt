@@ -1,5 +1,5 @@
 pub mod Rows
 pub mod Hooks
-pub mod Deeds
+pub mod Actions
 pub mod Calls
 pub mod LateNumbers

@@ -28,7 +28,7 @@ use Rattle.world_numbers.specs.Decoding.{isSet}
 use Rattle.world_numbers.proofs.Rows.{present-long}
 use Rattle.world_buffers.specs.Buffers.{isThere}
 use Rattle.world_buffers.specs.Leaving.{isAttached, releaseIn, vacateIn}
-use Rattle.world_late.proofs.Deeds.{Deed, joining, leaving, storing}
+use Rattle.world_late.proofs.Actions.{Action, joining, leaving, storing}
 use Rattle.world_late.proofs.Seatwise.{acts-agree}
 use Rattle.world_late_buffers.proofs.Rows.{rowOf, row-size, put-row, put-rows, numbers-same}
 use Rattle.world_late_buffers.proofs.Hooks.{holdsRow, releasedRow, first-number, released-sized, released-row}
@@ -37,19 +37,19 @@ abbrev zeros : List ℤ
 zeros = replicate seatCount (pos 0)
 
 -- what it makes of all numbers, at the seat k
-abbrev pub actIn : ℕ → Deed → List ℤ → List ℤ
+abbrev pub actIn : ℕ → Action → List ℤ → List ℤ
 actIn k (joining p) l = put l (seatPlace k) (presentNumbers (joinedSlot p))
 actIn k leaving l = vacateIn l k
 actIn k (storing i) l = put l (seatPlace k + recordCount) (inputNumbers i)
 
 -- of the row of that seat
-abbrev mine : Deed → List ℤ → List ℤ
+abbrev mine : Action → List ℤ → List ℤ
 mine (joining p) r = presentNumbers (joinedSlot p)
 mine leaving r = zeros
 mine (storing i) r = put r recordCount (inputNumbers i)
 
 -- of any other
-abbrev others : ℕ → Deed → List ℤ → List ℤ
+abbrev others : ℕ → Action → List ℤ → List ℤ
 others k (joining p) r = r
 others k leaving r = releasedRow r k
 others k (storing i) r = r
@@ -71,30 +71,30 @@ module _ (l : List ℤ) (long : length l ≡ worldCount) (k : ℕ) (h : k < seat
   whole-else : (m : ℕ) → m < seats → (m ≡ k → ⊥) → rowOf (put l (seatPlace k) w) m ≡ rowOf l m
   whole-else m q d = ap (λ (v : List ℤ). rowOf v m) here ∙ put-rows l long k 0 w h (omega arith) m q d
 
--- ---- a deed
+-- ---- an action
 module _ (l : List ℤ) (long : length l ≡ worldCount) (k : ℕ) (h : k < seats) where
   free : length zeros ≡ seatCount
   free = length-replicate seatCount (pos 0)
 
-  pub act-size : (e : Deed) → length (actIn k e l) ≡ worldCount
+  pub act-size : (e : Action) → length (actIn k e l) ≡ worldCount
   unfolding vacateIn
   act-size (joining p) = whole-size l long k h (presentNumbers (joinedSlot p)) (present-long (joinedSlot p))
   act-size leaving = whole-size (releaseIn l k) (released-sized k l long .0) k h zeros free
   act-size (storing i) = length-put l (seatPlace k + recordCount) (inputNumbers i) (omega (arith, input-long i)) ∙ long
 
-  act-tunings : (e : Deed) → take tuningCount (actIn k e l) ≡ take tuningCount l
+  act-tunings : (e : Action) → take tuningCount (actIn k e l) ≡ take tuningCount l
   unfolding vacateIn
   act-tunings (joining p) = whole-tunings l long k h (presentNumbers (joinedSlot p)) (present-long (joinedSlot p))
   act-tunings leaving = whole-tunings (releaseIn l k) (released-sized k l long .0) k h zeros free ∙ released-sized k l long .1
   act-tunings (storing i) = take-before l (seatPlace k + recordCount) (inputNumbers i) tuningCount (omega arith) (omega arith)
 
-  act-own : (e : Deed) → rowOf (actIn k e l) k ≡ mine e (rowOf l k)
+  act-own : (e : Action) → rowOf (actIn k e l) k ≡ mine e (rowOf l k)
   unfolding vacateIn
   act-own (joining p) = whole-own l long k h (presentNumbers (joinedSlot p)) (present-long (joinedSlot p))
   act-own leaving = whole-own (releaseIn l k) (released-sized k l long .0) k h zeros free
   act-own (storing i) = put-row l long k recordCount (inputNumbers i) h (omega (arith, input-long i))
 
-  act-else : (e : Deed) (m : ℕ) → m < seats → (m ≡ k → ⊥) → rowOf (actIn k e l) m ≡ others k e (rowOf l m)
+  act-else : (e : Action) (m : ℕ) → m < seats → (m ≡ k → ⊥) → rowOf (actIn k e l) m ≡ others k e (rowOf l m)
   unfolding vacateIn
   act-else (joining p) m q d = whole-else l long k h (presentNumbers (joinedSlot p)) (present-long (joinedSlot p)) m q d
   act-else leaving m q d = whole-else (releaseIn l k) (released-sized k l long .0) k h zeros free m q d ∙ released-row k l long m q
@@ -148,7 +148,7 @@ module _ (r : List ℤ) (full : length r ≡ seatCount) where
 abbrev Row : List ℤ → Type 0
 Row r = length r ≡ seatCount
 
-passes : (k : ℕ) (e f : Deed) (r : List ℤ) → Row r → others k e (mine f r) ≡ mine f (others k e r)
+passes : (k : ℕ) (e f : Action) (r : List ℤ) → Row r → others k e (mine f r) ≡ mine f (others k e r)
 unfolding presentNumbers recordNumbers coreNumbers toNet coreOf tickOf netState spawn isSet isAttached
 passes k (joining p) f r h = refl
 passes k leaving (joining p) r h = refl
@@ -156,31 +156,31 @@ passes k leaving leaving r h = refl
 passes k leaving (storing i) r h = input-released r h k (inputNumbers i) (omega (arith, input-long i))
 passes k (storing i) f r h = refl
 
-agree : (i j : ℕ) (e f : Deed) (r : List ℤ) → Row r → others i e (others j f r) ≡ others j f (others i e r)
+agree : (i j : ℕ) (e f : Action) (r : List ℤ) → Row r → others i e (others j f r) ≡ others j f (others i e r)
 agree i j leaving leaving r h = releases-agree r h i j
 agree i j (joining p) f r h = refl
 agree i j (storing p) f r h = refl
 agree i j leaving (joining p) r h = refl
 agree i j leaving (storing p) r h = refl
 
--- ---- deeds in either order
+-- ---- actions in either order
 abbrev Has : List ℤ → ℕ → Type 0
 Has l m = (length l ≡ worldCount) × (m < seats)
 
-pub deeds-commute : (i j : ℕ) (e f : Deed) (l : List ℤ) → length l ≡ worldCount → i < seats → j < seats → (i ≡ j → ⊥) → actIn j f (actIn i e l) ≡ actIn i e (actIn j f l)
-deeds-commute i j e f l long a b d =
+pub actions-commute : (i j : ℕ) (e f : Action) (l : List ℤ) → length l ≡ worldCount → i < seats → j < seats → (i ≡ j → ⊥) → actIn j f (actIn i e l) ≡ actIn i e (actIn j f l)
+actions-commute i j e f l long a b d =
     let p = act-size l long i a e in
     let q = act-size l long j b f in
     numbers-same _ _ (act-size (actIn i e l) p j b f) (act-size (actIn j f l) q i a e)
     (act-tunings (actIn i e l) p j b f ∙ act-tunings l long i a e ∙ sym (act-tunings (actIn j f l) q i a e ∙ act-tunings l long j b f))
     (λ m r. acts-agree rowOf Has (λ k. k < seats) Row actIn mine others (λ u k h. row-size u (h .0) k (h .1)) (λ k g u s n h. (act-size u (h .0) k s g, h .1)) (λ k g u s h. act-own u (h .0) k s g) (λ k g u s n h t. act-else u (h .0) k s g n (h .1) t) passes agree i j e f l a b d m (long, r))
 
--- a deed and a tuning
+-- an action and a tuning
 set-row : (l : List ℤ) (i : ℕ) (z : ℤ) (m : ℕ) → i < tuningCount → rowOf (set l i z) m ≡ rowOf l m
 set-row l i z m h = ap (take seatCount) (drop-set-lt (seatPlace m) l i z (omega arith))
 
-pub deed-tuned : (k : ℕ) (e : Deed) (i : ℕ) (z : ℤ) (l : List ℤ) → length l ≡ worldCount → k < seats → i < tuningCount → set (actIn k e l) i z ≡ actIn k e (set l i z)
-deed-tuned k e i z l long a h =
+pub action-tuned : (k : ℕ) (e : Action) (i : ℕ) (z : ℤ) (l : List ℤ) → length l ≡ worldCount → k < seats → i < tuningCount → set (actIn k e l) i z ≡ actIn k e (set l i z)
+action-tuned k e i z l long a h =
     let p = act-size l long k a e in
     let q = length-set l i z ∙ long in
     numbers-same _ _ (length-set (actIn k e l) i z ∙ p) (act-size (set l i z) q k a e)
@@ -192,11 +192,11 @@ deed-tuned k e i z l long a h =
     each m r q (no d) = act-else l long k a e m r d ∙ sym (act-else (set l i z) q k a e m r d ∙ ap (others k e) (set-row l i z m h))
 
 -- ---- who is there
--- nobody comes or goes by a deed elsewhere
-pub else-there : (l : List ℤ) → length l ≡ worldCount → (k : ℕ) → k < seats → (e : Deed) (m : ℕ) → m < seats → (m ≡ k → ⊥) → isThere (actIn k e l) m ≡ isThere l m
+-- nobody comes or goes by an action elsewhere
+pub else-there : (l : List ℤ) → length l ≡ worldCount → (k : ℕ) → k < seats → (e : Action) (m : ℕ) → m < seats → (m ≡ k → ⊥) → isThere (actIn k e l) m ≡ isThere l m
 else-there l long k h e m q d = ap isSet (first-number (actIn k e l) m ∙ ap (λ (r : List ℤ). numberAt r 0) (act-else l long k h e m q d) ∙ stays e ∙ sym (first-number l m))
   where
-    stays : (e : Deed) → numberAt (others k e (rowOf l m)) 0 ≡ numberAt (rowOf l m) 0
+    stays : (e : Action) → numberAt (others k e (rowOf l m)) 0 ≡ numberAt (rowOf l m) 0
     stays (joining p) = refl
     stays leaving = by-test (λ (r : List ℤ). numberAt r 0 ≡ numberAt (rowOf l m) 0) (holdsRow (rowOf l m) k) (λ b. put-else (rowOf l m) hookPlace retractedNumbers 0 (pos 0) (let s = row-size l long m q in omega arith) (inl (omega arith))) (λ b. refl)
     stays (storing i) = refl
