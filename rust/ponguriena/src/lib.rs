@@ -7,8 +7,8 @@
 //! of a [`Map`] and walks over it, the aim angle, the velocity ramp, the root and the conversions.
 //! `include/ponguriena.h` is for C.
 
-// Nothing checks the declarations in these modules against the Rattle source: a
-// change of a signature there must be repeated here by hand.
+// The declarations in these modules are written by hand; tools/c_interface compares them
+// with the Rattle sources.
 mod aim;
 pub mod area;
 pub mod buffers;

@@ -65,3 +65,10 @@ impl Screen {
         Ok(CharacterCore::from_numbers(numbers))
     }
 }
+
+impl Default for Screen {
+    /// As [`Screen::fresh`].
+    fn default() -> Screen {
+        Screen::fresh()
+    }
+}

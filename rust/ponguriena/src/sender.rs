@@ -104,3 +104,10 @@ impl Sender {
         Ok((Records::new(records, removed, removed_count), passed))
     }
 }
+
+impl Default for Sender {
+    /// As [`Sender::fresh`].
+    fn default() -> Sender {
+        Sender::fresh()
+    }
+}

@@ -230,6 +230,24 @@ impl Records {
         }
     }
 
+    /// Of one id, where it was present when the step was called.
+    ///
+    /// ```
+    /// # use ponguriena::{Map, Refusal, Role, World};
+    /// # let map = Map { width: 1, height: 1, tiles: &[0] };
+    /// # let mut world = World::fresh();
+    /// # world.join(Role::Referee, &map, 3, 5, 5)?;
+    /// let records = world.step(Role::Referee, &map)?;
+    /// assert_eq!(records.get(3).map(|core| (core.x, core.y)), Some((5, 6)));
+    /// assert_eq!(records.get(4), None);
+    /// assert_eq!(records.get(-1), None);
+    /// # Ok::<(), Refusal>(())
+    /// ```
+    pub fn get(&self, id: i32) -> Option<CharacterCore> {
+        let seat = usize::try_from(id).ok().filter(|&seat| seat < SEATS)?;
+        self.of_seat(seat)
+    }
+
     /// Who was removed after the records were taken, by rising id.
     ///
     /// ```
@@ -269,6 +287,13 @@ impl Iterator for RecordsIter<'_> {
     fn next(&mut self) -> Option<(i32, CharacterCore)> {
         let record = |seat| Some((seat as i32, self.records.of_seat(seat)?));
         self.ids.by_ref().find_map(record)
+    }
+}
+
+impl Default for World {
+    /// As [`World::fresh`].
+    fn default() -> World {
+        World::fresh()
     }
 }
 
