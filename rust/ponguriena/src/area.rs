@@ -48,7 +48,9 @@ unsafe extern "C" {
 /// A rectangle of tiles.
 #[derive(Clone, Copy, Debug, Eq, Hash, PartialEq)]
 pub struct Area {
+    /// Its first column.
     pub left: i32,
+    /// Its first row.
     pub top: i32,
     /// Its width; there must be one or more.
     pub columns: i32,

@@ -7,6 +7,8 @@
 //! of a [`Map`] and walks over it, the aim angle, the velocity ramp, the root and the conversions.
 //! `include/ponguriena.h` is for C.
 
+#![deny(missing_docs)]
+
 // The declarations in these modules are written by hand; tools/c_interface compares them
 // with the Rattle sources.
 mod aim;

@@ -12,16 +12,30 @@ pub enum Passed {
     /// A seat that is not where the screens have it: the record that the step took, and
     /// the input that it used.
     Message {
+        /// Whose.
         id: i32,
+        /// The record that the step took.
         core: CharacterCore,
+        /// The input that the step used.
         input: PlayerInput,
     },
     /// The step has removed this id.
-    Removal { id: i32 },
+    Removal {
+        /// Whose.
+        id: i32,
+    },
     /// This id has left.
-    Leave { id: i32 },
+    Leave {
+        /// Whose.
+        id: i32,
+    },
     /// A tuning was set, in hundredths; [`Tuning::HookHold`](crate::Tuning::HookHold) in steps.
-    Tune { index: i32, hundredths: i32 },
+    Tune {
+        /// Which, as [`Tuning`](crate::Tuning) has them.
+        index: i32,
+        /// What it is set to.
+        hundredths: i32,
+    },
 }
 
 const MARK: i32 = 0;

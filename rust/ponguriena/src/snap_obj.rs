@@ -26,7 +26,9 @@ pub struct PlayerInput {
 pub struct CharacterCore {
     /// 0.
     pub tick: i32,
+    /// To the right; a tile is 32 wide.
     pub x: i32,
+    /// Downwards.
     pub y: i32,
     /// In 1/256.
     pub vel_x: i32,
@@ -44,7 +46,9 @@ pub struct CharacterCore {
     pub hook_state: i32,
     /// How long the hook has held somebody.
     pub hook_tick: i32,
+    /// Where the hook is, or 0.
     pub hook_x: i32,
+    /// Where the hook is, or 0.
     pub hook_y: i32,
     /// In 1/256.
     pub hook_dx: i32,

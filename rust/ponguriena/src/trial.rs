@@ -125,6 +125,7 @@ pub struct Run {
 /// How near a player came.
 #[derive(Clone, Copy, Debug, Eq, Hash, PartialEq)]
 pub struct Nearest {
+    /// Whose.
     pub id: i32,
     /// The smallest, in tiles.
     pub distance: i32,

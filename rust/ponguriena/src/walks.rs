@@ -59,6 +59,7 @@ pub struct Map<'a> {
 /// What a point of a map is.
 #[derive(Clone, Copy, Debug, Eq, Hash, PartialEq)]
 pub enum Tile {
+    /// Stops nothing.
     Open,
     /// Solid, and hooks hold there.
     Normal,
