@@ -1,2 +1,3 @@
 pub mod ByRole
+pub mod Layout
 pub mod Standing

@@ -2,6 +2,7 @@
 // What takes a world names a role first: 13 comes before every other refusal.
 mod area;
 mod calls;
+mod layout;
 mod packed;
 mod readers;
 mod searching;
@@ -17,6 +18,7 @@ pub use calls::ponguriena_join;
 pub use calls::ponguriena_leave;
 pub use calls::ponguriena_step;
 pub use calls::ponguriena_tune;
+pub use layout::ponguriena_layout;
 pub use packed::ponguriena_pack;
 pub use packed::ponguriena_unpack;
 pub use readers::ponguriena_floor_mark;
