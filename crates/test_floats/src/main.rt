@@ -1,5 +1,5 @@
 // Runs the recorded vectors of its input, prints those that the functions answer otherwise, and tells how many agree. A line is
-// a function's number, an argument's pattern and the answer's, in 8 hexadecimal digits each; rust/record prints them.
+// a function's number, an argument's pattern and the answer's, in 8 hexadecimal digits each; bench/record prints them.
 use num_convert::cast_signed;
 use test_common::Counts;
 use test_common::MOST_LINES;

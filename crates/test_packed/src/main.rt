@@ -1,5 +1,5 @@
 // Runs the recorded answers of plain Rust for packed records, prints the lines that are answered otherwise, and tells how many agree.
-// rust/record prints the lines (record_packed): how many bytes, 80 bytes, then the number, how many bytes were used, and the record.
+// bench/record prints the lines (record_packed): how many bytes, 80 bytes, then the number, how many bytes were used, and the record.
 use game_packed::MOST_PACKED;
 use game_packed::Unpacked;
 use game_packed::pack;

@@ -1,5 +1,5 @@
 // Runs the recorded answers of the Rust for `tick` and `move_`, prints the lines that are answered otherwise, and tells how many
-// agree. rust/world/record_physics prints the lines: t or m, the map's sides and 64 tiles, then the words of a scene: the id,
+// agree. bench/world/record_physics prints the lines: t or m, the map's sides and 64 tiles, then the words of a scene: the id,
 // the tunings, the input, the first slots with presence and a character each; then what was answered: the number, the character, the velocities in these
 // slots. Beyond them nobody is: whoever has a turn there is as in a fresh world.
 use character::Character;

@@ -1,5 +1,5 @@
 // Runs the recorded answers of the Rust for `to_net`, `from_net` and `quantize`, prints the lines that are answered otherwise, and
-// tells how many agree. rust/world/record_records prints the lines: s or r, a state, the number, a record, the state of the record.
+// tells how many agree. bench/world/record_records prints the lines: s or r, a state, the number, a record, the state of the record.
 use character::Character;
 use character::Net;
 use character::Quantized;

@@ -1,5 +1,5 @@
 // Runs the recorded calls of the Rust one after another, each through a sender to a screen, all kept as numbers. Prints the lines that are answered
-// otherwise, and tells how many agree. rust/world/record_sending prints the lines: n or c, the map's sides and 64 tiles, then thirteen words.
+// otherwise, and tells how many agree. bench/world/record_sending prints the lines: n or c, the map's sides and 64 tiles, then thirteen words.
 mod link;
 
 use link::Link;

@@ -1,5 +1,5 @@
 // Plays the recorded pairs of solo heats one after another, prints the lines after which the one id is seen otherwise, and tells how many agree.
-// rust/world/compare_solo prints the lines (record_solo): n or c, the map's sides and 64 tiles, then twelve words. Whatever the others do,
+// bench/world/compare_solo prints the lines (record_solo): n or c, the map's sides and 64 tiles, then twelve words. Whatever the others do,
 // the steps of the second list of a pair have the words of those of the first.
 use character::SEATS;
 use test_calls::ANSWER;

@@ -1,5 +1,5 @@
 // Runs the recorded calls of the Rust one after another, prints the lines that are answered otherwise, and tells how many agree.
-// rust/world/record_calls prints the lines: n or c, the map's sides and 64 tiles, then twelve words.
+// bench/world/record_calls prints the lines: n or c, the map's sides and 64 tiles, then twelve words.
 mod digest;
 
 use digest::told_digest;
