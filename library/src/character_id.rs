@@ -20,17 +20,19 @@ impl CharacterId {
     /// Those of all seats, by rising id.
     pub fn all() -> impl DoubleEndedIterator<Item = CharacterId> + ExactSizeIterator {
         // Sixty-four fit.
-        (0..ffi::SEATS as u32 as i32).map(CharacterId::of_number)
+        (0..ffi::SEATS as u32).map(CharacterId)
     }
 
-    /// As the numbers of a call have it. The least i32 to -1 stand for 2^31 and above, as in the
-    /// records of libtw2: no seat has these either.
+    /// As a call has it. One beyond i32 is the largest there: no seat has either.
     #[inline]
     pub(crate) const fn number(self) -> i32 {
+        if self.0 > i32::MAX.cast_unsigned() {
+            return i32::MAX;
+        }
         self.0.cast_signed()
     }
 
-    /// The other way round.
+    /// Of a number that was told. One below 0, which nobody tells, is one that no seat has.
     #[inline]
     pub(crate) const fn of_number(number: i32) -> CharacterId {
         CharacterId(number.cast_unsigned())

@@ -1,4 +1,4 @@
-//! The C interface of the Rattle crate `ponguriena`, as tools/c_interface makes it of the sources.
+//! The C interface of the Rattle crate `ponguriena`, as tools/c_interface makes it.
 
 pub const BAD_MAP: u32 = 1;
 pub const BAD_ID: u32 = 2;

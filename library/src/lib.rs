@@ -47,6 +47,8 @@ extern crate alloc;
 pub mod area;
 pub mod buffers;
 mod character_id;
+// As tools/c_interface makes it.
+#[rustfmt::skip]
 mod ffi;
 mod hook_state;
 mod layout;

@@ -61,13 +61,13 @@ impl Passed {
         match self {
             Passed::Mark => vec![MARK],
             Passed::Message { id, core, input } => [
-                &[MESSAGE, id.number()],
+                &[MESSAGE, id.0.cast_signed()],
                 &core.numbers()[..],
                 &input.numbers(),
             ]
             .concat(),
-            Passed::Removal { id } => vec![REMOVAL, id.number()],
-            Passed::Leave { id } => vec![LEAVE, id.number()],
+            Passed::Removal { id } => vec![REMOVAL, id.0.cast_signed()],
+            Passed::Leave { id } => vec![LEAVE, id.0.cast_signed()],
             Passed::Tune { index, hundredths } => vec![TUNE, index, hundredths],
         }
     }

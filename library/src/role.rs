@@ -45,9 +45,8 @@ impl Role {
     pub const fn number(self) -> i32 {
         match self {
             Role::Referee => ffi::REFEREE,
-            // The other roles are below 0, so whatever id arrives at a server, no seat is taken
-            // for one of them.
-            Role::Seat(CharacterId(id)) if id > i32::MAX as u32 => i32::MAX,
+            // The other roles are below 0, and no id is: whatever arrives at a server, no seat is
+            // taken for one of them.
             Role::Seat(id) => id.number(),
             Role::Board => ffi::BOARD,
         }

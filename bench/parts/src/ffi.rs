@@ -1,4 +1,4 @@
-//! The C interface of the Rattle crate `ponguriena_parts`, as tools/c_interface makes it of the sources.
+//! The C interface of the Rattle crate `ponguriena_parts`, as tools/c_interface makes it.
 
 // Each pointer is followed by the length of what it points to, in elements. What a call may
 // write must not overlap what else it is lent. Any numbers may stand there.

@@ -3,7 +3,8 @@
 //! static library of the Rattle crate `ponguriena_parts`, which no server needs.
 
 mod aim;
-#[rustfmt::skip] // It stays as tools/c_interface writes it.
+// As tools/c_interface makes it.
+#[rustfmt::skip]
 mod ffi;
 mod floats;
 mod walks;
