@@ -32,6 +32,21 @@ pub fn print_row<A: Copy, R>(
     println!("{name:<16} {kind:<9} {port_time:>9.2} {reference_time:>9.2} {ratio:>9.2}");
 }
 
+/// The same for what nothing is compared with.
+pub fn print_port<A: Copy, R>(
+    name: &str,
+    kind: &str,
+    passes: usize,
+    inputs: &[A],
+    mut port: impl FnMut(A) -> R,
+) {
+    let [[time]] = least_times(
+        ROUNDS,
+        [&mut || [time_per_call(&mut port, passes, inputs)]],
+    );
+    println!("{name:<16} {kind:<9} {time:>9.2}");
+}
+
 /// Each run gives the times of its parts; the least of each part over all rounds
 /// counts, so that little of what else the machine does is in it.
 pub fn least_times<const RUNS: usize, const PARTS: usize>(

@@ -2,9 +2,11 @@
 //! document 01's world over libtw2. The latter is timed with the aim angle found
 //! in three ways: by a scan of all entries, as document 01 says it, by halving, and
 //! by the port's own function. Ratios below 1 say that the port is faster. The table of sending
-//! has the port alone, with a sender beside its world and without; those of trials and searches
-//! have whole ones beside their steps alone, with the port's own angle.
+//! has the port alone, with a sender beside its world and without, and so has that of the calls that
+//! have no counterpart; those of trials and searches have whole ones beside their steps alone, with
+//! the port's own angle.
 
+mod alone;
 mod calls;
 mod play;
 mod scene;
@@ -29,7 +31,10 @@ fn main() {
     print_steps(&scenes::by_players(&mut random));
     print_steps(&scenes::by_speed(&mut random));
     print_steps(&scenes::by_map(&mut random));
-    calls::print_calls(&scenes::crowds(&mut random));
+    let crowds = scenes::crowds(&mut random);
+    calls::print_calls(&crowds);
+    println!();
+    crowds.iter().take(1).for_each(alone::print_alone);
     println!();
     sending::print_sending(&games);
     println!();

@@ -12,8 +12,8 @@ use tile_map::Map;
 use timing::least_times;
 
 /// The port, whose leaves, tunes and steps go through its sender.
-struct Sending<'a> {
-    port: Port<'a>,
+pub struct Sending<'a> {
+    pub port: Port<'a>,
     sender: [i32; SENDER_NUMBERS],
     passed: [i32; PASSED_NUMBERS],
     /// How many numbers the last call has passed along.
