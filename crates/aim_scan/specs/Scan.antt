@@ -4,8 +4,8 @@ use mathlib.Core.Bool.{cond}
 use lib.IntN.{ℤ}
 use Rattle.aim_rule.specs.Angle.{netAngle}
 use Rattle.aim_rule.specs.Scan.{isZero, uprightAngle, firstEntry, entriesRead}
-use Rattle.aim_angle.specs.declared.scan.Scan.{Scan}
-use Rattle.aim_angle.specs.declared.scan.Found.{Found}
+use Rattle.aim_scan.specs.declared.scan.Scan.{Scan}
+use Rattle.aim_scan.specs.declared.scan.Found.{Found}
 
 abbrev pub scanned : ℤ → ℤ → Scan
 scanned x y = record { angle = netAngle x y; read = entriesRead x y }

@@ -12,10 +12,10 @@ use borrow.Author.Needs.{needs}
 use Rattle.aim_rule.specs.Angle.{fitting, largest}
 use Rattle.aim_rule.specs.Scan.{firstEntry}
 use Rattle.aim_rule.proofs.Search.{held}
-use Rattle.aim_angle.proofs.Below.{bits-zero}
-use Rattle.aim_angle.proofs.Upright.{first-within, scan-is, zero-scan}
-use Rattle.aim_angle.proofs.scan.upright_scan.Statement.{statement}
-use Rattle.aim_angle.proofs.scan.upright_scan.Tie as tie
+use Rattle.aim_scan.proofs.Below.{bits-zero}
+use Rattle.aim_scan.proofs.Upright.{first-within, scan-is, zero-scan}
+use Rattle.aim_scan.proofs.scan.upright_scan.Statement.{statement}
+use Rattle.aim_scan.proofs.scan.upright_scan.Tie as tie
 
 -- the entry that is read first
 first-is : (c : tie.After-first-entry) → c .first-entry .result ≡ firstEntry (c .before .before .args .x)

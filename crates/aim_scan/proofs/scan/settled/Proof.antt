@@ -4,8 +4,8 @@ use native.Mathlib.Nat.{le-trans}
 use mir.Facts.{toZ-ofZ}
 use borrow.Author.Needs.{needs}
 use Rattle.aim_rule.specs.Angle.{upperAngle}
-use Rattle.aim_angle.proofs.scan.settled.Statement.{statement}
-use Rattle.aim_angle.proofs.scan.settled.Tie as tie
+use Rattle.aim_scan.proofs.scan.settled.Statement.{statement}
+use Rattle.aim_scan.proofs.scan.settled.Tie as tie
 
 cosines-requires : tie.Need-cosines-requires
 cosines-requires c κs = search needs

@@ -16,9 +16,9 @@ use Rattle.aim_tables.specs.Tables.{cosT, sinT}
 use Rattle.aim_tables.specs.Rules.{cosAt, sinAt}
 use Rattle.aim_tables.proofs.Rules.{small}
 use Rattle.aim_rule.specs.Angle.{side}
-use Rattle.aim_angle.proofs.Difference.{le-difference}
-use Rattle.aim_angle.proofs.scan.fits.Statement.{statement}
-use Rattle.aim_angle.proofs.scan.fits.Tie as tie
+use Rattle.aim_scan.proofs.Difference.{le-difference}
+use Rattle.aim_scan.proofs.scan.fits.Statement.{statement}
+use Rattle.aim_scan.proofs.scan.fits.Tie as tie
 
 -- an entry of a lent table, as it is read, cast and multiplied
 module _ (l t : List ℤ) (n : ℕ) (e : l ≡ t) (h : natAbs (getD t n (pos 0)) ≤ 2 ^ 30) where

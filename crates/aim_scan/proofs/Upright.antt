@@ -13,9 +13,9 @@ use Rattle.aim_rule.specs.Angle.{fitting, largest, upperAngle}
 use Rattle.aim_rule.specs.Scan.{isZero, uprightAngle, firstEntry}
 use Rattle.aim_rule.specs.Search.{Target}
 use Rattle.aim_rule.proofs.Quarters.{quarter, axis-up}
-use Rattle.aim_angle.specs.Scan.{uprightScan}
-use Rattle.aim_angle.specs.declared.scan.Found.{Found}
-use Rattle.aim_angle.proofs.Below.{small}
+use Rattle.aim_scan.specs.Scan.{uprightScan}
+use Rattle.aim_scan.specs.declared.scan.Found.{Found}
+use Rattle.aim_scan.proofs.Below.{small}
 
 abs-zero : (z : ℤ) → natAbs z ≡ 0 → z ≡ pos 0
 abs-zero (pos n) e = ap pos e

@@ -11,8 +11,8 @@ use borrow.Author.Tests.{not-true}
 use Rattle.aim_rule.specs.Angle.{fitting, largest, upperAngle}
 use Rattle.aim_rule.specs.Search.{Target}
 use Rattle.aim_rule.proofs.Quarters.{from-below}
-use Rattle.aim_angle.proofs.scan.start.Statement.{statement}
-use Rattle.aim_angle.proofs.scan.start.Tie as tie
+use Rattle.aim_scan.proofs.scan.start.Statement.{statement}
+use Rattle.aim_scan.proofs.scan.start.Tie as tie
 
 add-fits : tie.Need-add-fits
 add-fits c = search needs

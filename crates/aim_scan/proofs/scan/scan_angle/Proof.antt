@@ -10,12 +10,12 @@ use borrow.Author.Needs.{needs, sfits-of}
 use Rattle.aim_tables.proofs.Whole.{widened, wide}
 use Rattle.aim_rule.specs.Scan.{isZero, withSignOf, firstEntry, entriesRead}
 use Rattle.aim_rule.proofs.Quarters.{net-parts, net-size}
-use Rattle.aim_angle.specs.Scan.{scanned, uprightScan}
-use Rattle.aim_angle.specs.declared.scan.Found.{Found}
-use Rattle.aim_angle.proofs.Below.{height-held}
-use Rattle.aim_angle.proofs.Upright.{target}
-use Rattle.aim_angle.proofs.scan.scan_angle.Statement.{statement}
-use Rattle.aim_angle.proofs.scan.scan_angle.Tie as tie
+use Rattle.aim_scan.specs.Scan.{scanned, uprightScan}
+use Rattle.aim_scan.specs.declared.scan.Found.{Found}
+use Rattle.aim_scan.proofs.Below.{height-held}
+use Rattle.aim_scan.proofs.Upright.{target}
+use Rattle.aim_scan.proofs.scan.scan_angle.Statement.{statement}
+use Rattle.aim_scan.proofs.scan.scan_angle.Tie as tie
 
 whole : (x y : ℤ) (f : Found) (a : ℤ) → f ≡ uprightScan x (natAbs y) → a ≡ withSignOf y (f .n) → record { angle = a; read = f .read } ≡ scanned x y
 unfolding entriesRead

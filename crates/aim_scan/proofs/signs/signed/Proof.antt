@@ -9,9 +9,9 @@ use mir.Val.{toZ}
 use mir.Facts.{toZ-ofZ, toZ-pos}
 use borrow.Author.Needs.{needs}
 use Rattle.aim_tables.proofs.Whole.{opposite-fits}
-use Rattle.aim_angle.proofs.Below.{below-sign, above-sign}
-use Rattle.aim_angle.proofs.signs.signed.Statement.{statement}
-use Rattle.aim_angle.proofs.signs.signed.Tie as tie
+use Rattle.aim_scan.proofs.Below.{below-sign, above-sign}
+use Rattle.aim_scan.proofs.signs.signed.Statement.{statement}
+use Rattle.aim_scan.proofs.signs.signed.Tie as tie
 
 read : (n : ℕ) → n ≤ 804 → toZ w32 n ≡ pos n
 read n h = toZ-pos w32 (lt-of-le-of-lt h (lit< tt))

@@ -10,7 +10,7 @@ ghost use Rattle.aim_tables.specs.Tables.{cosT, sinT};
 ghost use Rattle.aim_rule.specs.Angle.{fitting, largest, upperAngle};
 ghost use Rattle.aim_rule.specs.Scan.{firstEntry};
 ghost use Rattle.aim_rule.specs.Search.{Target};
-ghost use Rattle.aim_angle.specs.Scan.{scanned, uprightScan};
+ghost use Rattle.aim_scan.specs.Scan.{scanned, uprightScan};
 
 // The angle of a target, and how many entries were read for it.
 pub struct Scan {

@@ -1,9 +1,9 @@
 -- `aim_angle::signs::height` meets its contract. Assumes nothing.
 use mir.Facts.{toZ-ofZ}
 use Rattle.aim_tables.proofs.Whole.{widened, wide}
-use Rattle.aim_angle.proofs.Below.{away, below-size, above-size}
-use Rattle.aim_angle.proofs.signs.height.Statement.{statement}
-use Rattle.aim_angle.proofs.signs.height.Tie as tie
+use Rattle.aim_scan.proofs.Below.{away, below-size, above-size}
+use Rattle.aim_scan.proofs.signs.height.Statement.{statement}
+use Rattle.aim_scan.proofs.signs.height.Tie as tie
 
 cast-result : tie.Need-cast-result
 cast-result c = widened (c .before .args .y) (c .before .fits .y)

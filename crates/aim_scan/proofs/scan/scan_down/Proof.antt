@@ -12,8 +12,8 @@ use borrow.Author.Tests.{not-true, not-false}
 use Rattle.aim_rule.specs.Angle.{fitting, largest}
 use Rattle.aim_rule.specs.Search.{Target}
 use Rattle.aim_rule.proofs.Search.{held, first-fits}
-use Rattle.aim_angle.proofs.scan.scan_down.Statement.{statement}
-use Rattle.aim_angle.proofs.scan.scan_down.Tie as tie
+use Rattle.aim_scan.proofs.scan.scan_down.Statement.{statement}
+use Rattle.aim_scan.proofs.scan.scan_down.Tie as tie
 
 -- ---- on whole numbers
 

@@ -1,8 +1,8 @@
 -- `aim_angle::scan::first_entry` meets its contract. Assumes nothing.
 use mathlib.Core.Path.{refl}
 use mir.Facts.{toZ-ofZ}
-use Rattle.aim_angle.proofs.scan.first_entry.Statement.{statement}
-use Rattle.aim_angle.proofs.scan.first_entry.Tie as tie
+use Rattle.aim_scan.proofs.scan.first_entry.Statement.{statement}
+use Rattle.aim_scan.proofs.scan.first_entry.Tie as tie
 
 returns : tie.Need-returns
 returns c = rw (rw (toZ-ofZ (c .before .fits .x)) at (c .if1 .taken)) refl
