@@ -1,4 +1,4 @@
--- `aim_angle::scan::first_entry` meets its contract. Assumes nothing.
+-- `aim_scan::scan::first_entry` meets its contract. Assumes nothing.
 use mathlib.Core.Path.{refl}
 use mir.Facts.{toZ-ofZ}
 use Rattle.aim_scan.proofs.scan.first_entry.Statement.{statement}

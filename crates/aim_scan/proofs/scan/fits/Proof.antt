@@ -1,4 +1,4 @@
--- `aim_angle::scan::fits` meets its contract. Assumes nothing.
+-- `aim_scan::scan::fits` meets its contract. Assumes nothing.
 use mathlib.Core.Path.{_≡_}
 use mathlib.Core.List.{List}
 use Prim.Native.Nat.{ℕ, _^_, _≤_}

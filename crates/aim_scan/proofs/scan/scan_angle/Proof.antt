@@ -1,4 +1,4 @@
--- `aim_angle::scan::scan_angle` meets its contract. Assumes nothing.
+-- `aim_scan::scan::scan_angle` meets its contract. Assumes nothing.
 use mathlib.Core.Path.{_≡_, sym, ap, ap₂, _∙_}
 use mathlib.Core.Bool.{cond}
 use Prim.Native.Nat.{ℕ, _+_, _-_}

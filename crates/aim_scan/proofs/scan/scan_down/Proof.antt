@@ -1,4 +1,4 @@
--- `aim_angle::scan::scan_down` meets its contract: what is left to scan has the same largest that fits. Assumes nothing.
+-- `aim_scan::scan::scan_down` meets its contract: what is left to scan has the same largest that fits. Assumes nothing.
 use mathlib.Core.Path.{_≡_, refl, sym, ap, ap₂, _∙_}
 use mathlib.Core.Bool.{Bool, true, false, true≢false, not}
 use Prim.Native.Nat.{ℕ, zero, suc, _+_, _-_, _≤_}

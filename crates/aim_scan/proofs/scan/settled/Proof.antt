@@ -1,4 +1,4 @@
--- `aim_angle::scan::settled` meets its contract. Assumes nothing.
+-- `aim_scan::scan::settled` meets its contract. Assumes nothing.
 use mathlib.Core.Path.{_∙_, ap₂}
 use native.Mathlib.Nat.{le-trans}
 use mir.Facts.{toZ-ofZ}

@@ -1,4 +1,4 @@
--- `aim_angle::scan::start` meets its contract. Assumes nothing.
+-- `aim_scan::scan::start` meets its contract. Assumes nothing.
 use mathlib.Core.Path.{_≡_, refl, sym, ap, ap₂, _∙_}
 use mathlib.Core.Bool.{false}
 use Prim.Native.Nat.{ℕ, suc, _+_, _<_}

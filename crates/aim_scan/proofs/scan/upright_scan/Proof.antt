@@ -1,4 +1,4 @@
--- `aim_angle::scan::upright_scan` meets its contract. Assumes nothing.
+-- `aim_scan::scan::upright_scan` meets its contract. Assumes nothing.
 use mathlib.Core.Path.{_≡_, refl, sym, ap, _∙_, subst}
 use mathlib.Core.Logic.{⊎-elim}
 use native.Mathlib.Nat.{le-trans}

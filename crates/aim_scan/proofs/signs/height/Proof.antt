@@ -1,4 +1,4 @@
--- `aim_angle::signs::height` meets its contract. Assumes nothing.
+-- `aim_scan::signs::height` meets its contract. Assumes nothing.
 use mir.Facts.{toZ-ofZ}
 use Rattle.aim_tables.proofs.Whole.{widened, wide}
 use Rattle.aim_scan.proofs.Below.{away, below-size, above-size}

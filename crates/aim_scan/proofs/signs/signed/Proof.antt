@@ -1,4 +1,4 @@
--- `aim_angle::signs::signed` meets its contract. Assumes nothing.
+-- `aim_scan::signs::signed` meets its contract. Assumes nothing.
 use mathlib.Core.Path.{_≡_, _∙_}
 use Prim.Native.Nat.{ℕ, _≤_}
 use native.Mathlib.Nat.{lt-of-le-of-lt}
