@@ -1,9 +1,9 @@
 // The net angle of a target: the largest n with y * C[n] - x * S[n] >= 0.
 use crate::guess::guess;
 use crate::guess::is_sure;
-use crate::scan::settled;
-use crate::signs::height;
-use crate::signs::signed;
+use aim_scan::scan::settled;
+use aim_scan::signs::height;
+use aim_scan::signs::signed;
 ghost use mathlib.Core.Path.{_≡_};
 ghost use Prim.Native.Nat.{_≤_};
 ghost use lib.IntN.{natAbs};

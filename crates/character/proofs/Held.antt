@@ -9,8 +9,8 @@ use Rattle.num_vec2.specs.declared.vec2.{vec2}
 use Rattle.character_hook.specs.Hook.{idOf, holds}
 use Rattle.character_hook.specs.declared.hook.Hook.{Hook}
 use Rattle.character_hook.specs.declared.hook.Hook.the-variants.{Retracted, Idle, Flying, Grabbed, Attached, Retracting0, Retracting1, Retracting2}
-use Rattle.character_motion.proofs.FarPush.{far-meet}
-use Rattle.character_motion.specs.Meeting.{isBeyond, meet}
+use Rattle.character_meeting.proofs.FarPush.{far-meet}
+use Rattle.character_meeting.specs.Meeting.{isBeyond, meet}
 use Rattle.game_tuning.specs.declared.Tuning.{Tuning}
 use Rattle.character.specs.Among.{heldSeat, mayMeet, pullAt}
 use Rattle.character.specs.Tick.{slotAt, pullFrom, pullOf}

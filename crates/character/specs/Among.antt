@@ -6,9 +6,9 @@ use lib.Dec.{eqb, ltb}
 use Rattle.num_vec2.specs.declared.vec2.{vec2}
 use Rattle.character_hook.specs.Hook.{idOf, onGrabbed}
 use Rattle.character_hook.specs.declared.hook.Hook.{Hook}
-use Rattle.character_motion.specs.Meeting.{isBeyond, pullOn}
-use Rattle.character_motion.specs.declared.meeting.HookPull.{HookPull}
-use Rattle.character_motion.specs.declared.meeting.HookPull.the-variants.{Nobody}
+use Rattle.character_meeting.specs.Meeting.{isBeyond, pullOn}
+use Rattle.character_meeting.specs.declared.meeting.HookPull.{HookPull}
+use Rattle.character_meeting.specs.declared.meeting.HookPull.the-variants.{Nobody}
 use Rattle.game_tuning.specs.declared.Tuning.{Tuning}
 use Rattle.character.specs.Tick.{pullOf}
 use Rattle.character.specs.declared.Slot.{Slot}

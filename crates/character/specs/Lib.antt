@@ -4,7 +4,6 @@ pub mod Tick
 pub mod Places
 pub mod Among
 pub mod Walk
-pub mod Aside
 pub mod Near
 pub mod Rows
 pub mod Records

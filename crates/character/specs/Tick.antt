@@ -30,9 +30,9 @@ use Rattle.character_hook.specs.Dragging.{dragged}
 use Rattle.character_hook.specs.Flying.{flown}
 use Rattle.character_hook.specs.declared.flying.Way.{Way}
 use Rattle.character_hook.specs.declared.flying.Way.the-variants as way
-use Rattle.character_motion.specs.Meeting.{meet, pullOn}
-use Rattle.character_motion.specs.declared.meeting.HookPull.{HookPull}
-use Rattle.character_motion.specs.declared.meeting.HookPull.the-variants as pull
+use Rattle.character_meeting.specs.Meeting.{meet, pullOn}
+use Rattle.character_meeting.specs.declared.meeting.HookPull.{HookPull}
+use Rattle.character_meeting.specs.declared.meeting.HookPull.the-variants as pull
 use Rattle.character.specs.Character.{withHook, withVel}
 use Rattle.character.specs.Slot.{emptySlot, withCharacter, withGrounded}
 use Rattle.character.specs.declared.Character.{Character}

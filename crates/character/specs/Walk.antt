@@ -13,14 +13,14 @@ use Rattle.num_vec2.specs.declared.vec2.{vec2}
 use Rattle.character_hook.specs.declared.hook.CharacterId.{CharacterId}
 use Rattle.game_refusals.specs.Refusals.{badMap, badId, tooFar}
 use Rattle.map_tiles.specs.Map.{isMap}
-use Rattle.map_walks.specs.Limit.{mostTurns}
+use Rattle.map_lines.specs.Limit.{mostTurns}
 use Rattle.map_tiles.specs.declared.tiles.Sides.{Sides}
 use Rattle.game_tuning.specs.Tuning.{tuningOf}
 use Rattle.game_tuning.specs.declared.Tuning.{Tuning}
 use Rattle.map_walks.specs.declared.moves.BoxWalk.{BoxWalk}
 use Rattle.map_walks.specs.declared.moves.BoxWalk.the-variants as box
-use Rattle.character_motion.specs.Touching.{touches}
-use Rattle.character_motion.specs.Walking.{rampedMove, playerTurns, restAt}
+use Rattle.character_walk.specs.Touching.{touches}
+use Rattle.character_walk.specs.Walking.{rampedMove, playerTurns, restAt}
 use Rattle.character.specs.declared.Character.{Character}
 use Rattle.character.specs.declared.Slot.{Slot}
 use Rattle.character.specs.declared.walk.Moved.{Moved}

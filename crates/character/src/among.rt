@@ -1,17 +1,17 @@
 // What a tick asks of the others, who are lent as places: whom its hook meets on its way, and what is left of the own velocity.
 use crate::SEATS;
-use crate::aside::may_touch;
 use crate::pulls::held_seat;
 use crate::rows::ROW;
 use crate::rows::none_met;
 use crate::tick::HookFlight;
+use character_aside::aside::may_touch;
 use character_hook::CharacterId;
 use character_hook::Hook;
 use character_hook::Nearest;
 use character_hook::Way;
 use character_hook::nearer;
-use character_motion::is_beyond;
-use character_motion::meet;
+use character_meeting::is_beyond;
+use character_meeting::meet;
 use game_tuning::Tuning;
 use num_vec2::vec2;
 ghost use mathlib.Core.Path.{_≡_};

@@ -1,6 +1,5 @@
 // A character, and its tick and move among the others.
 mod among;
-mod aside;
 mod from_record;
 mod near;
 mod places;

@@ -1,8 +1,8 @@
 // Whom a player walk may touch: the others but those who are a character's size or more to one side of the whole way.
 use crate::SEATS;
-use crate::aside::may_touch;
 use crate::rows::ROW;
 use crate::rows::none_touched;
+use character_aside::aside::may_touch;
 use num_vec2::vec2;
 ghost use Prim.Native.Nat.{_≤_};
 ghost use mathlib.Core.Path.{_≡_};

@@ -2,8 +2,8 @@
 use crate::SEATS;
 use character_hook::CharacterId;
 use character_hook::Hook;
-use character_motion::HookPull;
-use character_motion::pull_on;
+use character_meeting::HookPull;
+use character_meeting::pull_on;
 use game_tuning::Tuning;
 use num_vec2::vec2;
 ghost use mathlib.Core.Path.{_≡_};

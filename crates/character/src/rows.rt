@@ -1,13 +1,13 @@
 // Rows of eight seats, where a row is passed over at once if none of it has to be asked: most have none, and the compiler makes a few wide comparisons of a
 // loop that has no branch. Either test says no where no row begins.
 use crate::SEATS;
-use crate::aside::may_touch;
-use character_motion::is_beyond;
+use character_aside::aside::may_touch;
+use character_meeting::is_beyond;
 use num_vec2::vec2;
 ghost use Prim.Native.Nat.{_<_};
 ghost use mathlib.Core.Bool.{true};
 ghost use mathlib.Core.Path.{_≡_};
-ghost use Rattle.character.specs.Aside.{mayTouch};
+ghost use Rattle.character_aside.specs.Aside.{mayTouch};
 ghost use Rattle.character.specs.Among.{mayMeet};
 ghost use Rattle.character.specs.Places.{placeAt};
 ghost use Rattle.character.specs.Rows.{NoneOfRow};

@@ -3,7 +3,7 @@ use crate::Character;
 use crate::Slot;
 use crate::pulls::pull_at;
 use crate::tick::AfterTick;
-use character_motion::HookPull;
+use character_meeting::HookPull;
 use game_records::PlayerInput;
 use game_tuning::Tuning;
 use num_vec2::vec2;

@@ -8,7 +8,7 @@ use crate::places::places_of;
 use crate::pulls::held_seat;
 use character_hook::CharacterId;
 use character_hook::Hook;
-use character_motion::HookPull;
+use character_meeting::HookPull;
 use character_motion::JumpState;
 use character_motion::clamp_speed;
 use character_motion::control_of;

@@ -8,7 +8,7 @@ use Rattle.map_corners.proofs.Cases as corners
 use Rattle.num_convert.proofs.NumberCases as number
 use Rattle.character_hook.proofs.Cases as hooking
 use Rattle.aim_rule.proofs.Cases as angle
-use Rattle.map_walks.proofs.Cases.{at-the-first-tile}
+use Rattle.map_lines.proofs.Cases.{at-the-first-tile}
 use mathlib.Core.Path.{_≡_, refl, ap, ap₂, _∙_}
 use Rattle.num_vec2.specs.Vec2.{vnew}
 use Rattle.num_vec2.specs.declared.vec2.{vec2}

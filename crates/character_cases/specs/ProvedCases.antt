@@ -14,9 +14,9 @@ use Rattle.num_vec2.specs.Vec2.{vnew}
 use Rattle.num_vec2.specs.declared.vec2.{vec2}
 use Rattle.map_corners.specs.Tile.{c14, tileAt}
 use Rattle.map_tiles.specs.declared.point.Tile.the-variants.{Normal}
-use Rattle.map_walks.specs.Line.{checkLine}
-use Rattle.map_walks.specs.declared.lines.LineCheck.the-variants.{Met}
-use Rattle.map_walks.specs.declared.lines.LineHit.the-variants.{At}
+use Rattle.map_lines.specs.Line.{checkLine}
+use Rattle.map_lines.specs.declared.lines.LineCheck.the-variants.{Met}
+use Rattle.map_lines.specs.declared.lines.LineHit.the-variants.{At}
 use Rattle.character_hook.specs.declared.hook.CharacterId.{CharacterId}
 use Rattle.character_hook.specs.declared.hook.Hook.the-variants.{Retracted, Grabbed}
 use Rattle.character_hook.specs.Hooking.{fire, hold}

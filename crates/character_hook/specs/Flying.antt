@@ -6,9 +6,9 @@ use Rattle.character_hook.specs.Hook.{onFlying}
 use Rattle.character_hook.specs.declared.hook.Hook.{Hook}
 use Rattle.game_tuning.specs.declared.Tuning.{Tuning}
 use Rattle.map_tiles.specs.declared.tiles.Sides.{Sides}
-use Rattle.map_walks.specs.Line.{walkLine}
-use Rattle.map_walks.specs.declared.lines.LineWalk.{LineWalk}
-use Rattle.map_walks.specs.declared.lines.LineWalk.the-variants as line
+use Rattle.map_lines.specs.Line.{walkLine}
+use Rattle.map_lines.specs.declared.lines.LineWalk.{LineWalk}
+use Rattle.map_lines.specs.declared.lines.LineWalk.the-variants as line
 use Rattle.character_hook.specs.Hooking.{fly, strike, retract}
 use Rattle.character_hook.specs.declared.hooking.Flight.{Flight}
 use Rattle.character_hook.specs.declared.flying.Way.{Way}

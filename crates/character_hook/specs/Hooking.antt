@@ -14,8 +14,8 @@ use Rattle.character_hook.specs.declared.hook.Hook.{Hook}
 use Rattle.character_hook.specs.declared.hook.Hook.the-variants.{Retracted, Idle, Flying, Grabbed, Attached, Retracting0, Retracting1, Retracting2}
 use Rattle.map_tiles.specs.declared.point.Tile.{Tile}
 use Rattle.map_tiles.specs.declared.point.Tile.the-variants.{Open, Normal, Deadly, Unhookable}
-use Rattle.map_walks.specs.declared.lines.LineHit.{LineHit}
-use Rattle.map_walks.specs.declared.lines.LineHit.the-variants.{Nothing, At}
+use Rattle.map_lines.specs.declared.lines.LineHit.{LineHit}
+use Rattle.map_lines.specs.declared.lines.LineHit.the-variants.{Nothing, At}
 use Rattle.game_tuning.specs.Tuning.{holdOf}
 use Rattle.game_tuning.specs.declared.Tuning.{Tuning}
 use Rattle.character_hook.specs.declared.hooking.Flight.{Flight}

@@ -21,9 +21,9 @@ use Rattle.character_hook.specs.Dragging.{dragged}
 use Rattle.character_hook.specs.Flying.{flown}
 use Rattle.character_hook.specs.declared.flying.Way.{Way}
 use Rattle.character_hook.specs.declared.flying.Way.the-variants as way
-use Rattle.character_motion.specs.Meeting.{push, drags, held, pullOn, meet}
-use Rattle.character_motion.specs.declared.meeting.HookPull.{HookPull}
-use Rattle.character_motion.specs.declared.meeting.HookPull.the-variants.{Nobody}
+use Rattle.character_meeting.specs.Meeting.{push, drags, held, pullOn, meet}
+use Rattle.character_meeting.specs.declared.meeting.HookPull.{HookPull}
+use Rattle.character_meeting.specs.declared.meeting.HookPull.the-variants.{Nobody}
 use Rattle.character.specs.declared.Character.{Character}
 use Rattle.character.specs.declared.Slot.{Slot}
 use Rattle.character.specs.declared.tick.HookFlight.{HookFlight}

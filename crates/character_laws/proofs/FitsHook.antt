@@ -17,12 +17,12 @@ use Rattle.map_tiles.specs.Map.{checkPoint}
 use Rattle.map_tiles.specs.declared.point.Tile.{Tile}
 use Rattle.map_tiles.specs.declared.point.Tile.the-variants.{Open, Normal, Deadly, Unhookable}
 use Rattle.map_tiles.specs.declared.tiles.Sides.{Sides}
-use Rattle.map_walks.specs.Limit.{mostTurns}
-use Rattle.map_walks.specs.Line.{lineTurns, orHit, lineTurn, orNothing, lineHit, walkLine}
-use Rattle.map_walks.specs.declared.lines.LineHit.{LineHit}
-use Rattle.map_walks.specs.declared.lines.LineHit.the-variants.{Nothing, At}
-use Rattle.map_walks.specs.declared.lines.LineWalk.{LineWalk}
-use Rattle.map_walks.specs.declared.lines.LineWalk.the-variants as line
+use Rattle.map_lines.specs.Limit.{mostTurns}
+use Rattle.map_lines.specs.Line.{lineTurns, orHit, lineTurn, orNothing, lineHit, walkLine}
+use Rattle.map_lines.specs.declared.lines.LineHit.{LineHit}
+use Rattle.map_lines.specs.declared.lines.LineHit.the-variants.{Nothing, At}
+use Rattle.map_lines.specs.declared.lines.LineWalk.{LineWalk}
+use Rattle.map_lines.specs.declared.lines.LineWalk.the-variants as line
 use Rattle.character_motion.specs.Controls.{grounded}
 use Rattle.character_hook.specs.Hooking.{fired, fire, fly, strike, grab, retract, hold}
 use Rattle.character_hook.specs.Flying.{struckOn, flown}

@@ -14,7 +14,7 @@ use Rattle.num_convert.specs.Convert.{i32ToF32}
 use Rattle.num_vec2.specs.Vec2.{vnew, vadd, vmul, vlength}
 use Rattle.num_vec2.specs.declared.vec2.{vec2}
 use Rattle.num_order.proofs.Vectors.{FitsPair}
-use Rattle.map_walks.specs.Limit.{mostTurns}
+use Rattle.map_lines.specs.Limit.{mostTurns}
 use Rattle.map_tiles.specs.declared.tiles.Sides.{Sides}
 use Rattle.game_tuning.specs.declared.Tuning.{Tuning}
 use Rattle.map_tiles.specs.Box.{checkBox, characterBox}
@@ -23,7 +23,7 @@ use Rattle.map_walks.specs.declared.moves.Body.{Body}
 use Rattle.map_walks.specs.declared.moves.BoxWalk.{BoxWalk}
 use Rattle.map_walks.specs.declared.moves.BoxWalk.the-variants as box
 use Rattle.map_walks.specs.Move.{bodyOf, boxTurns, blocked, boxTurn, boxTurnsTaken, walkBox}
-use Rattle.character_motion.specs.Walking.{c50, unramped, rampedMove}
+use Rattle.character_walk.specs.Walking.{c50, unramped, rampedMove}
 use Rattle.character.specs.declared.Character.{Character}
 use Rattle.character.specs.declared.Slot.{Slot}
 use Rattle.character.specs.declared.walk.MovedAt.{MovedAt}

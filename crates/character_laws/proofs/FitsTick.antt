@@ -29,9 +29,9 @@ use Rattle.character_motion.specs.declared.controls.JumpState.{JumpState}
 use Rattle.character_hook.specs.Hooking.{hold}
 use Rattle.character_hook.specs.Dragging.{hookVel, drag, dragged}
 use Rattle.game_constants.specs.Constants.{disableHookDistance}
-use Rattle.character_motion.specs.Meeting as meeting
-use Rattle.character_motion.specs.declared.meeting.HookPull.{HookPull}
-use Rattle.character_motion.specs.declared.meeting.HookPull.the-variants as pull
+use Rattle.character_meeting.specs.Meeting as meeting
+use Rattle.character_meeting.specs.declared.meeting.HookPull.{HookPull}
+use Rattle.character_meeting.specs.declared.meeting.HookPull.the-variants as pull
 use Rattle.character.specs.Slot.{withCharacter}
 use Rattle.character.specs.declared.Character.{Character}
 use Rattle.character.specs.declared.Slot.{Slot}

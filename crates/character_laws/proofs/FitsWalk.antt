@@ -15,12 +15,12 @@ use Rattle.num_vec2.specs.declared.vec2.{vec2}
 use Rattle.game_tuning.specs.declared.Tuning.{Tuning}
 use Rattle.map_tiles.specs.Box.{checkBox, characterBox}
 use Rattle.map_tiles.specs.declared.tiles.Sides.{Sides}
-use Rattle.map_walks.specs.Limit.{mostTurns}
+use Rattle.map_lines.specs.Limit.{mostTurns}
 use Rattle.map_walks.specs.Move.{bodyOf, boxTurns, blocked, boxTurn, boxTurnsTaken, walkBox}
 use Rattle.map_walks.specs.declared.moves.Body.{Body}
 use Rattle.map_walks.specs.declared.moves.BoxWalk.{BoxWalk}
 use Rattle.map_walks.specs.declared.moves.BoxWalk.the-variants as box
-use Rattle.character_motion.specs.Walking.{c50, playerTurns, restAt, unramped, rampedMove}
+use Rattle.character_walk.specs.Walking.{c50, playerTurns, restAt, unramped, rampedMove}
 use Rattle.character.specs.Tick.{slotAt}
 use Rattle.character.specs.Walk.{isClose, slotTurn, walkTurn, orTo, walkAmong, playerWalk, rested, afterBox, moveAt}
 use Rattle.character.specs.declared.Character.{Character}

@@ -20,15 +20,15 @@ use Rattle.game_tuning.specs.Tuning.{holdOf}
 use Rattle.game_tuning.specs.declared.Tuning.{Tuning}
 use Rattle.map_tiles.specs.declared.point.Tile.the-variants.{Open, Normal, Deadly, Unhookable}
 use Rattle.map_tiles.specs.declared.tiles.Sides.{Sides}
-use Rattle.map_walks.specs.Line.{walkLine}
-use Rattle.map_walks.specs.declared.lines.LineHit.{LineHit}
-use Rattle.map_walks.specs.declared.lines.LineHit.the-variants.{Nothing, At}
-use Rattle.map_walks.specs.declared.lines.LineWalk.{LineWalk}
-use Rattle.map_walks.specs.declared.lines.LineWalk.the-variants as line
+use Rattle.map_lines.specs.Line.{walkLine}
+use Rattle.map_lines.specs.declared.lines.LineHit.{LineHit}
+use Rattle.map_lines.specs.declared.lines.LineHit.the-variants.{Nothing, At}
+use Rattle.map_lines.specs.declared.lines.LineWalk.{LineWalk}
+use Rattle.map_lines.specs.declared.lines.LineWalk.the-variants as line
 use Rattle.map_walks.specs.declared.moves.BoxWalk.{BoxWalk}
 use Rattle.map_walks.specs.declared.moves.BoxWalk.the-variants as box
 use Rattle.character_motion.specs.Controls.{grounded}
-use Rattle.character_motion.specs.Walking.{rampedMove}
+use Rattle.character_walk.specs.Walking.{rampedMove}
 use Rattle.character_hook.specs.Hook.{idOf, onGrabbed, holds, netState, netHookedPlayer, attachedOrGrabbed, hookFromNet}
 use Rattle.character_hook.specs.Hooking.{fired, fire, fly, strike, closer, nearer, grab, retract, hold}
 use Rattle.character_hook.specs.Flying.{struckOn, flown}

@@ -16,7 +16,7 @@ use Rattle.map_walks.specs.declared.moves.BoxWalk.{BoxWalk}
 use Rattle.map_walks.specs.declared.moves.BoxWalk.the-variants as box
 use Rattle.map_walks.specs.Move.{walkBox}
 use Rattle.map_walks.proofs.Clear.{walk-clear}
-use Rattle.character_motion.specs.Walking.{c50, unramped, rampedMove}
+use Rattle.character_walk.specs.Walking.{c50, unramped, rampedMove}
 use Rattle.character.specs.declared.Character.{Character}
 use Rattle.character.specs.declared.Slot.{Slot}
 use Rattle.character.specs.declared.walk.MovedAt.{MovedAt}

@@ -14,9 +14,9 @@ use Rattle.map_tiles.specs.declared.tiles.Sides.{Sides}
 use Rattle.game_tuning.specs.declared.Tuning.{Tuning}
 use Rattle.character_motion.specs.Controls.{grounded}
 use Rattle.character_hook.specs.Hooking.{hold}
-use Rattle.character_motion.specs.Meeting.{drags, pullOn}
-use Rattle.character_motion.specs.declared.meeting.HookPull.{HookPull}
-use Rattle.character_motion.specs.declared.meeting.HookPull.the-variants.{Nobody, Of}
+use Rattle.character_meeting.specs.Meeting.{drags, pullOn}
+use Rattle.character_meeting.specs.declared.meeting.HookPull.{HookPull}
+use Rattle.character_meeting.specs.declared.meeting.HookPull.the-variants.{Nobody, Of}
 use Rattle.character.specs.Slot.{withCharacter}
 use Rattle.character.specs.declared.Character.{Character}
 use Rattle.character.specs.declared.Slot.{Slot}

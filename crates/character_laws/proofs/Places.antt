@@ -8,7 +8,7 @@ use lib.ListN.{getD, set}
 use Rattle.game_records.specs.declared.PlayerInput.{PlayerInput}
 use Rattle.game_tuning.specs.declared.Tuning.{Tuning}
 use Rattle.map_tiles.specs.declared.tiles.Sides.{Sides}
-use Rattle.character_motion.specs.declared.meeting.HookPull.{HookPull}
+use Rattle.character_meeting.specs.declared.meeting.HookPull.{HookPull}
 use Rattle.character.specs.Places.{placeAt, Placed, PlacesOf}
 use Rattle.character.specs.Tick.{nowhere, slotAt, afterPull, tickAt, tickedSlot}
 use Rattle.character.specs.declared.Slot.{Slot}

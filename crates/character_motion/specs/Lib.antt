@@ -1,4 +1,1 @@
 pub mod Controls
-pub mod Touching
-pub mod Meeting
-pub mod Walking

@@ -1,8 +1,5 @@
-// How a character moves: by itself, against another, and on the map.
+// How a character moves by itself.
 mod controls;
-mod meeting;
-mod touching;
-mod walking;
 
 pub use controls::JumpState;
 pub use controls::clamp_speed;
@@ -11,11 +8,3 @@ pub use controls::grounded;
 pub use controls::jump;
 pub use controls::landed;
 pub use controls::walk;
-pub use meeting::HookPull;
-pub use meeting::is_beyond;
-pub use meeting::meet;
-pub use meeting::pull_on;
-pub use touching::touches;
-pub use walking::player_turns;
-pub use walking::ramped_move;
-pub use walking::rest_at;

@@ -13,7 +13,7 @@ use Rattle.num_convert.specs.Number.{c0, c1}
 use Rattle.num_vec2.specs.Vec2.{vnew, vadd, vmul, vlength}
 use Rattle.base_turns.proofs.Kept.{fold-kept}
 use Rattle.map_tiles.specs.declared.tiles.Sides.{Sides}
-use Rattle.map_walks.specs.Limit.{mostTurns}
+use Rattle.map_lines.specs.Limit.{mostTurns}
 use Rattle.map_tiles.specs.Box.{checkBox, Clear}
 use Rattle.map_walks.specs.declared.moves.Body.{Body}
 use Rattle.map_walks.specs.declared.moves.BoxWalk.the-variants.{TooFar, To}

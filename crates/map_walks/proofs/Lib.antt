@@ -1,4 +1,3 @@
-pub mod Cases
 pub mod Clear
 pub mod Ways
 pub mod Straight

@@ -13,7 +13,7 @@ use Rattle.num_vec2.specs.Vec2.{vnew, vadd, vmul, vlength}
 use Rattle.num_vec2.specs.declared.vec2.{vec2}
 use Rattle.base_turns.specs.Turns.{fold}
 use Rattle.map_tiles.specs.Map.{isMap, count}
-use Rattle.map_walks.specs.Limit.{mostTurns}
+use Rattle.map_lines.specs.Limit.{mostTurns}
 use Rattle.map_tiles.specs.declared.tiles.Sides.{Sides}
 use Rattle.map_tiles.specs.Box.{checkBox}
 use Rattle.map_walks.specs.declared.moves.Body.{Body}

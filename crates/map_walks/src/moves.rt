@@ -1,7 +1,7 @@
 // A box's walk.
-use crate::MOST_TURNS;
 use crate::way::is_clear_way;
 use crate::way::way_end;
+use map_lines::MOST_TURNS;
 use map_tiles::Sides;
 use map_tiles::check_box;
 use map_tiles::count;

@@ -8,9 +8,9 @@ use Rattle.map_tiles.specs.declared.point.Tile.the-variants.{Open, Normal, Dead
 use Rattle.map_walks.specs.declared.moves.Body.{Body}
 use Rattle.map_walks.specs.declared.moves.BoxMove.{BoxMove}
 use Rattle.map_walks.specs.declared.moves.BoxMove.the-variants as moved
-use Rattle.map_walks.specs.declared.lines.LineCheck.{LineCheck}
-use Rattle.map_walks.specs.declared.lines.LineCheck.the-variants as checked
-use Rattle.map_walks.specs.declared.lines.LineHit.the-variants as hit
+use Rattle.map_lines.specs.declared.lines.LineCheck.{LineCheck}
+use Rattle.map_lines.specs.declared.lines.LineCheck.the-variants as checked
+use Rattle.map_lines.specs.declared.lines.LineHit.the-variants as hit
 
 -- the body that a move leaves, or the one that was handed in where it is refused
 abbrev pub bodyOr : Float → Float → Float → Float → BoxMove → Body

@@ -17,7 +17,7 @@ pub extern "C" fn ponguriena_net_angle(x: i32, y: i32) -> i32
 pub extern "C" fn ponguriena_scan_angle(x: i32, y: i32, read: &mut u32) -> i32
     ensures { λ r. ⌜ (r ≡ netAngle x y) × (now (read .exit) ≡ entriesRead x y) ⌝ }
 {
-    let scan = aim_angle::scan_angle(x, y);
+    let scan = aim_scan::scan_angle(x, y);
     *read = scan.read;
     scan.angle
 }

@@ -1,19 +1,19 @@
 // The walks of a line and of a box, and the tile of a point. Their answers are a refusal's number, or 0 with the values written through the references.
 use game_refusals::BAD_MAP;
 use game_refusals::TOO_FAR;
+use map_lines::LineCheck;
+use map_lines::LineHit;
 use map_tiles::Sides;
 use map_tiles::Tile;
 use map_tiles::check_point;
 use map_tiles::is_map;
 use map_walks::BoxMove;
-use map_walks::LineCheck;
-use map_walks::LineHit;
 use num_vec2::vec2;
 ghost use mathlib.Core.Bool.{cond};
 ghost use mathlib.Core.Path.{_≡_};
 ghost use Rattle.num_vec2.specs.Vec2.{vnew};
 ghost use Rattle.map_walks.specs.Move.{moveBox, boxNumber};
-ghost use Rattle.map_walks.specs.Line.{checkLine, lineNumber};
+ghost use Rattle.map_lines.specs.Line.{checkLine, lineNumber};
 ghost use Rattle.game_refusals.specs.Refusals.{badMap};
 ghost use Rattle.map_tiles.specs.Map.{sidesOf, isMap, checkPoint};
 ghost use Rattle.ponguriena_parts.specs.Walks.{bodyOr, pointOr, byteOf, tileOr};
@@ -74,7 +74,7 @@ pub extern "C" fn ponguriena_check_line(
     ensures { λ _. ⌜ now (tile .exit) ≡ tileOr (now (tile .entry)) (checkLine (sidesOf width height) (now (tiles .entry)) (vnew «from_x» «from_y») (vnew «to_x» «to_y»)) ⌝ }
 {
     let sides = Sides { width, height };
-    let check = map_walks::check_line(
+    let check = map_lines::check_line(
         sides,
         tiles,
         vec2::new(from_x, from_y),

@@ -6,7 +6,7 @@ use search_rule::Buttons;
 use search_rule::Goal;
 use world_buffers::input_in;
 use world_buffers::step_in;
-use world_calls::place_of;
+use world_joins::place_of;
 use world_numbers::RECORD;
 use world_numbers::RECORDS;
 use world_numbers::is_set;

@@ -16,7 +16,7 @@ use Rattle.map_tiles.specs.Map.{isMap}
 use Rattle.map_tiles.specs.declared.tiles.Sides.{Sides}
 use Rattle.character_hook.specs.Flying.{flown}
 use Rattle.character_hook.specs.declared.hook.Hook.{Hook}
-use Rattle.character_motion.specs.declared.meeting.HookPull.the-variants as pull
+use Rattle.character_meeting.specs.declared.meeting.HookPull.the-variants as pull
 use Rattle.character_motion.specs.Controls.{grounded}
 use Rattle.character.specs.Records.{fromNet}
 use Rattle.character.specs.Slot.{emptySlot, withCharacter}

@@ -27,9 +27,9 @@ use Rattle.character_hook.specs.declared.hooking.Nearest.the-variants as near
 use Rattle.character_hook.specs.declared.flying.Way.{Way}
 use Rattle.character_hook.specs.declared.flying.Way.the-variants as way
 use Rattle.character_motion.specs.Controls.{grounded}
-use Rattle.character_motion.specs.Walking.{rampedMove, playerTurns}
-use Rattle.character_motion.specs.declared.meeting.HookPull.{HookPull}
-use Rattle.character_motion.specs.declared.meeting.HookPull.the-variants as pull
+use Rattle.character_walk.specs.Walking.{rampedMove, playerTurns}
+use Rattle.character_meeting.specs.declared.meeting.HookPull.{HookPull}
+use Rattle.character_meeting.specs.declared.meeting.HookPull.the-variants as pull
 use Rattle.character.specs.Tick.{slotAt, steer, nearestTurn, nearest, caught, flight, meetTurn, meetAll, pullFrom, pullOf, hooked, ticked, tickAt}
 use Rattle.character.specs.Walk.{isClose, slotTurn, walkTurn, orTo, walkAmong, playerWalk, rested, afterBox, moveAt}
 use Rattle.character.specs.declared.Character.{Character}

@@ -19,7 +19,7 @@ use Rattle.game_tuning.specs.declared.Tuning.{Tuning}
 use Rattle.map_tiles.specs.Box.{onDeadly}
 use Rattle.map_tiles.specs.Map.{isMap}
 use Rattle.map_tiles.specs.declared.tiles.Sides.{Sides}
-use Rattle.map_walks.specs.Limit.{mostTurns}
+use Rattle.map_lines.specs.Limit.{mostTurns}
 use Rattle.map_walks.specs.declared.moves.BoxWalk.{BoxWalk}
 use Rattle.map_walks.specs.declared.moves.BoxWalk.the-variants as box
 use Rattle.character_hook.specs.Dragging.{dragged}
@@ -29,7 +29,7 @@ use Rattle.character_hook.specs.declared.hook.Hook.{Hook}
 use Rattle.character_hook.specs.declared.flying.Way.{Way}
 use Rattle.character_hook.specs.declared.flying.Way.the-variants as way
 use Rattle.character_motion.specs.Controls.{grounded, clampSpeed}
-use Rattle.character_motion.specs.Walking.{rampedMove, playerTurns}
+use Rattle.character_walk.specs.Walking.{rampedMove, playerTurns}
 use Rattle.character.specs.Character.{withHook, withVel}
 use Rattle.character.specs.Records.{fromNet}
 use Rattle.character.specs.Tick.{steer}

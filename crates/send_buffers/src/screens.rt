@@ -16,7 +16,7 @@ use send_numbers::copy_at;
 use send_numbers::decode_screen;
 use send_numbers::encode_screen;
 use send_numbers::read_passed;
-use world_calls::place_of;
+use world_joins::place_of;
 ghost use mathlib.Core.Path.{_≡_};
 ghost use Rattle.character.specs.Tick.{seats};
 ghost use Rattle.send_rule.specs.Send.{freshScreen};

@@ -14,7 +14,7 @@ use send_rule::Sending;
 use world::Call;
 use world::Stepped;
 use world::World;
-use world_calls::place_of;
+use world_joins::place_of;
 use world_step::run_call;
 ghost use mathlib.Core.Path.{_≡_};
 ghost use mathlib.Core.List.{[], _∷_};

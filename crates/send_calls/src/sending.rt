@@ -13,7 +13,7 @@ use send_rule::Sending;
 use world::Removed;
 use world::Stepped;
 use world::World;
-use world_calls::place_of;
+use world_joins::place_of;
 ghost use mathlib.Core.Path.{_≡_};
 ghost use Prim.Native.Nat.{_+_, _≤_};
 ghost use Rattle.character.specs.Tick.{seats};

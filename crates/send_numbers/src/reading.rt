@@ -14,7 +14,7 @@ use game_refusals::BAD_LENGTH;
 use game_refusals::BAD_TUNING;
 use game_tuning::TUNINGS;
 use send_rule::Passed;
-use world_calls::place_of;
+use world_joins::place_of;
 ghost use mathlib.Core.Path.{_≡_};
 ghost use Rattle.character.specs.Tick.{seats};
 ghost use Rattle.send_numbers.specs.Reading.{readMessage, readRemoval, readLeave, readTune, readPassed};

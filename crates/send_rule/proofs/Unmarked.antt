@@ -30,9 +30,9 @@ use Rattle.character_hook.specs.declared.hook.Hook.{Hook}
 use Rattle.character_hook.specs.declared.hooking.Nearest.{Nearest}
 use Rattle.character_hook.specs.declared.hooking.Nearest.the-variants as nearest
 use Rattle.character_motion.specs.Controls.{grounded}
-use Rattle.character_motion.specs.Walking.{rampedMove, playerTurns}
-use Rattle.character_motion.specs.declared.meeting.HookPull.{HookPull}
-use Rattle.character_motion.specs.declared.meeting.HookPull.the-variants as pull
+use Rattle.character_walk.specs.Walking.{rampedMove, playerTurns}
+use Rattle.character_meeting.specs.declared.meeting.HookPull.{HookPull}
+use Rattle.character_meeting.specs.declared.meeting.HookPull.the-variants as pull
 use Rattle.character.specs.Character.{withVel}
 use Rattle.character.specs.Records.{fromNet}
 use Rattle.character.specs.Slot.{withCharacter, withGrounded}

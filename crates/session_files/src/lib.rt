@@ -6,7 +6,7 @@ use session_run::Session;
 use session_run::Turned;
 use session_run::begin;
 use session_run::run_lines;
-use text_reading::MOST_TILES;
+use text_map::MOST_TILES;
 ghost use Prim.Native.Nat.{ℕ, _*_, _≤_};
 ghost use mathlib.Core.List.{List};
 ghost use mathlib.Core.Path.{_≡_};

@@ -8,7 +8,7 @@ use lib.ListN.{length}
 use borrow.Author.Tests.{le-leb}
 use Rattle.map_tiles.specs.declared.tiles.Sides.{Sides}
 use Rattle.text_decimal.proofs.Places.{within}
-use Rattle.text_reading.specs.Map.{mostBytes, mapBytes}
+use Rattle.text_map.specs.Map.{mostBytes, mapBytes}
 use Rattle.session_laws.proofs.Reading.{passed-few}
 use Rattle.session_run.specs.Line.{LineRan}
 use Rattle.text_writing.specs.Output.{mostLine}

@@ -11,13 +11,13 @@ use Rattle.text_reading.specs.Calls.{CallAt}
 use Rattle.text_reading.specs.declared.call_lines.CallLine.{CallLine}
 use Rattle.world.specs.declared.call.Call.{Call}
 use Rattle.text_reading.proofs.EveryCall.{call-some}
-use Rattle.text_reading.specs.Reading.{MapAt}
-use Rattle.text_reading.specs.declared.map_text.MapPart.{MapPart}
-use Rattle.text_reading.proofs.EveryMap.{map-some}
+use Rattle.text_map.specs.Reading.{MapAt}
+use Rattle.text_map.specs.declared.map_text.MapPart.{MapPart}
+use Rattle.text_map.proofs.EveryMap.{map-some}
 use Rattle.session_laws.specs.Session.{ended, fault, Text, noMap, session, StandsFor, Passed}
 use Rattle.session_laws.proofs.Reading.{no-map, passed-map, passed-call, passed-end, passed-fault, call-within}
 use Rattle.text_reading.specs.declared.call_lines.CallLine.the-variants as callLine
-use Rattle.text_reading.specs.declared.map_text.MapPart.the-variants as mapPart
+use Rattle.text_map.specs.declared.map_text.MapPart.the-variants as mapPart
 
 -- with at most k bytes left
 from-here : (k : ℕ) {s : List ℕ} {w h : ℕ} {ts : List ℕ} (cs : List Call) (at : ℕ) → Passed s w h ts cs at → length s ≤ at + k → (t : Text) × StandsFor s t

@@ -9,7 +9,7 @@ use Rattle.text_decimal.specs.Decimal.{digits}
 use Rattle.text_reading.specs.Calls.{callBytes}
 use Rattle.world.specs.declared.call.Call.the-variants.{Join, Step}
 use Rattle.text_reading.proofs.Calls.{call-long}
-use Rattle.text_reading.specs.Map.{tileBytes, mapBytes}
+use Rattle.text_map.specs.Map.{tileBytes, mapBytes}
 use Rattle.session_laws.specs.Session.{ended, fault, Text, noMap, session, callsBytes, StandsFor, dueCall}
 
 -- the map, the names and the first call, line by line

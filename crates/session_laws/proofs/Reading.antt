@@ -11,13 +11,13 @@ use Rattle.text_reading.specs.Calls.{IsCall, callBytes, CallAt}
 use Rattle.text_reading.specs.declared.call_lines.CallLine.{CallLine}
 use Rattle.world.specs.declared.call.Call.{Call}
 use Rattle.text_reading.proofs.Calls.{call-read, call-fault, call-long}
-use Rattle.text_reading.specs.Map.{mapBytes}
-use Rattle.text_reading.specs.Reading.{MapAt}
-use Rattle.text_reading.specs.declared.map_text.MapPart.{MapPart}
-use Rattle.text_reading.proofs.Maps.{map-read, map-fault}
+use Rattle.text_map.specs.Map.{mapBytes}
+use Rattle.text_map.specs.Reading.{MapAt}
+use Rattle.text_map.specs.declared.map_text.MapPart.{MapPart}
+use Rattle.text_map.proofs.Maps.{map-read, map-fault}
 use Rattle.session_laws.specs.Session.{ended, fault, noMap, session, callsBytes, StandsFor, Passed}
 use Rattle.text_reading.specs.declared.call_lines.CallLine.the-variants as callLine
-use Rattle.text_reading.specs.declared.map_text.MapPart.the-variants as mapPart
+use Rattle.text_map.specs.declared.map_text.MapPart.the-variants as mapPart
 
 -- the map part
 pub no-map : (s d : List ℕ) {r : MapPart} → r ≡ mapPart.Fault → MapAt s d r → StandsFor s noMap

@@ -8,8 +8,8 @@ use Rattle.text_decimal.specs.Lines.{All}
 use Rattle.text_reading.specs.Calls.{IsCall, callBytes}
 use Rattle.world.specs.declared.call.Call.{Call}
 use Rattle.text_reading.proofs.Calls.{call-unique, call-long}
-use Rattle.text_reading.specs.Map.{mapBytes}
-use Rattle.text_reading.proofs.Maps.{map-unique}
+use Rattle.text_map.specs.Map.{mapBytes}
+use Rattle.text_map.proofs.Maps.{map-unique}
 use Rattle.session_laws.specs.Session.{End, ended, fault, Text, noMap, session, callsBytes, Ends, StandsFor}
 
 -- a call line is not where nothing is left, nor where text is at fault

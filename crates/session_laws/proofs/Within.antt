@@ -5,7 +5,7 @@ use mathlib.Core.Path.{_≡_, refl, ap}
 use native.Mathlib.Omega.{arith}
 use lib.ListN.{length, take, drop, length-append, length-take}
 use Rattle.map_tiles.specs.declared.tiles.Sides.{Sides}
-use Rattle.text_reading.proofs.Maps.{map-read}
+use Rattle.text_map.proofs.Maps.{map-read}
 use Rattle.base_rows.specs.Put.{put}
 use Rattle.text_writing.specs.Put.{Put}
 use Rattle.session_run.specs.Line.{LineRan}

@@ -7,7 +7,7 @@ use Rattle.text_decimal.specs.Lines.{All}
 use Rattle.text_decimal.specs.Places.{Stands}
 use Rattle.text_reading.specs.Calls.{IsCall, callBytes}
 use Rattle.world.specs.declared.call.Call.{Call}
-use Rattle.text_reading.specs.Map.{mostBytes, IsMap, mapBytes}
+use Rattle.text_map.specs.Map.{mostBytes, IsMap, mapBytes}
 
 -- what stands after the calls: nothing, or text at fault
 pub data End : Type 0 where

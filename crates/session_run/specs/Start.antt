@@ -3,9 +3,9 @@ use Prim.Native.Nat.{ℕ, _+_, _*_}
 use mathlib.Core.List.{List}
 use mathlib.Core.Path.{_≡_}
 use lib.IntN.{pos}
-use Rattle.text_reading.specs.Map.{mostBytes}
-use Rattle.text_reading.specs.Reading.{MapAt, mapNumber}
-use Rattle.text_reading.specs.declared.map_text.MapPart.the-variants as mapPart
+use Rattle.text_map.specs.Map.{mostBytes}
+use Rattle.text_map.specs.Reading.{MapAt, mapNumber}
+use Rattle.text_map.specs.declared.map_text.MapPart.the-variants as mapPart
 use Rattle.text_writing.specs.Output.{heading, answerBytes}
 use Rattle.text_writing.specs.Put.{Put}
 use Rattle.world.specs.World.{fresh}

@@ -69,7 +69,7 @@ fn entry_agrees(n: u32, cosine: u32, sine: u32) -> bool {
 
 // By itself and by a scan, which also tells how many entries it read.
 fn angle_agrees(x: u32, y: u32, answer: u32, read: u32) -> bool {
-    let scan = aim_angle::scan_angle(cast_signed(x), cast_signed(y));
+    let scan = aim_scan::scan_angle(cast_signed(x), cast_signed(y));
     is_int(aim_angle::net_angle(cast_signed(x), cast_signed(y)), answer)
         && is_int(scan.angle, answer)
         && scan.read == read

@@ -14,7 +14,7 @@ use text_reading::Decoded;
 use text_reading::decode;
 use world::Stepped;
 use world::World;
-use world_calls::fresh;
+use world_joins::fresh;
 use world_step::refused;
 
 // The length of a line.

@@ -1,4 +1,3 @@
 pub mod Counts
 pub mod Words
-pub mod States
 pub mod Digest

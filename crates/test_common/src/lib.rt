@@ -1,10 +1,9 @@
-// What the test programs share: reading recorded vectors, a character and numbers as words, and numbers as one word.
+// What the test programs share: reading recorded vectors and numbers as words, and numbers as one word.
 mod counts;
 mod digests;
 mod lines;
 mod map;
 mod numbers;
-mod states;
 mod vectors;
 
 pub use counts::Counts;
@@ -23,8 +22,6 @@ pub use map::tile_count;
 pub use map::tiles_of;
 pub use numbers::are_numbers;
 pub use numbers::read_numbers;
-pub use states::character_of;
-pub use states::is_character;
 pub use vectors::after;
 pub use vectors::float_of;
 pub use vectors::hex;

@@ -11,12 +11,12 @@ use test_common::MOST_LINES;
 use test_common::Outcome;
 use test_common::are_numbers;
 use test_common::byte_at;
-use test_common::character_of;
-use test_common::is_character;
 use test_common::read_line;
 use test_common::read_numbers;
 use test_common::rest;
 use test_common::word;
+use test_states::character_of;
+use test_states::is_character;
 
 // The length of a line; where the states, the number and the record begin in it.
 const LINE: usize = 362;

@@ -18,7 +18,7 @@ use test_common::read_line;
 use test_common::rest;
 use world::Stepped;
 use world::World;
-use world_calls::fresh;
+use world_joins::fresh;
 use world_numbers::flag;
 use world_numbers::record_numbers;
 

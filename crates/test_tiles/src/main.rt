@@ -1,10 +1,10 @@
 // Runs the recorded answers of the Rust for `check_line` and `move_box`, prints the lines that are answered otherwise, and tells how
 // many agree. bench/world/record_world prints the lines: l or m, the map's sides and 64 tiles, 6 arguments, 5 answers.
+use map_lines::LineCheck;
+use map_lines::LineHit;
 use map_tiles::Sides;
 use map_tiles::Tile;
 use map_walks::BoxMove;
-use map_walks::LineCheck;
-use map_walks::LineHit;
 use test_common::AFTER_MAP;
 use test_common::Counts;
 use test_common::MOST_LINES;
@@ -58,7 +58,7 @@ fn line_agrees(line: &[u8]) -> bool {
 
 fn line_case(sides: Sides, tiles: &[u8], patterns: &[u8]) -> bool {
     let number = nth(patterns, 6);
-    let check = map_walks::check_line(
+    let check = map_lines::check_line(
         sides,
         tiles,
         point(nth(patterns, 0), nth(patterns, 1)),

@@ -18,7 +18,7 @@ use test_common::read_line;
 use test_common::rest;
 use world::Stepped;
 use world::World;
-use world_calls::fresh;
+use world_joins::fresh;
 
 // Where the digests of the world and of what was told stand among the words.
 const WORLD: usize = BESIDES;

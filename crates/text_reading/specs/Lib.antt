@@ -1,4 +1,2 @@
 pub mod Calls
 pub mod Parts
-pub mod Map
-pub mod Reading

@@ -2,3 +2,4 @@ pub mod Trial
 pub mod Calls
 pub mod Laws
 pub mod Worked
+pub mod Limits

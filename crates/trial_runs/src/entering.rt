@@ -4,7 +4,7 @@ use character::SEATS;
 use map_tiles::Sides;
 use trial_rule::Player;
 use world_buffers::join_in;
-use world_calls::place_of;
+use world_joins::place_of;
 ghost use mathlib.Core.Path.{_≡_};
 ghost use Prim.Native.Nat.{_*_, _/_};
 ghost use lib.Dec.{T};

@@ -3,7 +3,7 @@ use map_tiles::Sides;
 use map_tiles::count;
 use map_tiles::tile_at;
 use trial_rule::Player;
-use world_calls::point_of;
+use world_joins::point_of;
 ghost use mathlib.Core.Path.{_≡_};
 ghost use Prim.Native.Nat.{_-_, _<_};
 ghost use lib.Dec.{T};

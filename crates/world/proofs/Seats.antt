@@ -12,7 +12,7 @@ use Rattle.base_turns.proofs.Kept.{Ends, run-kept}
 use Rattle.map_tiles.specs.declared.tiles.Sides.{Sides}
 use Rattle.game_tuning.specs.declared.Tuning.{Tuning}
 use Rattle.game_records.specs.declared.CharacterCore.{CharacterCore}
-use Rattle.character_motion.specs.declared.meeting.HookPull.{HookPull}
+use Rattle.character_meeting.specs.declared.meeting.HookPull.{HookPull}
 use Rattle.character.specs.declared.Character.{Character}
 use Rattle.character.specs.declared.Slot.{Slot}
 use Rattle.character.specs.declared.tick.TickedAt.{TickedAt}

@@ -5,7 +5,7 @@ use character_hook::HOOK_ATTACHED_GRABBED;
 use character_hook::HOOK_RETRACTED;
 use num_convert::cast_unsigned;
 use world::Removed;
-use world_calls::place_of;
+use world_joins::place_of;
 use world_numbers::HOOK;
 use world_numbers::SEAT;
 use world_numbers::STATE;

@@ -14,7 +14,7 @@ use game_refusals::TICK_TOO_LARGE;
 use game_tuning::TUNINGS;
 use game_tuning::told_tuning;
 use world::Seated;
-use world_calls::place_of;
+use world_joins::place_of;
 use world_numbers::WORLD;
 use world_numbers::flag;
 use world_numbers::seat_at;

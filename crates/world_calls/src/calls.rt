@@ -1,9 +1,5 @@
 // The calls of a world that need no map: leave, input and tune.
 use crate::leaving::vacate;
-use crate::seats::accepted;
-use crate::seats::place_of;
-use crate::seats::refused;
-use crate::seats::with_slot;
 use character::SEATS;
 use game_records::PlayerInput;
 use game_refusals::ABSENT;
@@ -14,6 +10,10 @@ use game_tuning::TUNINGS;
 use game_tuning::may_tune;
 use world::Answer;
 use world::World;
+use world_joins::accepted;
+use world_joins::place_of;
+use world_joins::refused;
+use world_joins::with_slot;
 ghost use mathlib.Core.Path.{_≡_};
 ghost use Prim.Native.Nat.{_<_};
 ghost use Rattle.character.specs.Tick.{seats};

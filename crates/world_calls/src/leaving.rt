@@ -1,9 +1,9 @@
 // Somebody goes: every hook that holds the seat is released, and the slot is as every fresh one.
-use crate::seats::with_slot;
 use character::SEATS;
 use character::Slot;
 use character_hook::Hook;
 use world::World;
+use world_joins::with_slot;
 ghost use mathlib.Core.Path.{_≡_};
 ghost use Prim.Native.Nat.{_<_};
 ghost use Rattle.character.specs.Tick.{seats};

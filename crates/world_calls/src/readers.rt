@@ -1,5 +1,4 @@
 // What is read of a world.
-use crate::seats::place_of;
 use character::Net;
 use character::SEATS;
 use character::Slot;
@@ -13,6 +12,7 @@ use world::Query;
 use world::Reading;
 use world::Seated;
 use world::World;
+use world_joins::place_of;
 ghost use mathlib.Core.Path.{_≡_};
 ghost use Rattle.character.specs.Tick.{seats};
 ghost use Rattle.world.specs.Readers.{seated, ofSeated, recordNow, markNow, inputNow, tuningNow, readOf};

@@ -22,7 +22,7 @@ use Rattle.map_walks.specs.declared.moves.BoxWalk.the-variants as box
 use Rattle.num_convert.specs.Convert.{i32ToF32}
 use Rattle.num_convert.specs.Whole.{roundToI32}
 use Rattle.num_vec2.specs.declared.vec2.{vec2}
-use Rattle.character_motion.specs.Walking.{rampedMove}
+use Rattle.character_walk.specs.Walking.{rampedMove}
 use Rattle.character.proofs.Placed.{places-moved}
 use Rattle.character.specs.Places.{placeAt, PlacesOf}
 use Rattle.character.specs.Records.{coreOf, fromNet}

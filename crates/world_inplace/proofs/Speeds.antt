@@ -12,16 +12,16 @@ use Rattle.num_vec2.specs.Vec2.{vdistance}
 use Rattle.num_vec2.specs.declared.vec2.{vec2}
 use Rattle.game_tuning.specs.declared.Tuning.{Tuning}
 use Rattle.character_hook.specs.Hook.{idOf}
-use Rattle.character_motion.specs.Meeting.{drags, pullOn, pulled}
-use Rattle.character_motion.specs.declared.meeting.HookPull.{HookPull}
-use Rattle.character_motion.specs.declared.meeting.HookPull.the-variants.{Nobody, Of}
+use Rattle.character_meeting.specs.Meeting.{drags, pullOn, pulled}
+use Rattle.character_meeting.specs.declared.meeting.HookPull.{HookPull}
+use Rattle.character_meeting.specs.declared.meeting.HookPull.the-variants.{Nobody, Of}
 use Rattle.character.specs.Among.{heldSeat, pullAt}
 use Rattle.character.specs.Places.{placeAt}
 use Rattle.character.specs.Tick.{seats, nowhere, slotAt, afterPull, pulledSlot}
 use Rattle.character.specs.declared.Character.{Character}
 use Rattle.character.specs.declared.Slot.{Slot}
 use Rattle.character_laws.proofs.Choices.{either}
-use Rattle.world_step.proofs.Pulled.{pulled-there}
+use Rattle.world_ticks.proofs.Pulled.{pulled-there}
 use Rattle.world_inplace.specs.Bodies.{Bodies, Embodied, BodiesOf, pulledVel, leftAt, speedsAfter}
 
 -- the velocity v at the seat j

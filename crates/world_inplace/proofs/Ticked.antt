@@ -18,7 +18,7 @@ use Rattle.game_tuning.specs.Tuning.{tuningCount}
 use Rattle.game_tuning.specs.declared.Tuning.{Tuning}
 use Rattle.map_tiles.specs.declared.tiles.Sides.{Sides}
 use Rattle.character_hook.specs.Hook.{tickOf}
-use Rattle.character_motion.specs.declared.meeting.HookPull.{HookPull}
+use Rattle.character_meeting.specs.declared.meeting.HookPull.{HookPull}
 use Rattle.character.proofs.Held.{held-below, pull-held}
 use Rattle.character.specs.Among.{heldSeat, withPull}
 use Rattle.character.specs.Character.{withVel}

@@ -12,8 +12,8 @@ use Rattle.num_convert.specs.Whole.{roundToI32}
 use Rattle.num_vec2.specs.declared.vec2.{vec2}
 use Rattle.game_tuning.specs.declared.Tuning.{Tuning}
 use Rattle.character_hook.specs.Hook.{tickOf}
-use Rattle.character_motion.specs.declared.meeting.HookPull.{HookPull}
-use Rattle.character_motion.specs.declared.meeting.HookPull.the-variants.{Nobody, Of}
+use Rattle.character_meeting.specs.declared.meeting.HookPull.{HookPull}
+use Rattle.character_meeting.specs.declared.meeting.HookPull.the-variants.{Nobody, Of}
 use Rattle.character.specs.Among.{heldSeat, pullAt}
 use Rattle.character.specs.Places.{placeAt, Placed}
 use Rattle.character.specs.Records.{coreOf, mostTick}

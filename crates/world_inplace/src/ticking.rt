@@ -5,7 +5,7 @@ use character::OwnTick;
 use character::SEATS;
 use character::held_seat;
 use character::pull_at;
-use character_motion::HookPull;
+use character_meeting::HookPull;
 use game_tuning::Tuning;
 use map_tiles::Sides;
 use num_vec2::vec2;

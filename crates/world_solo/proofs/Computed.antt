@@ -12,7 +12,7 @@ use Rattle.num_ramp.specs.Ramp.{velocityRamp}
 use Rattle.map_corners.specs.Tile.{tileOf, tileAt}
 use Rattle.map_tiles.specs.Box.{checkBox, onDeadly}
 use Rattle.map_tiles.specs.Map.{isSide, isMap, tileIn, checkPoint}
-use Rattle.map_walks.specs.Line.{lineTurns, lineTurn, lineHit, walkLine}
+use Rattle.map_lines.specs.Line.{lineTurns, lineTurn, lineHit, walkLine}
 use Rattle.map_walks.specs.Move.{boxTurns, blocked, boxTurn, boxTurnsTaken, walkBox}
 use Rattle.game_input.specs.Direction.{fromInt, asInt, asFloat}
 use Rattle.game_input.specs.Inputs.{moveDirection, targetDir, jumps, hooks}
@@ -21,9 +21,9 @@ use Rattle.character_hook.specs.Flying.{flown}
 use Rattle.character_hook.specs.Hook.{netState, netPos, netDir, tickOf, netHookedPlayer, attachedOrGrabbed, hookFromNet}
 use Rattle.character_hook.specs.Hooking.{fired, fire, fly, strike, closer, nearer, grab, retract, hold}
 use Rattle.character_motion.specs.Controls.{grounded, controlOf, jump, landed, walk, clampSpeed}
-use Rattle.character_motion.specs.Meeting.{additionalVel, pushed, push, pull, dragAccel, pulled, drags, pullOn, held, meet}
-use Rattle.character_motion.specs.Touching.{touches}
-use Rattle.character_motion.specs.Walking.{rampedMove, playerTurns, restAt}
+use Rattle.character_meeting.specs.Meeting.{additionalVel, pushed, push, pull, dragAccel, pulled, drags, pullOn, held, meet}
+use Rattle.character_walk.specs.Touching.{touches}
+use Rattle.character_walk.specs.Walking.{rampedMove, playerTurns, restAt}
 use Rattle.character.specs.Character.{spawn}
 use Rattle.character.specs.Records.{netJumped, usedAirjumpFromNet, jumpedAlreadyFromNet, coreOf, toNet, fromNet}
 use Rattle.character.specs.Tick.{steer, nearest, caught, meetAll, pullOf, afterPull, hooked, tickAt}
@@ -55,7 +55,7 @@ hookRules = tt
 
 -- ticks, moves and records
 unfoldable pub characterRules : Unit {0}
-unfolding grounded controlOf jump landed walk clampSpeed additionalVel pushed push pull dragAccel pulled Rattle.character_motion.specs.Meeting.dragged drags pullOn held meet touches rampedMove playerTurns restAt spawn netJumped usedAirjumpFromNet jumpedAlreadyFromNet coreOf toNet fromNet steer nearest caught meetAll pullOf afterPull hooked tickAt isClose walkAmong playerWalk moveAt
+unfolding grounded controlOf jump landed walk clampSpeed additionalVel pushed push pull dragAccel pulled Rattle.character_meeting.specs.Meeting.dragged drags pullOn held meet touches rampedMove playerTurns restAt spawn netJumped usedAirjumpFromNet jumpedAlreadyFromNet coreOf toNet fromNet steer nearest caught meetAll pullOf afterPull hooked tickAt isClose walkAmong playerWalk moveAt
 characterRules = tt
 
 -- the calls

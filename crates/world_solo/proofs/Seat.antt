@@ -12,8 +12,8 @@ use Rattle.map_tiles.specs.declared.tiles.Sides.{Sides}
 use Rattle.game_records.specs.declared.CharacterCore.{CharacterCore}
 use Rattle.game_tuning.specs.declared.Tuning.{Tuning}
 use Rattle.character_hook.specs.Hook.{tickOf}
-use Rattle.character_motion.specs.declared.meeting.HookPull.{HookPull}
-use Rattle.character_motion.specs.declared.meeting.HookPull.the-variants.{Nobody}
+use Rattle.character_meeting.specs.declared.meeting.HookPull.{HookPull}
+use Rattle.character_meeting.specs.declared.meeting.HookPull.the-variants.{Nobody}
 use Rattle.character.specs.Records.{mostTick, toNet, fromNet}
 use Rattle.character.specs.Slot.{withCharacter}
 use Rattle.character.specs.Tick.{slotAt, nowhere, afterPull, tickAt, tickedSlot}

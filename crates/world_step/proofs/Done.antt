@@ -6,8 +6,8 @@ use mathlib.Core.Path.{_≡_, sym, ap, _∙_}
 use Rattle.base_turns.specs.Turns.{Turn, more, stop}
 use Rattle.character.specs.declared.Slot.{Slot}
 use Rattle.world.specs.Step.{Moving}
-use Rattle.world_step.specs.Ticks.{ticksOf}
-use Rattle.world_step.specs.declared.ticking.Ticks.{Ticks}
+use Rattle.world_ticks.specs.Ticks.{ticksOf}
+use Rattle.world_ticks.specs.declared.ticking.Ticks.{Ticks}
 use Rattle.world_step.specs.Moves.{movesOf}
 use Rattle.world_step.specs.declared.moving.Moves.{Moves}
 

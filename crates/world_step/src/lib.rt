@@ -3,7 +3,6 @@ mod calling;
 mod moving;
 mod removing;
 mod steps;
-mod ticking;
 
 pub use calling::run_call;
 pub use moving::record_of;

@@ -54,10 +54,10 @@ use Rattle.world_lent.proofs.unread as unread
 use Rattle.world_lent.proofs.unread.Symbol as unread-def
 use Rattle.world_lent.proofs.unread.Symbol.{name as #world-lent·unread}
 use Rattle.world_lent.proofs.unread.Met as unread-thm
-use Rattle.world_calls.proofs.with_slot as with
-use Rattle.world_calls.proofs.with_slot.Symbol as with-def
-use Rattle.world_calls.proofs.with_slot.Symbol.{name as #world-calls·with-slot}
-use Rattle.world_calls.proofs.with_slot.Met as with-thm
+use Rattle.world_joins.proofs.with_slot as with
+use Rattle.world_joins.proofs.with_slot.Symbol as with-def
+use Rattle.world_joins.proofs.with_slot.Symbol.{name as #world-joins·with-slot}
+use Rattle.world_joins.proofs.with_slot.Met as with-thm
 use Rattle.world_lent.proofs.load.Key.{name as #world-lent·load}
 use Rattle.world_lent.proofs.load as load′
 use Rattle.world_lent.proofs.load.Statement as stated
@@ -78,7 +78,7 @@ module _ {M : Type 1} (𝓤 : URA M) (H : Heap 𝓤) (A : Atoms 𝓤) (W : Given
   abbrev With : Contract 𝓤
   With = tripleOf 𝓤 H A with.signature (with.spec 𝓤 H A at-mem run)
 
-  module _ (𝓣 : Tables 𝓤 H) (known-unread : Triple 𝓤 (𝓣 .C #world-lent·unread) Unread) (known-with : Triple 𝓤 (𝓣 .C #world-calls·with-slot) With) (κ : Lft) (q : Share) (b o : ℕ) (γ : GName) (ys : List Slot) (ts : List ℤ) (gn : Room T.the-row (length ys)) (gt : Is Tunings ts (tunings .val ts ∷ [])) where
+  module _ (𝓣 : Tables 𝓤 H) (known-unread : Triple 𝓤 (𝓣 .C #world-lent·unread) Unread) (known-with : Triple 𝓤 (𝓣 .C #world-joins·with-slot) With) (κ : Lft) (q : Share) (b o : ℕ) (γ : GName) (ys : List Slot) (ts : List ℤ) (gn : Room T.the-row (length ys)) (gt : Is Tunings ts (tunings .val ts ∷ [])) where
     abbrev C : Calls 𝓤 H
     C = 𝓣 .C
 
@@ -176,7 +176,7 @@ module _ {M : Type 1} (𝓤 : URA M) (H : Heap 𝓤) (A : Atoms 𝓤) (W : Given
         land ! (from ! (stop !)) (init-as ! 10 (value world v (first-world r e) is) refl (world .lawful 𝓤 H A W .typed r _ is .0)) $ assigns ! (of-opd ! (lit ! tt)) (from ! (stop !)) (init ! 8 refl (tt, record { fits = lit< tt })) $
         keep ! (18 ∷ 19 ∷ 10 ∷ 8 ∷ 6 ∷ 4 ∷ 2 ∷ 0 ∷ 14 ∷ 12 ∷ 16 ∷ 17 ∷ 15 ∷ 13 ∷ 11 ∷ 9 ∷ 7 ∷ 5 ∷ 3 ∷ 1 ∷ []) $ opened all (r .slots) (e .0) l₀ l₁ l₂ l₃ l₄ l₅ l₆ l₇ l₈ (still-is world v (first-world r e) is))))))))))))
 
-  load-meets : (𝓣 : Tables 𝓤 H) → Triple 𝓤 (𝓣 .C #world-lent·unread) Unread → Triple 𝓤 (𝓣 .C #world-calls·with-slot) With → Meets 𝓤 H A load′.signature (WpFn 𝓤 H (𝓣 .C) (𝓣 .Λ) code.function) (load′.spec 𝓤 H A at-mem run)
+  load-meets : (𝓣 : Tables 𝓤 H) → Triple 𝓤 (𝓣 .C #world-lent·unread) Unread → Triple 𝓤 (𝓣 .C #world-joins·with-slot) With → Meets 𝓤 H A load′.signature (WpFn 𝓤 H (𝓣 .C) (𝓣 .Λ) code.function) (load′.spec 𝓤 H A at-mem run)
   load-meets 𝓣 known-unread known-with = slice-meets T.the-row Tunings Th.the-row tt 𝓤 H A (rq 𝓤) ens tunings W 𝓣 code.function (walk 𝓣 known-unread known-with)
 
 pub load-spec : {M : Type 1} → stated.statement M
@@ -186,4 +186,4 @@ load-spec 𝓤 H 𝓜 𝓖 𝓡 =
     (tables 𝓤 H 𝓜 𝓡 code.env .C) (tables 𝓤 H 𝓜 𝓡 code.env .Λ) #world-lent·load code.function (code.unfolded 𝓤 H 𝓜 𝓡)
     (load-meets 𝓤 H (𝓖 .A) (givenOf 𝓤 H 𝓜 𝓖) (𝓜 .mem) (𝓡 .run) (tablesOf 𝓤 H 𝓜 (tables 𝓤 H 𝓜 𝓡 code.env))
     (cited 𝓤 H (Unread 𝓤 H (𝓖 .A) (givenOf 𝓤 H 𝓜 𝓖) (𝓜 .mem) (𝓡 .run)) 𝓜 𝓡 code.env #world-lent·unread unread-def.routine code.calls-world-lent·unread (unread-thm.met 𝓤 H 𝓜 𝓖 𝓡))
-    (cited 𝓤 H (With 𝓤 H (𝓖 .A) (givenOf 𝓤 H 𝓜 𝓖) (𝓜 .mem) (𝓡 .run)) 𝓜 𝓡 code.env #world-calls·with-slot with-def.routine code.calls-world-calls·with-slot (with-thm.met 𝓤 H 𝓜 𝓖 𝓡)))
+    (cited 𝓤 H (With 𝓤 H (𝓖 .A) (givenOf 𝓤 H 𝓜 𝓖) (𝓜 .mem) (𝓡 .run)) 𝓜 𝓡 code.env #world-joins·with-slot with-def.routine code.calls-world-joins·with-slot (with-thm.met 𝓤 H 𝓜 𝓖 𝓡)))

@@ -49,10 +49,10 @@ use Rattle.world_lent.proofs.LentCall.{lentTo}
 use Rattle.world_lent.proofs.SliceFn.{postOf, takes-slice, gives-slice, ends-slice, slice-meets}
 use Rattle.world_lent.proofs.Plainly.{of-uint, of-unit, value, still-is, init-as, none, arg, asks-plain, calls-plain}
 use Rattle.world_lent.proofs.Shapes.{slot, slot-size, world, slice}
-use Rattle.world_calls.proofs.slot_at as slot-at
-use Rattle.world_calls.proofs.slot_at.Symbol as slot-at-def
-use Rattle.world_calls.proofs.slot_at.Symbol.{name as #world-calls·slot-at}
-use Rattle.world_calls.proofs.slot_at.Met as slot-at-thm
+use Rattle.world_joins.proofs.slot_at as slot-at
+use Rattle.world_joins.proofs.slot_at.Symbol as slot-at-def
+use Rattle.world_joins.proofs.slot_at.Symbol.{name as #world-joins·slot-at}
+use Rattle.world_joins.proofs.slot_at.Met as slot-at-thm
 use Rattle.world_lent.proofs.store.Key.{name as #world-lent·store}
 use Rattle.world_lent.proofs.store as store′
 use Rattle.world_lent.proofs.store.Statement as stated
@@ -70,7 +70,7 @@ module _ {M : Type 1} (𝓤 : URA M) (H : Heap 𝓤) (A : Atoms 𝓤) (W : Given
   abbrev SlotAt : Contract 𝓤
   SlotAt = tripleOf 𝓤 H A slot-at.signature (slot-at.spec 𝓤 H A at-mem run)
 
-  module _ (𝓣 : Tables 𝓤 H) (known : Triple 𝓤 (𝓣 .C #world-calls·slot-at) SlotAt) (κ : Lft) (q : Share) (b o : ℕ) (γ : GName) (ys : List Slot) (h : World) (gn : Room T.the-row (length ys)) (gh : Is Th.the-row h (world .val h ∷ [])) where
+  module _ (𝓣 : Tables 𝓤 H) (known : Triple 𝓤 (𝓣 .C #world-joins·slot-at) SlotAt) (κ : Lft) (q : Share) (b o : ℕ) (γ : GName) (ys : List Slot) (h : World) (gn : Room T.the-row (length ys)) (gh : Is Th.the-row h (world .val h ∷ [])) where
     abbrev C : Calls 𝓤 H
     C = 𝓣 .C
 
@@ -159,7 +159,7 @@ module _ {M : Type 1} (𝓤 : URA M) (H : Heap 𝓤) (A : Atoms 𝓤) (W : Given
         assigns ! (of-opd ! (lit ! tt)) (from ! (stop !)) (init ! 8 refl (tt, record { fits = lit< tt })) $
         keep ! (16 ∷ 17 ∷ 8 ∷ 6 ∷ 4 ∷ 2 ∷ 0 ∷ 12 ∷ 10 ∷ 14 ∷ 15 ∷ 13 ∷ 11 ∷ 9 ∷ 7 ∷ 5 ∷ 3 ∷ 1 ∷ []) $ opened all l₀ l₁ l₂ l₃ l₄ l₅ l₆ l₇)))))))))
 
-  store-meets : (𝓣 : Tables 𝓤 H) → Triple 𝓤 (𝓣 .C #world-calls·slot-at) SlotAt → Meets 𝓤 H A store′.signature (WpFn 𝓤 H (𝓣 .C) (𝓣 .Λ) code.function) (store′.spec 𝓤 H A at-mem run)
+  store-meets : (𝓣 : Tables 𝓤 H) → Triple 𝓤 (𝓣 .C #world-joins·slot-at) SlotAt → Meets 𝓤 H A store′.signature (WpFn 𝓤 H (𝓣 .C) (𝓣 .Λ) code.function) (store′.spec 𝓤 H A at-mem run)
   store-meets 𝓣 known = slice-meets T.the-row Th.the-row unit tt 𝓤 H A (rq 𝓤) ens world W 𝓣 code.function (walk 𝓣 known)
 
 pub store-spec : {M : Type 1} → stated.statement M
@@ -168,4 +168,4 @@ store-spec 𝓤 H 𝓜 𝓖 𝓡 =
     entered 𝓤 H (tripleOf 𝓤 H (𝓖 .A) store′.signature (store′.spec 𝓤 H (𝓖 .A) (𝓜 .mem) (𝓡 .run)))
     (tables 𝓤 H 𝓜 𝓡 code.env .C) (tables 𝓤 H 𝓜 𝓡 code.env .Λ) #world-lent·store code.function (code.unfolded 𝓤 H 𝓜 𝓡)
     (store-meets 𝓤 H (𝓖 .A) (givenOf 𝓤 H 𝓜 𝓖) (𝓜 .mem) (𝓡 .run) (tablesOf 𝓤 H 𝓜 (tables 𝓤 H 𝓜 𝓡 code.env))
-    (cited 𝓤 H (SlotAt 𝓤 H (𝓖 .A) (givenOf 𝓤 H 𝓜 𝓖) (𝓜 .mem) (𝓡 .run)) 𝓜 𝓡 code.env #world-calls·slot-at slot-at-def.routine code.calls-world-calls·slot-at (slot-at-thm.met 𝓤 H 𝓜 𝓖 𝓡)))
+    (cited 𝓤 H (SlotAt 𝓤 H (𝓖 .A) (givenOf 𝓤 H 𝓜 𝓖) (𝓜 .mem) (𝓡 .run)) 𝓜 𝓡 code.env #world-joins·slot-at slot-at-def.routine code.calls-world-joins·slot-at (slot-at-thm.met 𝓤 H 𝓜 𝓖 𝓡)))

@@ -8,8 +8,8 @@ use borrow.Author.Needs.{needs, sfits-of}
 use Rattle.aim_tables.proofs.Whole.{widened, wide}
 use Rattle.aim_rule.specs.Scan.{uprightAngle, withSignOf}
 use Rattle.aim_rule.proofs.Quarters.{net-parts}
-use Rattle.aim_angle.proofs.Below.{height-held}
-use Rattle.aim_angle.proofs.Upright.{target}
+use Rattle.aim_scan.proofs.Below.{height-held}
+use Rattle.aim_scan.proofs.Upright.{target}
 use Rattle.aim_angle.proofs.angle.net_angle.Statement.{statement}
 use Rattle.aim_angle.proofs.angle.net_angle.Tie as tie
 

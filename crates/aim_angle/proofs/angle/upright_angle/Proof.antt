@@ -11,8 +11,8 @@ use mir.Facts.{toZ-ofZ}
 use borrow.Author.Needs.{needs}
 use Rattle.aim_rule.specs.Angle.{upperAngle}
 use Rattle.aim_rule.specs.Scan.{uprightAngle}
-use Rattle.aim_angle.proofs.Below.{bits-zero}
-use Rattle.aim_angle.proofs.Upright.{angle-is, up-is}
+use Rattle.aim_scan.proofs.Below.{bits-zero}
+use Rattle.aim_scan.proofs.Upright.{angle-is, up-is}
 use Rattle.aim_angle.proofs.angle.upright_angle.Statement.{statement}
 use Rattle.aim_angle.proofs.angle.upright_angle.Tie as tie
 

@@ -7,7 +7,7 @@ use borrow.Author.Needs.{needs}
 use Rattle.base_turns.proofs.Loop.{Left, always, fold-first, turn-on, fold-end}
 use Rattle.base_turns.specs.Turns.{fold, more}
 use Rattle.character_hook.specs.Hook.{idOf}
-use Rattle.character_motion.specs.Meeting.{meet}
+use Rattle.character_meeting.specs.Meeting.{meet}
 use Rattle.character.specs.Places.{placeAt, Among}
 use Rattle.character.specs.Tick.{seats, meetTurn, meetAll}
 use Rattle.character.proofs.Held.{left-out}

@@ -10,10 +10,10 @@ use Rattle.base_turns.specs.Turns.{fold, more}
 use Rattle.num_order.proofs.Vectors.{FitsPair}
 use Rattle.character_hook.specs.Hook.{idOf}
 use Rattle.character_hook.specs.Hooking.{nearer}
-use Rattle.character_motion.proofs.Unmet.{unmet}
+use Rattle.character_walk.proofs.Unmet.{unmet}
 use Rattle.character.specs.Places.{placeAt, Among}
 use Rattle.character.specs.Tick.{seats, nearestTurn, nearest}
-use Rattle.character.proofs.Passed.{left-out}
+use Rattle.character_aside.proofs.Passed.{left-out}
 use Rattle.character.proofs.Seat.{seat-turn}
 use Rattle.character.proofs.among.nearest.Statement.{statement}
 use Rattle.character.proofs.among.nearest.Tie as tie

@@ -13,18 +13,18 @@ use borrow.Author.Tests.{ne-eqb, eqb-false}
 use Rattle.num_order.proofs.Vectors.{FitsPair}
 use Rattle.num_vec2.specs.Vec2.{vdistance, vmix}
 use Rattle.num_vec2.specs.declared.vec2.{vec2}
-use Rattle.character_motion.proofs.Mixed.{part, untouched}
-use Rattle.character_motion.proofs.Mixed as mixed
-use Rattle.character_motion.specs.Touching.{touches}
-use Rattle.character_motion.specs.Walking.{playerTurns}
-use Rattle.character.specs.Aside.{mayTouch}
+use Rattle.character_walk.proofs.Mixed.{part, untouched}
+use Rattle.character_walk.proofs.Mixed as mixed
+use Rattle.character_walk.specs.Touching.{touches}
+use Rattle.character_walk.specs.Walking.{playerTurns}
+use Rattle.character_aside.specs.Aside.{mayTouch}
 use Rattle.character.specs.Near.{Asked}
 use Rattle.character.specs.Places.{placeAt, PlacesOf, Among}
 use Rattle.character.specs.Tick.{seats, slotAt}
 use Rattle.character.specs.Walk.{isClose}
 use Rattle.character.specs.declared.Slot.{Slot}
 use Rattle.character.proofs.Gathered.{asked-none, asked-past, asked-more}
-use Rattle.character.proofs.Passed.{left-out}
+use Rattle.character_aside.proofs.Passed.{left-out}
 use Rattle.character.proofs.Scan.{through}
 use Rattle.character.proofs.near.gather.Statement.{statement}
 use Rattle.character.proofs.near.gather.Tie as tie

@@ -8,7 +8,7 @@ use lib.Ieee.{Float}
 use borrow.Author.Needs.{needs}
 use borrow.Author.Tests.{not-true, not-false, ne-eqb}
 use Rattle.num_vec2.specs.declared.vec2.{vec2}
-use Rattle.character_motion.specs.Meeting.{isBeyond}
+use Rattle.character_meeting.specs.Meeting.{isBeyond}
 use Rattle.character.specs.Among.{mayMeet}
 use Rattle.character.specs.Places.{placeAt}
 use Rattle.character.proofs.Scan.{Scanned, scan-first, scan-on}

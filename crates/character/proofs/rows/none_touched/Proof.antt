@@ -8,7 +8,7 @@ use lib.Ieee.{Float}
 use borrow.Author.Needs.{needs}
 use borrow.Author.Tests.{not-true}
 use Rattle.num_vec2.specs.declared.vec2.{vec2}
-use Rattle.character.specs.Aside.{mayTouch}
+use Rattle.character_aside.specs.Aside.{mayTouch}
 use Rattle.character.specs.Places.{placeAt}
 use Rattle.character.proofs.Scan.{Scanned, scan-first, scan-on}
 use Rattle.character.proofs.rows.none_touched.Statement.{statement}

@@ -3,8 +3,8 @@ use mathlib.Core.Path.{_≡_, ap, ap₂, _∙_}
 use mir.Syntax.{w32}
 use mir.Facts.{toZ-ofZ}
 use borrow.Author.Needs.{needs}
-use Rattle.aim_angle.specs.Scan.{scanned}
-use Rattle.aim_angle.specs.declared.scan.Scan.{Scan}
+use Rattle.aim_scan.specs.Scan.{scanned}
+use Rattle.aim_scan.specs.declared.scan.Scan.{Scan}
 use Rattle.ponguriena_parts.proofs.aim.ponguriena_scan_angle.Statement.{statement}
 use Rattle.ponguriena_parts.proofs.aim.ponguriena_scan_angle.Tie as tie
 

@@ -1,8 +1,8 @@
 -- `ponguriena_parts::walks::ponguriena_check_line` meets its contract. Assumes nothing.
 use mathlib.Core.Path.{_≡_, refl, sym, ap, _∙_}
 use Rattle.num_vec2.specs.Vec2.{vnew}
-use Rattle.map_walks.specs.Line.{checkLine}
-use Rattle.map_walks.specs.declared.lines.LineCheck.the-variants.{Met}
+use Rattle.map_lines.specs.Line.{checkLine}
+use Rattle.map_lines.specs.declared.lines.LineCheck.the-variants.{Met}
 use Rattle.map_tiles.specs.Map.{sidesOf}
 use borrow.Author.Needs.{needs}
 use Rattle.ponguriena_parts.proofs.walks.ponguriena_check_line.Statement.{statement}

@@ -6,10 +6,10 @@ use native.Mathlib.Nat.{mul-le-mul, lt-of-le-of-lt}
 use native.Mathlib.Omega.{arith}
 use lib.Dec.{lit<}
 use mir.Facts.{fits-of-lt}
-use Rattle.text_reading.specs.Reading.{MapAt}
-use Rattle.text_reading.specs.declared.map_text.MapPart.{MapPart}
-use Rattle.text_reading.specs.declared.map_text.MapPart.the-variants as mapPart
-use Rattle.text_reading.proofs.Maps.{map-read}
+use Rattle.text_map.specs.Reading.{MapAt}
+use Rattle.text_map.specs.declared.map_text.MapPart.{MapPart}
+use Rattle.text_map.specs.declared.map_text.MapPart.the-variants as mapPart
+use Rattle.text_map.proofs.Maps.{map-read}
 use Rattle.world.specs.declared.World.{World}
 use Rattle.session_run.specs.declared.session_lines.Turned.{Turned}
 use Rattle.session_run.specs.declared.start.Begun.{Begun}

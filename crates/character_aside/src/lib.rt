@@ -1,0 +1,2 @@
+// Whom a way leaves aside.
+pub mod aside;

@@ -1,0 +1,4 @@
+pub mod Far
+pub mod Apart
+pub mod Mixed
+pub mod Unmet

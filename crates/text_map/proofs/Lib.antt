@@ -1,0 +1,4 @@
+mod Rows
+mod Heads
+pub mod Maps
+pub mod EveryMap
