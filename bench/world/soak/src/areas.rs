@@ -1,7 +1,8 @@
 //! The totals of the map: built, asked and changed with it.
 
-use crate::fence::{Access, Loan, take_back};
-use crate::ffi;
+mod raw;
+
+use crate::fence::{Access, take_back};
 use crate::function::Function;
 use crate::maps::other_length;
 use crate::played::{Compared, Played};
@@ -10,7 +11,6 @@ use compare_world::any_numbers::any;
 use compare_world::differs::{Differs, same};
 use reference::Xorshift;
 use reference::area::{self, Fault, Rectangle};
-use tile_map::Map;
 use tile_map::draw::{below, pick};
 
 /// One in so many may be at fault.
@@ -18,13 +18,6 @@ const FAULTY_EVERY: usize = 5;
 
 /// One in so many builds writes other totals than the map's own at some place afterwards.
 const DAMAGED_EVERY: usize = 8;
-
-/// As a call takes them.
-struct Loans {
-    sides: (u32, u32),
-    tiles: Loan<u8>,
-    totals: Loan<u32>,
-}
 
 pub fn any_call(server: &mut Server, random: &mut Xorshift) -> Result<Played, Differs> {
     let faulty = below(random, FAULTY_EVERY) == 0;
@@ -38,16 +31,10 @@ pub fn any_call(server: &mut Server, random: &mut Xorshift) -> Result<Played, Di
 pub fn build(server: &mut Server, faulty: bool, random: &mut Xorshift) -> Result<Played, Differs> {
     let map = server.told_map(faulty, random);
     let length = totals_length(server, faulty, random);
-    let Loans {
-        sides,
-        tiles,
-        totals,
-    } = lend(server, &map, length, [Access::Read, Access::Write]);
+    let loans = raw::lend(server, &map, length, [Access::Read, Access::Write]);
+    let sides = loans.sides;
     // SAFETY: each loan is of as many elements as it says, and none overlaps another.
-    let answer = unsafe {
-        let (to, room) = (totals.pointer, totals.length);
-        ffi::ponguriena_area_build(sides.0, sides.1, tiles.pointer, tiles.length, to, room)
-    };
+    let answer = unsafe { raw::build(&loans) };
     let told = |what: Differs| what.at(format!("build {sides:?}, {length} totals"));
     take_back(answer, &mut [&mut server.tiles, &mut server.totals]).map_err(told)?;
     let mut expected = server.totals.kept().to_vec();
@@ -65,34 +52,10 @@ fn count(server: &mut Server, faulty: bool, random: &mut Xorshift) -> Result<Pla
     let map = server.told_map(faulty, random);
     let length = totals_length(server, faulty, random);
     let rectangle = drawn_rectangle(server.sides, faulty, random);
-    let Loans {
-        sides,
-        tiles,
-        totals,
-    } = lend(server, &map, length, [Access::Read; 2]);
-    let to = server.area.lend_one();
-    let Rectangle {
-        left,
-        top,
-        columns,
-        rows,
-    } = rectangle;
+    let loans = raw::lend(server, &map, length, [Access::Read; 2]);
+    let (sides, to) = (loans.sides, server.area.lend_one());
     // SAFETY: as above.
-    let answer = unsafe {
-        ffi::ponguriena_area_count(
-            sides.0,
-            sides.1,
-            tiles.pointer,
-            tiles.length,
-            totals.pointer,
-            totals.length,
-            left,
-            top,
-            columns,
-            rows,
-            &mut *to.pointer,
-        )
-    };
+    let answer = unsafe { raw::count(&loans, rectangle, to) };
     let told = |what: Differs| what.at(format!("{rectangle:?} of {sides:?}, {length} totals"));
     take_back(
         answer,
@@ -114,25 +77,10 @@ fn change(server: &mut Server, faulty: bool, random: &mut Xorshift) -> Result<Pl
     let Rectangle { left, top, .. } = drawn_rectangle(server.sides, faulty, random);
     let any = random.pattern() as u8;
     let byte = pick(random, &[0, 0, 0, 1, 2, 3, any]);
-    let Loans {
-        sides,
-        tiles,
-        totals,
-    } = lend(server, &map, length, [Access::Change; 2]);
+    let loans = raw::lend(server, &map, length, [Access::Change; 2]);
+    let sides = loans.sides;
     // SAFETY: as above.
-    let answer = unsafe {
-        ffi::ponguriena_area_change(
-            sides.0,
-            sides.1,
-            tiles.pointer,
-            tiles.length,
-            totals.pointer,
-            totals.length,
-            left,
-            top,
-            byte,
-        )
-    };
+    let answer = unsafe { raw::change(&loans, (left, top), byte) };
     let told = |what: Differs| what.at(format!("{byte} to {left}, {top} of {sides:?}"));
     take_back(answer, &mut [&mut server.tiles, &mut server.totals]).map_err(told)?;
     let mut expected = server.totals.kept().to_vec();
@@ -141,14 +89,6 @@ fn change(server: &mut Server, faulty: bool, random: &mut Xorshift) -> Result<Pl
     server.totals.expect(&expected).map_err(told)?;
     server.tiles.expect(&map.tiles).map_err(told)?;
     Ok(Played::of(Function::AreaChange, answer, Compared::Whole))
-}
-
-fn lend(server: &mut Server, map: &Map, totals: usize, access: [Access; 2]) -> Loans {
-    Loans {
-        sides: (map.width as u32, map.height as u32),
-        tiles: server.tiles.lend(map.tiles.len(), access[0]),
-        totals: server.totals.lend(totals, access[1]),
-    }
 }
 
 fn number<T>(answer: Result<T, Fault>) -> u32 {

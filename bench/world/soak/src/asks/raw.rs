@@ -77,7 +77,6 @@ pub unsafe fn asked(loans: &Loans, turn: &Turn) -> u32 {
 unsafe fn called(loans: &Loans, role: i32, call: Call) -> u32 {
     let Loan { pointer, length } = loans.world;
     let ((width, height), tiles) = (loans.sides, loans.tiles);
-    let (records, removed) = (loans.records, loans.removed);
     // SAFETY: as the caller says.
     unsafe {
         match call {
@@ -101,20 +100,32 @@ unsafe fn called(loans: &Loans, role: i32, call: Call) -> u32 {
             Call::Tune { index, hundredths } => {
                 ffi::ponguriena_tune(role, pointer, length, index, hundredths)
             }
-            Call::Step => ffi::ponguriena_step(
-                role,
-                pointer,
-                length,
-                width,
-                height,
-                tiles.pointer,
-                tiles.length,
-                records.pointer,
-                records.length,
-                removed.pointer,
-                removed.length,
-                &mut *loans.count.pointer,
-            ),
+            Call::Step => stepped(loans, role),
         }
+    }
+}
+
+/// # Safety
+///
+/// As for `asked`.
+unsafe fn stepped(loans: &Loans, role: i32) -> u32 {
+    let ((width, height), world, tiles) = (loans.sides, loans.world, loans.tiles);
+    let (records, removed) = (loans.records, loans.removed);
+    // SAFETY: as the caller says.
+    unsafe {
+        ffi::ponguriena_step(
+            role,
+            world.pointer,
+            world.length,
+            width,
+            height,
+            tiles.pointer,
+            tiles.length,
+            records.pointer,
+            records.length,
+            removed.pointer,
+            removed.length,
+            &mut *loans.count.pointer,
+        )
     }
 }
