@@ -1,7 +1,8 @@
 //! Plays a server's very long life, and worse, through the C interface. After each call the fences
 //! around all that was lent are looked at, and what it answered and left is compared with the
 //! harness. Stops at the first difference, and fails where an answer that may come never came.
-//! Arguments: how many calls, and a seed.
+//! Under valgrind, which is told where the fences are, reads outside are seen too; the profile
+//! `memcheck` is for that. Arguments: how many calls, and a seed.
 
 use compare_world::arguments::numbers;
 use soak::{Soak, hush};
