@@ -26,7 +26,15 @@ pub fn same<T: Debug + PartialEq>(what: &str, port: T, expected: T) -> Result<()
 }
 
 /// Names the first number that differs.
-pub fn same_numbers(what: &str, port: &[i32], expected: &[i32]) -> Result<(), Differs> {
+pub fn same_numbers<T: Debug + PartialEq>(
+    what: &str,
+    port: &[T],
+    expected: &[T],
+) -> Result<(), Differs> {
+    // Most often all of them are the same, and then no text is needed.
+    if port == expected {
+        return Ok(());
+    }
     same("length", port.len(), expected.len())?;
     for (index, (port, expected)) in port.iter().zip(expected).enumerate() {
         same(&format!("{what}, number {index}"), port, expected)?;

@@ -58,12 +58,12 @@ pub struct Turn {
 
 /// All that is lent.
 #[derive(Clone)]
-struct Lent {
-    buffers: [Vec<i32>; 5],
+pub struct Lent {
+    pub buffers: [Vec<i32>; 5],
     /// For a floor mark or a tuning.
-    number: i32,
+    pub number: i32,
     /// How many are removed.
-    count: usize,
+    pub count: usize,
 }
 
 pub fn compare(seed: u64, number: u64, tally: &mut Tally) -> Result<(), Differs> {
@@ -119,16 +119,18 @@ fn anybodys_turn(world: &World, map: &Map, random: &mut Xorshift) -> Turn {
         role: any_role(SEATS, ask, random),
         ask,
         map: told_map(map, sides),
-        lengths: any_lengths(random),
+        lengths: any_lengths(LENGTHS, random),
     }
 }
 
 /// The right ones more often than not; else one of them is another.
-fn any_lengths(random: &mut Xorshift) -> [usize; 5] {
-    let mut lengths = LENGTHS;
+pub fn any_lengths<const N: usize>(mut lengths: [usize; N], random: &mut Xorshift) -> [usize; N] {
     if below(random, 3) == 0 {
-        let length = &mut lengths[below(random, LENGTHS.len())];
-        *length = pick(random, &[0, 1, *length - 1, *length + 1, 2 * *length]);
+        let length = &mut lengths[below(random, N)];
+        *length = pick(
+            random,
+            &[0, 1, length.saturating_sub(1), *length + 1, 2 * *length],
+        );
     }
     lengths
 }
@@ -170,7 +172,7 @@ fn left_by_port(mut left: Lent, turn: &Turn) -> (u32, Lent) {
 }
 
 /// A refused one leaves everything as it was. The role is asked for first, then the lengths.
-fn left_by_original(before: &Lent, turn: &Turn) -> Result<Lent, u32> {
+pub fn left_by_original(before: &Lent, turn: &Turn) -> Result<Lent, u32> {
     check_role(turn.role, turn.ask).map_err(Refusal::number)?;
     let is_right = |&place: &usize| before.buffers[place].len() == LENGTHS[place];
     if !places_lent(turn.ask).iter().all(is_right) {

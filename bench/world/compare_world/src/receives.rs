@@ -55,7 +55,7 @@ pub fn compare(
 }
 
 /// Whole or cut off, of a seat or a tuning that there is or of none.
-fn any_thing(random: &mut Xorshift) -> Vec<i32> {
+pub fn any_thing(random: &mut Xorshift) -> Vec<i32> {
     let mut numbers: Vec<i32> = (0..MESSAGE_NUMBERS).map(|_| any(random)).collect();
     numbers[0] = pick(random, &[0, 0, 0, 1, 1, 1, 2, 3, 4, 4, 5, -1]);
     if below(random, 4) > 0 {
@@ -109,7 +109,7 @@ fn compare_first(
 }
 
 /// The answer, how many numbers the first thing has, and the screen.
-fn received(before: Numbers, map: &Map, numbers: &[i32]) -> (u32, usize, Numbers) {
+pub fn received(before: Numbers, map: &Map, numbers: &[i32]) -> (u32, usize, Numbers) {
     let Some(passed) = Passed::first_of(numbers) else {
         return (Refusal::Length.number(), 0, before);
     };

@@ -78,7 +78,7 @@ pub fn replay(sequence: &SearchSequence, tally: &mut Tally) -> Result<(), Differ
 }
 
 /// One in four has a fault or two, so that their order shows.
-fn faulty(mut search: Search, map: &Map, random: &mut Xorshift) -> (Search, Map) {
+pub fn faulty(mut search: Search, map: &Map, random: &mut Xorshift) -> (Search, Map) {
     let mut sides = (map.width as u32, map.height as u32);
     for _ in 0..pick(random, &[0, 0, 0, 0, 0, 0, 1, 2]) {
         let id = any_id(SEATS, random);

@@ -45,15 +45,15 @@ pub struct Tally {
 
 /// The numbers that a call leaves.
 #[derive(Clone)]
-struct Left {
-    answer: u32,
-    world: Numbers,
-    sender: [i32; SENDER_NUMBERS],
-    records: [i32; RECORDS_NUMBERS],
-    removed: [i32; SEATS],
-    removed_count: usize,
-    passed: [i32; PASSED_NUMBERS],
-    count: usize,
+pub struct Left {
+    pub answer: u32,
+    pub world: Numbers,
+    pub sender: [i32; SENDER_NUMBERS],
+    pub records: [i32; RECORDS_NUMBERS],
+    pub removed: [i32; SEATS],
+    pub removed_count: usize,
+    pub passed: [i32; PASSED_NUMBERS],
+    pub count: usize,
 }
 
 impl Left {
@@ -174,7 +174,7 @@ fn left_by_port(mut left: Left, map: &Map, role: i32, call: Call) -> Left {
 }
 
 /// A refused call leaves the numbers as they were, also those that no call has left.
-fn left_by_original(before: Left, map: &Map, role: i32, call: Call) -> Left {
+pub fn left_by_original(before: Left, map: &Map, role: i32, call: Call) -> Left {
     let mut world = decoded(&before.world);
     let mut sender = decoded_sender(&before.sender);
     let allowed = check_role(role, Ask::Call(call));

@@ -62,7 +62,7 @@ pub fn drawn(seed: u64, number: u64) -> Case {
 }
 
 /// With one or two faults, so that their order shows.
-fn faulty(case: Case, random: &mut Xorshift) -> Case {
+pub fn faulty(case: Case, random: &mut Xorshift) -> Case {
     let faults = 1 + below(random, 2);
     (0..faults).fold(case, |case, _| with_fault(case, random))
 }

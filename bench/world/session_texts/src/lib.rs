@@ -4,7 +4,7 @@ mod byte_faults;
 mod faults;
 mod lengths;
 mod line_faults;
-mod maps;
+pub mod maps;
 mod places;
 pub mod play;
 mod programs;
