@@ -35,7 +35,7 @@ pub some-more : (m : ℕ) → (m ≡ 0 → ⊥) → moreBit m ≡ 128
 some-more m h = rw (ne-eqb m 0 h)
 
 -- a byte that is not empty and, where it is the fifth, small
-right-byte : (k b : ℕ) → (b ≡ 0 → ⊥) → (k ≡ 0 → b < 16) → isWrong k b ≡ false
+pub right-byte : (k b : ℕ) → (b ≡ 0 → ⊥) → (k ≡ 0 → b < 16) → isWrong k b ≡ false
 right-byte zero b h s = rw (ne-eqb b 0 h, lt-leb 16 b (s refl))
 right-byte (suc k) b h s = rw (ne-eqb b 0 h, ne-eqb (suc k) 0 (λ e. omega arith))
 

@@ -28,6 +28,10 @@ accepted s bs n used e =
 pub sizes-hold : SizesHold
 sizes-hold n = core-short n
 
+pub empty : (t : List ℕ) → length t ≡ 0 → t ≡ []
+empty [] h = refl
+empty (x ∷ t) h = absurd (omega arith)
+
 pub none-begins : NoneBegins
 none-begins n m t a b e =
     let p : unpacked (coreBytes m ++ []) ≡ answer.Record n (length (coreBytes n)) = ap unpacked (append-nil (coreBytes m) ∙ sym e) ∙ round-trip n a t in
@@ -35,7 +39,3 @@ none-begins n m t a b e =
     let long : length (coreBytes n) ≡ length (coreBytes m) = cc in
     let none : length t ≡ 0 = omega (arith, length-append (coreBytes n) t, ap length e) in
     (cc, empty t none)
-  where
-    empty : (t : List ℕ) → length t ≡ 0 → t ≡ []
-    empty [] h = refl
-    empty (x ∷ t) h = absurd (omega arith)

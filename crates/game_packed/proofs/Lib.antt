@@ -5,3 +5,4 @@ pub mod Sizes
 pub mod Back
 pub mod Sound
 pub mod Laws
+pub mod Ends

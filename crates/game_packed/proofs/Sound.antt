@@ -136,11 +136,11 @@ six-bit b = go (eqb (b / 64 % 2) 1) refl
         odd-none (suc zero) h f = absurd (f refl)
         odd-none (suc (suc x)) h f = absurd (omega arith)
 
-record IntFound (s : List ℕ) (at : ℕ) (z : ℤ) (next : ℕ) : Type 0 where
-  t : List ℕ
-  in-i32 : IsI32 z
-  bytes : s ≡ intBytes z ++ t
-  place : next ≡ at + length (intBytes z)
+pub record IntFound (s : List ℕ) (at : ℕ) (z : ℤ) (next : ℕ) : Type 0 where
+  pub t : List ℕ
+  pub in-i32 : IsI32 z
+  pub bytes : s ≡ intBytes z ++ t
+  pub place : next ≡ at + length (intBytes z)
 
 -- the bytes of a number by its first byte and what is left of it
 int-made : (b m : ℕ) (more : ℕ) → more ≡ moreBit m → b ≡ b % 64 + b / 64 % 2 * 64 + more → intBytes (signed (eqb (b / 64 % 2) 1) (b % 64 + m * 64)) ≡ b ∷ laterBytes mostLater m
@@ -155,7 +155,7 @@ int-made b m more q e =
     let first : kept (signed negative value) % 64 + signBit (signed negative value) + moreBit (kept (signed negative value) / 64) ≡ b = omega (arith, ap moreBit high) in
     ap₂ (λ (x y : ℕ). x ∷ laterBytes mostLater y) first high
 
-int-found : (s : List ℕ) → AllBytes s → (at : ℕ) (z : ℤ) (next : ℕ) → intRead s at ≡ int.Read z next → IntFound s at z next
+pub int-found : (s : List ℕ) → AllBytes s → (at : ℕ) (z : ℤ) (next : ℕ) → intRead s at ≡ int.Read z next → IntFound s at z next
 int-found [] all at z next e = absurd (ends-not (sym (reading.none-there at) ∙ e))
 int-found (b ∷ s) all at z next e = go (ltb b 128) refl
   where
@@ -183,7 +183,7 @@ int-found (b ∷ s) all at z next e = go (ltb b 128) refl
 
 -- ---- a record
 
-drop-bytes : (n : ℕ) (s : List ℕ) → AllBytes s → AllBytes (drop n s)
+pub drop-bytes : (n : ℕ) (s : List ℕ) → AllBytes s → AllBytes (drop n s)
 drop-bytes zero s all = all
 drop-bytes (suc n) [] all = tt
 drop-bytes (suc n) (b ∷ s) all = drop-bytes n s (all .1)

@@ -1,5 +1,6 @@
 pub mod Sums
 pub mod Tables
 pub mod Areas
+pub mod Numbers
 pub mod Counts
 pub mod Changes

@@ -1,7 +1,13 @@
 -- Every theorem holds for any number of seats, so for those that there are. Assumes nothing.
 use Prim.Native.Nat.{ℕ}
+use mathlib.Core.Path.{refl}
+use Rattle.aim_rule.proofs.Quarters.{reads-a-quarter}
+use Rattle.game_packed.proofs.Back.{round-trip}
+use Rattle.game_packed.proofs.Laws.{accepted, sizes-hold, none-begins}
+use Rattle.game_packed.proofs.Ends.{told-ends, worked-bytes}
 use Rattle.character.specs.Tick.{seats}
 use Rattle.character_cases.proofs.Holding.{holding}
+use Rattle.character_cases.proofs.Proved.{proved-cases}
 use Rattle.world.proofs.Demand1.{demand1}
 use Rattle.world.proofs.Demand3.{demand3}
 use Rattle.world.proofs.Marks.{marks-follow}
@@ -15,7 +21,7 @@ use Rattle.trial_rule.proofs.Runs.{counts-steps}
 use Rattle.trial_rule.proofs.Told.{tells-smallest, tells-nobody, jumps-after-stay}
 use Rattle.trial_rule.proofs.ByCalls.{runs-by-calls}
 use Rattle.world_late.proofs.Arrival.{any-arrival}
-use Rattle.world_late.proofs.Late.{calls-commute, later-replaces, late-lists, struck-lists}
+use Rattle.world_late.proofs.Late.{what-may-be-exchanged, calls-commute, later-replaces, late-lists, struck-lists}
 use Rattle.send_rule.proofs.Shown.{screen-shows}
 use Rattle.send_rule.proofs.Sparing.{sender-spares}
 use Rattle.send_rule.proofs.Along.{sender-passes}
@@ -31,6 +37,7 @@ use Rattle.send_buffers.proofs.Reached.{link-follows}
 use Rattle.role_rule.proofs.Requests.{roles-hold}
 use Rattle.search_rule.proofs.Laws.{search-reaches}
 use Rattle.ponguriena.proofs.Standing.{roles-stand}
+use Rattle.map_totals.proofs.Numbers.{area-numbers}
 use Rattle.map_totals.proofs.Counts.{counts-solid, clear-area}
 use Rattle.map_totals.proofs.Changes.{change-writes, change-follows, change-reaches}
 use Rattle.session_laws.proofs.Whole.{whole-output}
@@ -75,17 +82,28 @@ all-theorems n = record {
 pub shipped : Shipped
 shipped = record {
   theorems = all-theorems seats;
+  howMany = refl;
+  cases = proved-cases;
   stand = calls-stand;
   refusals = refusals-leave;
   buffers = buffer-follows;
   links = link-follows;
   byRole = roles-stand;
+  roundTrip = round-trip;
+  accepted = accepted;
+  sizes = sizes-hold;
+  noneBegins = none-begins;
+  toldEnds = told-ends;
+  workedBytes = worked-bytes;
+  quarter = reads-a-quarter;
+  areaNumbers = area-numbers;
   solids = counts-solid;
   clear = clear-area;
   writes = change-writes;
   follows = change-follows;
   reaches = change-reaches;
   holding = holding;
+  exchange = what-may-be-exchanged;
   arrival = any-arrival;
   numbersCommute = numbers-commute;
   numbersReplaced = numbers-replaced;

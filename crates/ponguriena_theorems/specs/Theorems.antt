@@ -1,7 +1,11 @@
 -- The theorems that customers were given, for any number of seats, and what is shipped. Definitions only; proofs/Shipped.antt cites their proofs.
 use Prim.Native.Nat.{ℕ}
+use mathlib.Core.Path.{_≡_}
+use Rattle.aim_rule.specs.Scan.{ReadsAQuarter}
+use Rattle.game_packed.specs.Laws.{RoundTrip, Accepted, SizesHold, NoneBegins, ToldEnds, WorkedBytes}
 use Rattle.character.specs.Tick.{seats}
 use Rattle.character_cases.specs.Holding.{Holding}
+use Rattle.character_cases.specs.ProvedCases.{ProvedCases}
 use Rattle.world.specs.Demand1.{Demand1}
 use Rattle.world.specs.Demand3.{Demand3}
 use Rattle.world.specs.Marks.{MarksFollow}
@@ -12,7 +16,7 @@ use Rattle.world.specs.Hold.{HookHold}
 use Rattle.world_solo.specs.Solo.{Solo}
 use Rattle.trial_rule.specs.Laws.{RowsTell, Independent, CountsSteps, TellsSmallest, TellsNobody, JumpsAfterStay, RunsByCalls}
 use Rattle.world_late.specs.Arrival.{AnyArrival}
-use Rattle.world_late.specs.Late.{CallsCommute, LaterReplaces, LateLists, StruckLists}
+use Rattle.world_late.specs.Late.{WhatMayBeExchanged, CallsCommute, LaterReplaces, LateLists, StruckLists}
 use Rattle.send_rule.specs.Shown.{Shown}
 use Rattle.send_rule.specs.Sparing.{Sparing}
 use Rattle.send_rule.specs.Along.{Along}
@@ -25,7 +29,7 @@ use Rattle.send_buffers.specs.Following.{LinkFollows}
 use Rattle.role_rule.specs.Requests.{Roles}
 use Rattle.search_rule.specs.Laws.{Reaches}
 use Rattle.ponguriena.specs.Standing.{RolesStand}
-use Rattle.map_totals.specs.Laws.{CountsSolid, ClearArea, ChangeWrites, ChangeFollows, ChangeReaches}
+use Rattle.map_totals.specs.Laws.{AreaNumbers, CountsSolid, ClearArea, ChangeWrites, ChangeFollows, ChangeReaches}
 use Rattle.session_laws.specs.Played.{WholeOutput, PlayEnds}
 
 -- of a world of n seats
@@ -79,6 +83,10 @@ pub record Theorems (n : ℕ) : Type 0 where
 -- at the seats that there are; and that the numbers which C programs hold are those of the worlds and links that the theorems speak of
 pub record Shipped : Type 0 where
   pub theorems : Theorems seats
+  -- request 7: how many there are
+  pub howMany : seats ≡ 64
+  -- the cases that the customer wants proved
+  pub cases : ProvedCases
   -- on any numbers a call is the one by value on the world that they stand for, and a refused one leaves every number
   pub stand : CallsStand
   pub refusals : RefusalsLeave
@@ -87,7 +95,17 @@ pub record Shipped : Type 0 where
   pub links : LinkFollows
   -- calls and reads by the number of a role are those by the role
   pub byRole : RolesStand
-  -- request 9: the solid tiles of an area by running totals, and the totals after a change
+  -- request 1: packed records come back, nothing else is read, and what is told where none is
+  pub roundTrip : RoundTrip
+  pub accepted : Accepted
+  pub sizes : SizesHold
+  pub noneBegins : NoneBegins
+  pub toldEnds : ToldEnds
+  pub workedBytes : WorkedBytes
+  -- request 3: how many entries a scan for an angle reads
+  pub quarter : ReadsAQuarter
+  -- request 9: what is refused, the solid tiles of an area by running totals, and the totals after a change
+  pub areaNumbers : AreaNumbers
   pub solids : CountsSolid
   pub clear : ClearArea
   pub writes : ChangeWrites
@@ -95,7 +113,8 @@ pub record Shipped : Type 0 where
   pub reaches : ChangeReaches
   -- request 13: what a tick makes of a hook that holds somebody, whatever the hold
   pub holding : Holding
-  -- request 14: the orders in which calls may arrive, and late calls on any numbers
+  -- request 14: which calls may be exchanged, the orders in which calls may arrive, and late calls on any numbers
+  pub exchange : WhatMayBeExchanged
   pub arrival : AnyArrival
   pub numbersCommute : NumbersCommute
   pub numbersReplaced : NumbersReplaced

@@ -20,13 +20,14 @@ use Rattle.world.specs.Run.{inputOf, ran, after, toldBy, told}
 use Rattle.world.specs.Step.{stepRefused}
 use Rattle.world.specs.declared.call.Call.{Call}
 use Rattle.world.specs.declared.call.Call.the-variants.{Join, Leave, Input, Step, Tune}
+use Rattle.world.specs.declared.reading.Query.the-variants as query
 use Rattle.world.specs.declared.reading.Reading.the-variants as reading
 use Rattle.world.specs.declared.Stepped.{Stepped}
 use Rattle.world.specs.declared.World.{World}
 use Rattle.world.proofs.Outcomes.{input-outcome, outcome-kept}
 use Rattle.world.proofs.Seats.{present-within}
 use Rattle.role_rule.specs.Roles.{isId, allowed}
-use Rattle.role_rule.specs.Requests.{Request, Said, called, read, Reply, replyTo, replied, worldAfter, saidTo, isAllowed, struckOut, saidToOthers, refusedAs, withStored, byReferee, Roles}
+use Rattle.role_rule.specs.Requests.{Request, Said, called, read, Reply, replyTo, replied, worldAfter, saidTo, isAllowed, struckOut, saidToOthers, refusedAs, withStored, byReferee, InputFor, ownInput, ShownRead, recordOf, markOf, Roles}
 use Rattle.role_rule.specs.declared.Ask.{Ask}
 use Rattle.role_rule.specs.declared.Ask.the-variants as ask
 use Rattle.role_rule.specs.declared.Role.{Role}
@@ -119,13 +120,39 @@ module _ (n : ℕ) (s : Sides) (ts : List ℕ) where
   referee-said [] w = refl
   referee-said (c ∷ cs) w = ap (λ (us : List Said). called (toldBy (ran n s ts w c)) ∷ us) (referee-said cs (ran n s ts w c .world))
 
+-- ---- what each may ask
+seat-may : (k : ℕ) (a : Ask) → InputFor k a → allowed (Seat k) a ≡ true
+seat-may k a ownInput = eq-eqb k k refl
+
+seat-no-more : (k : ℕ) (a : Ask) → allowed (Seat k) a ≡ true → InputFor k a
+seat-no-more k (ask.Call (Input (pos i) d x y j h)) e = subst (λ (id : ℕ). InputFor k (ask.Call (Input (pos id) d x y j h))) (sym (eqb-true i k e)) ownInput
+seat-no-more k (ask.Call (Input (negsuc i) d x y j h)) e = absurd (true≢false (sym e))
+seat-no-more k (ask.Call (Join id x y)) e = absurd (true≢false (sym e))
+seat-no-more k (ask.Call (Leave id)) e = absurd (true≢false (sym e))
+seat-no-more k (ask.Call (Tune index z)) e = absurd (true≢false (sym e))
+seat-no-more k (ask.Call Step) e = absurd (true≢false (sym e))
+seat-no-more k (ask.Read q) e = absurd (true≢false (sym e))
+
+board-may : (a : Ask) → ShownRead a → allowed Board a ≡ true
+board-may a recordOf = refl
+board-may a markOf = refl
+
+board-no-more : (a : Ask) → allowed Board a ≡ true → ShownRead a
+board-no-more (ask.Call c) e = absurd (true≢false (sym e))
+board-no-more (ask.Read (query.Record id)) e = recordOf
+board-no-more (ask.Read (query.FloorMark id)) e = markOf
+board-no-more (ask.Read (query.PlayerInput id)) e = absurd (true≢false (sym e))
+board-no-more (ask.Read (query.Tuning index)) e = absurd (true≢false (sym e))
+
 pub roles-hold : (n : ℕ) → Roles n
 roles-hold n = record {
   beyond = λ s ts. beyond n s ts;
   nothing = record { world = λ s ts w rs. world-struck n s ts rs w; said = λ s ts w rs. said-struck n s ts rs w };
   own = λ s ts. seat-own n s ts;
   boards = λ s ts. board-nothing n s ts;
-  may = λ k d x y j h. eq-eqb k k refl;
+  refereeMay = λ a. refl;
+  seatsMay = λ k a. (seat-may k a, seat-no-more k a);
+  boardsMay = λ a. (board-may a, board-no-more a);
   within = λ s ts. within n s ts;
   referee = record { world = λ s ts w cs. referee-world n s ts cs w; said = λ s ts w cs. referee-said n s ts cs w; reads = λ w q. refl };
 }

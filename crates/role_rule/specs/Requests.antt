@@ -16,6 +16,7 @@ use Rattle.world.specs.Step.{stepRefused}
 use Rattle.world.specs.declared.call.Call.{Call}
 use Rattle.world.specs.declared.call.Call.the-variants.{Input}
 use Rattle.world.specs.declared.reading.Query.{Query}
+use Rattle.world.specs.declared.reading.Query.the-variants as query
 use Rattle.world.specs.declared.reading.Reading.{Reading}
 use Rattle.world.specs.declared.reading.Reading.the-variants as reading
 use Rattle.world.specs.declared.World.{World}
@@ -117,9 +118,30 @@ pub record RefereeAsBefore (n : ℕ) : Type 0 where
 abbrev pub AllowedAsReferee : ℕ → Type 0
 AllowedAsReferee n = (s : Sides) (ts : List ℕ) (w : World) (role : Role) (a : Ask) → allowed role a ≡ true → replyTo n s ts w role a ≡ replyTo n s ts w Referee a
 
--- a seat may make input for its own id, whatever it is
+-- an input for the id k, whatever it is
+pub data InputFor (k : ℕ) : Ask → Type 0 where
+  ownInput : {d x y j h : ℤ} → InputFor k (ask.Call (Input (pos k) d x y j h))
+
+-- a read of a record or of a floor mark, whoever's
+pub data ShownRead : Ask → Type 0 where
+  recordOf : {id : ℤ} → ShownRead (ask.Read (query.Record id))
+  markOf : {id : ℤ} → ShownRead (ask.Read (query.FloorMark id))
+
+-- a role may ask what is so, and nothing else
+abbrev pub MayJust : Role → (Ask → Type 0) → Type 0
+MayJust role so = (a : Ask) → (so a → allowed role a ≡ true) × (allowed role a ≡ true → so a)
+
+-- the referee may ask everything
+abbrev pub RefereeMay : Type 0
+RefereeMay = (a : Ask) → allowed Referee a ≡ true
+
+-- a seat may make input for its own id, whatever it is, and nothing else
 abbrev pub SeatsMay : Type 0
-SeatsMay = (k : ℕ) (d x y j h : ℤ) → allowed (Seat k) (ask.Call (Input (pos k) d x y j h)) ≡ true
+SeatsMay = (k : ℕ) → MayJust (Seat k) (InputFor k)
+
+-- a board may read records and floor marks, and nothing else
+abbrev pub BoardsMay : Type 0
+BoardsMay = MayJust Board ShownRead
 
 -- request 8
 pub record Roles (n : ℕ) : Type 0 where
@@ -127,6 +149,8 @@ pub record Roles (n : ℕ) : Type 0 where
   pub nothing : CountsForNothing n
   pub own : SeatsOwn n
   pub boards : BoardsNothing n
-  pub may : SeatsMay
+  pub refereeMay : RefereeMay
+  pub seatsMay : SeatsMay
+  pub boardsMay : BoardsMay
   pub within : AllowedAsReferee n
   pub referee : RefereeAsBefore n

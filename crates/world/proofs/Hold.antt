@@ -2,13 +2,16 @@
 use Prim.Native.Nat.{ℕ, _≤_}
 use native.Mathlib.Omega.{arith}
 use native.Mathlib.Nat.{le-trans}
-use mathlib.Core.Bool.{Bool, true, false, cond}
+use mathlib.Core.Bool.{Bool, true, false, cond, _&&_, true≢false}
 use mathlib.Core.List.{List, [], _∷_}
 use mathlib.Core.Path.{_≡_, refl, sym, ap, _∙_, subst}
+use denote.Floats.{passes, is-true}
 use lib.Dec.{leb, ltb, eqb}
-use lib.IntN.{ℤ, pos}
+use lib.Ieee.Fits.{and-i, and-l, and-r}
+use lib.IntN.{ℤ, pos, negsuc}
 use lib.ListN.{getD}
 use lib.Seq.{getD-set-same}
+use lib.Signed.{_≤ℤ_, leZ-yes}
 use borrow.Author.Tests.{eqb-true, eqb-false}
 use Rattle.game_constants.specs.Constants.{maxHookGrabTime}
 use Rattle.game_records.specs.declared.CharacterCore.{CharacterCore}
@@ -94,11 +97,22 @@ read-within n w h id c = let k = placeOf n id in by-test Told (ltb k n) (λ l. b
     none e = let z : _≡_ {A = ℕ} 0 1 = cc in absurd (omega arith)
 
 -- ---- the theorem
+-- ---- its limits
+hold-limits : (z : ℤ) → isHold z ≡ true → (pos 1 ≤ℤ z) × (z ≤ℤ pos 60)
+unfolding isHold
+hold-limits (pos n) e = let t = passes (leb 1 n && leb n 60) e in (leZ-yes (and-l (leb 1 n) (leb n 60) t), leZ-yes (and-r (leb 1 n) (leb n 60) t))
+hold-limits (negsuc k) e = absurd (true≢false (sym e))
+
+limits-hold : (z : ℤ) → (pos 1 ≤ℤ z) × (z ≤ℤ pos 60) → isHold z ≡ true
+unfolding isHold
+limits-hold (pos n) l = is-true (leb 1 n && leb n 60) (and-i (leb 1 n) (leb n 60) (l .0 .le) (l .1 .le))
+limits-hold (negsuc k) l = absurd (l .0 .le)
+
 pub hook-hold : (n : ℕ) → HookHold n
 unfolding tune mayTune isHold placeOf fresh freshTunings holdOf tuningOf
 hook-hold n = record {
   first = refl;
-  limits = (refl, refl, refl, refl);
+  limits = λ z. (hold-limits z, limits-hold z);
   unknown = λ w index z e. rw e refl;
   alters = λ w z e. rw e refl;
   taken = λ w z e l. ap (λ (y : ℤ). pos (holdOf y)) (getD-set-same (w .tunings) hookHold z (pos 0) (omega (arith, l))) ∙ hold-is z e;

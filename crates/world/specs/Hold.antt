@@ -1,10 +1,11 @@
 -- The hook's hold: what a tune does to it, and that no record tells a longer one. Definitions only; proofs/Hold.antt proves it.
-use Prim.Native.Nat.{ℕ, suc, _≤_}
+use Prim.Native.Nat.{ℕ, _≤_}
 use mathlib.Core.Bool.{true, false}
 use mathlib.Core.List.{List}
 use mathlib.Core.Path.{_≡_}
 use lib.IntN.{ℤ, pos}
 use lib.ListN.{length, getD}
+use lib.Signed.{_≤ℤ_}
 use Rattle.game_constants.specs.Constants.{maxHookGrabTime}
 use Rattle.game_records.specs.declared.CharacterCore.{CharacterCore}
 use Rattle.game_refusals.specs.Refusals.{badTuning, badHold}
@@ -34,9 +35,9 @@ pub record TicksWithin (m : ℕ) (c : CharacterCore) : Type 0 where
 -- request 13, for worlds of n slots
 pub record HookHold (n : ℕ) : Type 0 where
   -- it is 60 when fresh
-  pub first : holdIn (fresh n) ≡ maxHookGrabTime
-  -- it is from 1 to 60
-  pub limits : (isHold (pos 0) ≡ false) × (isHold (pos 1) ≡ true) × (isHold (pos maxHookGrabTime) ≡ true) × (isHold (pos (suc maxHookGrabTime)) ≡ false)
+  pub first : holdIn (fresh n) ≡ 60
+  -- a hold is a number from 1 to 60, and every one of them is
+  pub limits : (z : ℤ) → (isHold z ≡ true → (pos 1 ≤ℤ z) × (z ≤ℤ pos 60)) × ((pos 1 ≤ℤ z) × (z ≤ℤ pos 60) → isHold z ≡ true)
   -- an index outside 0 to 18 is refused with 3, whatever the number
   pub unknown : (w : World) (index z : ℤ) → placeOf tuningCount index ≡ tuningCount → tune w index z ≡ refused w badTuning
   -- a tune of a hold alters nothing else, and the world holds for that long; what is no hold is refused with 16

@@ -21,7 +21,7 @@ use Rattle.world.specs.declared.Stepped.{Stepped}
 use Rattle.world.specs.declared.World.{World}
 use Rattle.world.proofs.Outcomes.{outcome-facts, input-outcome, input-number, tune-number}
 use Rattle.world.proofs.Seats.{present-within}
-use Rattle.world_late.specs.Late.{subjectOf, MayExchange, MayReplace, inputs, tunes, Exchanged, CallsCommute, LaterReplaces, CallTold, callsTold, Reordered, same, exchange, behind, again, LateLists, StruckLists}
+use Rattle.world_late.specs.Late.{seat, subjectOf, MayExchange, CallFor, join, leave, input, WhatMayBeExchanged, MayReplace, inputs, tunes, Exchanged, CallsCommute, LaterReplaces, CallTold, callsTold, Reordered, same, exchange, behind, again, LateLists, StruckLists}
 use Rattle.world_late.proofs.Changes.{left, Commuting, replacing}
 use Rattle.world_late.proofs.Actions.{storing, act, actions-commute, action-tuned}
 use Rattle.world_late.proofs.Subjects.{both-named, subjects-commute}
@@ -39,6 +39,20 @@ module _ (n : ℕ) (s : Sides) (ts : List ℕ) where
     second = tells d k (ran n s ts w c .world) w (ap (λ (v : World). ran n s ts v d .number) (m .leaves w) ∙ h .second);
     world = k .leaves (ran n s ts w c .world) ∙ ap (left (change n s ts d)) (m .leaves w) ∙ h .state ∙ sym (m .leaves (ran n s ts w d .world) ∙ ap (left (change n s ts c)) (k .leaves w));
   }
+
+-- ---- which may be exchanged
+for-seat : {id : ℤ} {c : Call} → CallFor id c → subjectOf c ≡ seat id
+for-seat join = refl
+for-seat leave = refl
+for-seat input = refl
+
+pub what-may-be-exchanged : WhatMayBeExchanged
+what-may-be-exchanged = record {
+  ids = λ a b c d p q r. rw (for-seat p, for-seat q) r;
+  indexes = λ a b y z r. r;
+  tuneFirst = λ index z id c p. rw (for-seat p) tt;
+  tuneLast = λ index z id c p. rw (for-seat p) tt;
+}
 
 pub calls-commute : (n : ℕ) → CallsCommute n
 calls-commute n s ts w c d h =

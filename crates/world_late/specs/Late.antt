@@ -1,6 +1,7 @@
 -- Calls that arrive in no fixed order: which may be exchanged, and which replaces which, as claims about two calls and about lists. Definitions only; proofs/Late.antt proves them.
 use Prim.Native.Nat.{ℕ}
 use mathlib.Core.List.{List, [], _∷_, _++_}
+use mathlib.Core.Logic.{_≢_}
 use mathlib.Core.Path.{_≡_}
 use lib.IntN.{ℤ}
 use Rattle.map_tiles.specs.declared.tiles.Sides.{Sides}
@@ -37,6 +38,22 @@ Apart everything q = ⊥
 -- joins, inputs and leaves for different ids, tunes of different indexes, a tune and any join, input or leave; a step with no call
 abbrev pub MayExchange : Call → Call → Type 0
 MayExchange c d = Apart (subjectOf c) (subjectOf d)
+
+-- a join, a leave or an input for an id
+pub data CallFor (id : ℤ) : Call → Type 0 where
+  join : {x y : ℤ} → CallFor id (Join id x y)
+  leave : CallFor id (Leave id)
+  input : {d x y j h : ℤ} → CallFor id (Input id d x y j h)
+
+-- that all these may be exchanged
+pub record WhatMayBeExchanged : Type 0 where
+  -- calls for two different ids
+  pub ids : (a b : ℤ) (c d : Call) → CallFor a c → CallFor b d → a ≢ b → MayExchange c d
+  -- tunes of different indexes
+  pub indexes : (a b y z : ℤ) → a ≢ b → MayExchange (Tune a y) (Tune b z)
+  -- a tune and every call for an id, in either order
+  pub tuneFirst : (index z id : ℤ) (c : Call) → CallFor id c → MayExchange (Tune index z) c
+  pub tuneLast : (index z id : ℤ) (c : Call) → CallFor id c → MayExchange c (Tune index z)
 
 -- an input and a later one for the same id, a tune and a later one of the same index
 pub data MayReplace : Call → Call → Type 0 where
