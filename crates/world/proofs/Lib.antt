@@ -11,6 +11,7 @@ pub mod NextSlot
 pub mod Present
 pub mod Marks
 pub mod Held
+pub mod RecordsTaken
 pub mod Deadly
 pub mod Numbers
 pub mod Hold

@@ -52,10 +52,10 @@ module _ (n : ℕ) (s : Sides) (ts : List ℕ) where
   -- ---- the ticks of a step that began with ss
   module _ (t : Tuning) (ss : List Slot) where
     -- after i of them: everybody stands where the step began, and who has ticked has the mark of it
-    record Ticking (i : ℕ) (us : List Slot) : Type 0 where
-      there : (k : ℕ) → slotAt us k .present ≡ slotAt ss k .present
-      stands : (k : ℕ) → slotAt us k .character .pos ≡ slotAt ss k .character .pos
-      marks : (k : ℕ) → k < i → slotAt ss k .present ≡ true → slotAt us k .grounded ≡ grounded s ts (slotAt ss k .character .pos)
+    pub record Ticking (i : ℕ) (us : List Slot) : Type 0 where
+      pub there : (k : ℕ) → slotAt us k .present ≡ slotAt ss k .present
+      pub stands : (k : ℕ) → slotAt us k .character .pos ≡ slotAt ss k .character .pos
+      pub marks : (k : ℕ) → k < i → slotAt ss k .present ≡ true → slotAt us k .grounded ≡ grounded s ts (slotAt ss k .character .pos)
 
     tick-turn : (i : ℕ) (us : List Slot) → Ticking i us → Ends (Ticking (suc i)) (λ r. 0 < r) (tickTurn n s ts t i us)
     tick-turn i us h = let x = slotAt us i in by-test (Ends (Ticking (suc i)) (λ r. 0 < r)) (x .present) (λ p. ticks p (tickAt n (x .character) i us s ts (x .input) t) (tick-pos n (x .character) i us s ts (x .input) t) (tick-grounded n (x .character) i us s ts (x .input) t)) nobody
@@ -75,13 +75,13 @@ module _ (n : ℕ) (s : Sides) (ts : List ℕ) where
         nobody : slotAt us i .present ≡ false → Ticking (suc i) us
         nobody p = record { there = h .there; stands = h .stands; marks = λ k l. ⊎-elim (λ e. λ q. absurd (true≢false (sym q ∙ sym (h .there k) ∙ ap (λ (m : ℕ). slotAt us m .present) e ∙ p))) (h .marks k) (last-or-below k i l) }
 
-    ticks-mark : Ends (Ticking n) (λ r. 0 < r) (tickAll n ss s ts t)
+    pub ticks-mark : Ends (Ticking n) (λ r. 0 < r) (tickAll n ss s ts t)
     unfolding tickAll
     ticks-mark = subst (λ (j : ℕ). Ends (Ticking j) (λ r. 0 < r) (run (tickTurn n s ts t) n 0 ss)) (omega arith) (run-kept (tickTurn n s ts t) Ticking (λ r. 0 < r) tick-turn n 0 ss (record { there = λ k. refl; stands = λ k. refl; marks = λ k l. absurd (omega arith) }))
 
   -- ---- the moves leave every mark
   module _ (t : Tuning) (us : List Slot) where
-    abbrev Marked : Moving → Type 0
+    abbrev pub Marked : Moving → Type 0
     Marked m = (k : ℕ) → slotAt (m .slots) k .grounded ≡ slotAt us k .grounded
 
     move-turn : (i : ℕ) (m : Moving) → Marked m → Ends Marked (λ r. Unit {0}) (moveTurn n s ts t i m)
@@ -91,7 +91,7 @@ module _ (n : ℕ) (s : Sides) (ts : List ℕ) where
         published (Refused k) = tt
         published (Core core) = set-every (λ k y. y .grounded ≡ slotAt us k .grounded) (m .slots) i (withCharacter (slotAt (m .slots) i) (fromNet core)) nowhere h (h i)
 
-    moves-keep : Ends Marked (λ r. Unit {0}) (moveAll n us s ts t)
+    pub moves-keep : Ends Marked (λ r. Unit {0}) (moveAll n us s ts t)
     unfolding moveAll
     moves-keep = run-kept (moveTurn n s ts t) (λ i. Marked) (λ r. Unit {0}) move-turn n 0 (movingFrom n us) (λ k. refl)
 

@@ -48,7 +48,7 @@ module _ (n : ℕ) (s : Sides) (ts : List ℕ) (ss : List Slot) where
     where
       go : (b : Bool) → ltb k n ≡ b → k < n
       go true q = ltb-true k n q
-      go false q = let h : n ≤ k = ltb-false k n q in absurd (true≢false (sym e ∙ ids-not (λ j. dies s ts (slotAt ss j)) n 0 k (λ j a b z. omega arith)))
+      go false q = let h : n ≤ k = ltb-false k n q in absurd (true≢false (sym e ∙ ids-not _ n 0 k (λ j a b z. omega arith)))
 
 -- the array tells the list
 pub listed-ids : (n : ℕ) (ids : List ℕ) → idsIn (listed n ids) ≡ ids
