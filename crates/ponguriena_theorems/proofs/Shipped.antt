@@ -9,6 +9,7 @@ use Rattle.character.specs.Tick.{seats}
 use Rattle.character_cases.proofs.Holding.{holding}
 use Rattle.character_cases.proofs.Proved.{proved-cases}
 use Rattle.world.proofs.Demand1.{demand1}
+use Rattle.world.proofs.Answers.{answers}
 use Rattle.world.proofs.Demand3.{demand3}
 use Rattle.world.proofs.Marks.{marks-follow}
 use Rattle.world.proofs.Leave.{leave-releases}
@@ -47,6 +48,7 @@ use Rattle.ponguriena_theorems.specs.Theorems.{Theorems, Shipped}
 pub all-theorems : (n : ℕ) → Theorems n
 all-theorems n = record {
   demand1 = demand1 n;
+  answers = answers n;
   demand3 = demand3 n;
   output = whole-output n;
   ends = play-ends n;

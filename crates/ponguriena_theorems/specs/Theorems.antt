@@ -7,6 +7,7 @@ use Rattle.character.specs.Tick.{seats}
 use Rattle.character_cases.specs.Holding.{Holding}
 use Rattle.character_cases.specs.ProvedCases.{ProvedCases}
 use Rattle.world.specs.Demand1.{Demand1}
+use Rattle.world.specs.Answers.{Answers}
 use Rattle.world.specs.Demand3.{Demand3}
 use Rattle.world.specs.Marks.{MarksFollow}
 use Rattle.world.specs.Leave.{LeaveReleases}
@@ -36,6 +37,8 @@ use Rattle.session_laws.specs.Played.{WholeOutput, PlayEnds}
 pub record Theorems (n : ℕ) : Type 0 where
   -- a refusal leaves the world as it was
   pub demand1 : Demand1 n
+  -- which calls are refused, with the lowest number that fits, and that a refused call tells its number alone
+  pub answers : Answers n
   -- clear boxes, records that come back, records that are near
   pub demand3 : Demand3 n
   -- all that the session program writes for a text, and that it ends

@@ -149,7 +149,7 @@ all-false false true c d e = absurd (true≢false e)
 all-false false false true d e = absurd (true≢false e)
 all-false false false false true e = absurd (true≢false e)
 
-corners-clear : (s : Sides) (ts : List ℕ) (p : vec2) → Clear s ts p characterBox → CornersClear s ts p
+pub corners-clear : (s : Sides) (ts : List ℕ) (p : vec2) → Clear s ts p characterBox → CornersClear s ts p
 unfolding checkBox
 corners-clear s ts p h = let e = all-false _ _ _ _ (sym (character-corners solid s ts p) ∙ h) in record { right-bottom = e .0; left-top = e .1; right-top = e .2; left-bottom = e .3 }
 

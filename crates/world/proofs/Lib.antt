@@ -17,4 +17,5 @@ pub mod Numbers
 pub mod Hold
 pub mod Demand1
 pub mod Demand3
+pub mod Answers
 pub mod TakenRecords

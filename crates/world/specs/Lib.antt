@@ -12,3 +12,4 @@ pub mod Marks
 pub mod Leave
 pub mod Held
 pub mod Deadly
+pub mod Answers
