@@ -16,6 +16,7 @@ use Rattle.world.proofs.Leave.{leave-releases}
 use Rattle.world.proofs.Held.{held-present}
 use Rattle.world.proofs.Deadly.{step-spikes}
 use Rattle.world.proofs.Hold.{hook-hold}
+use Rattle.world.proofs.Readings.{readings}
 use Rattle.world_solo.proofs.Solo.{solo}
 use Rattle.trial_rule.proofs.Tables.{rows-tell, independent}
 use Rattle.trial_rule.proofs.Runs.{counts-steps}
@@ -65,6 +66,7 @@ all-theorems n = record {
   stays = copy-stays n;
   alone = copies-alone n;
   roles = roles-hold n;
+  readings = readings n;
   solo = solo n;
   rows = rows-tell n;
   independent = independent n;

@@ -14,6 +14,7 @@ use Rattle.world.specs.Leave.{LeaveReleases}
 use Rattle.world.specs.Held.{HeldPresent}
 use Rattle.world.specs.Deadly.{StepSpikes}
 use Rattle.world.specs.Hold.{HookHold}
+use Rattle.world.specs.Readings.{Readings}
 use Rattle.world_solo.specs.Solo.{Solo}
 use Rattle.trial_rule.specs.Laws.{RowsTell, Independent, CountsSteps, TellsSmallest, TellsNobody, JumpsAfterStay, RunsByCalls}
 use Rattle.world_late.specs.Arrival.{AnyArrival}
@@ -63,6 +64,8 @@ pub record Theorems (n : ℕ) : Type 0 where
   pub alone : CopiesAlone n
   -- request 8: a call or a read beyond its role counts for nothing
   pub roles : Roles n
+  -- request 8: what a query is told, and when it is refused
+  pub readings : Readings n
   -- request 10: solo heats
   pub solo : Solo n
   -- request 11: trials

@@ -72,23 +72,23 @@ place-is n (pos k) = go (ltb k n)
     go false l = absurd (omega arith)
 place-is n (negsuc k) = λ l. absurd (omega arith)
 
-place-outside : (n : ℕ) (z : ℤ) → n ≤ placeOf n z → Outside n z
+pub place-outside : (n : ℕ) (z : ℤ) → n ≤ placeOf n z → Outside n z
 unfolding placeOf
 place-outside n z h k l e = let q : placeOf n z ≡ k = ap (placeOf n) e ∙ ap (λ (b : Bool). cond b k n) (lt-ltb k n l) in omega (arith, h, q)
 
 module _ (w : World) (n : ℕ) (id : ℤ) (l : placeOf n id < n) where
-  seat-present : slotAt (w .slots) (placeOf n id) .present ≡ true → Present w id
+  pub seat-present : slotAt (w .slots) (placeOf n id) .present ≡ true → Present w id
   seat-present p = record { seat = placeOf n id; is = place-is n id l; there = p }
 
-  seat-absent : slotAt (w .slots) (placeOf n id) .present ≡ false → Present w id → ⊥
+  pub seat-absent : slotAt (w .slots) (placeOf n id) .present ≡ false → Present w id → ⊥
   seat-absent p q = let e : placeOf n id ≡ q .seat = ap natAbs (sym (place-is n id l) ∙ q .is) in true≢false (sym (q .there) ∙ ap (λ (k : ℕ). slotAt (w .slots) k .present) (sym e) ∙ p)
 
-  seat-inside : Outside n id → ⊥
+  pub seat-inside : Outside n id → ⊥
   seat-inside o = o (placeOf n id) l (place-is n id l)
 
 -- ---- leave and input
 module _ (n : ℕ) (w : World) (id : ℤ) where
-  seat-none : (Before : ℕ → Type 0) → (Before 2 → Outside n id → ⊥) → (Before 8 → Present w id) → (k : ℕ) → Before k → SeatFits n w id k → ⊥
+  pub seat-none : (Before : ℕ → Type 0) → (Before 2 → Outside n id → ⊥) → (Before 8 → Present w id) → (k : ℕ) → Before k → SeatFits n w id k → ⊥
   seat-none B o p k b (fits.SeatFits.no-seat e f) = o (subst B e b) f
   seat-none B o p k b (fits.SeatFits.absent e f) = f (p (subst B e b))
 

@@ -6,7 +6,7 @@ use mathlib.Core.Bool.{Bool, true, false, cond, _&&_, true≢false}
 use mathlib.Core.List.{List, [], _∷_}
 use mathlib.Core.Path.{_≡_, refl, sym, ap, _∙_, subst}
 use denote.Floats.{passes, is-true}
-use lib.Dec.{leb, ltb, eqb}
+use lib.Dec.{leb, eqb}
 use lib.Ieee.Fits.{and-i, and-l, and-r}
 use lib.IntN.{ℤ, pos, negsuc}
 use lib.ListN.{getD}
@@ -28,7 +28,7 @@ use Rattle.character.specs.declared.records.Net.the-variants as net
 use Rattle.character_laws.proofs.Slots.{set-every, replicate-every}
 use Rattle.world.specs.Calls.{placeOf, pointOf, tune}
 use Rattle.world.specs.Hold.{TicksWithin, HookHold}
-use Rattle.world.specs.Readers.{seated, ofSeated, ofRecord, recordNow, readOf}
+use Rattle.world.specs.Readers.{readOf}
 use Rattle.world.specs.Run.{inputOf, ran, after}
 use Rattle.world.specs.Step.{step}
 use Rattle.world.specs.World.{fresh}
@@ -37,12 +37,11 @@ use Rattle.world.specs.declared.call.Call.{Call}
 use Rattle.world.specs.declared.call.Call.the-variants.{Join, Leave, Input, Step, Tune}
 use Rattle.world.specs.declared.reading.Query.the-variants as query
 use Rattle.world.specs.declared.reading.Reading.the-variants as reading
-use Rattle.world.specs.declared.reading.Seated.{Seated}
 use Rattle.world.specs.Settled.{Settled}
 use Rattle.world.proofs.Demand1.{demand1}
 use Rattle.world.proofs.Numbers.{core-within, step-answer}
 use Rattle.world.proofs.Outcomes.{outcome-kept, join-outcome, leave-outcome, input-outcome, tune-outcome}
-use Rattle.world.proofs.Seats.{by-test}
+use Rattle.world.proofs.Readings.{record-read}
 use Rattle.world.proofs.Settled.{answer-settled, after-settled}
 use Rattle.world.proofs.Vacated.{released-kept, vacated-every}
 
@@ -78,23 +77,16 @@ fresh-short n = replicate-every (λ x. x .present ≡ true → tickOf (x .charac
 
 -- ---- what is read
 -- the record of whoever has held for so long
-record-within : (x : Character) (m : ℕ) → tickOf (x .hook) ≤ m → (c : CharacterCore) → ofRecord (toNet x) ≡ reading.Record c → TicksWithin m c
+record-within : (x : Character) (m : ℕ) → tickOf (x .hook) ≤ m → (c : CharacterCore) → toNet x ≡ net.Core c → TicksWithin m c
 unfolding toNet
 record-within x m l c = go (leb (tickOf (x .hook)) mostTick)
   where
-    go : (b : Bool) → ofRecord (cond b (net.Core (coreOf x)) net.TickTooLarge) ≡ reading.Record c → TicksWithin m c
+    go : (b : Bool) → cond b (net.Core (coreOf x)) net.TickTooLarge ≡ net.Core c → TicksWithin m c
     go true e = let q : c ≡ coreOf x = cc in subst (TicksWithin m) (sym q) (core-within x m l)
     go false e = let z : _≡_ {A = ℕ} 0 1 = cc in absurd (omega arith)
 
 read-within : (n : ℕ) (w : World) → ShortIn w → (id : ℤ) (c : CharacterCore) → readOf n w (query.Record id) ≡ reading.Record c → TicksWithin maxHookGrabTime c
-unfolding seated
-read-within n w h id c = let k = placeOf n id in by-test Told (ltb k n) (λ l. by-test Told (slotAt (w .slots) k .present) (λ p. record-within (slotAt (w .slots) k .character) maxHookGrabTime (h k p) c) (λ p. none)) (λ l. none)
-  where
-    Told : Seated → Type 0
-    Told x = ofSeated recordNow x ≡ reading.Record c → TicksWithin maxHookGrabTime c
-
-    none : {r : ℕ} → reading.Refused r ≡ reading.Record c → TicksWithin maxHookGrabTime c
-    none e = let z : _≡_ {A = ℕ} 0 1 = cc in absurd (omega arith)
+read-within n w h id c e = let r = record-read n w id c e in record-within (slotAt (w .slots) (placeOf n id) .character) maxHookGrabTime (h (placeOf n id) (r .there)) c (r .net)
 
 -- ---- the theorem
 -- ---- its limits

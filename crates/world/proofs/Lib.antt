@@ -18,4 +18,5 @@ pub mod Hold
 pub mod Demand1
 pub mod Demand3
 pub mod Answers
+pub mod Readings
 pub mod TakenRecords

@@ -13,3 +13,4 @@ pub mod Leave
 pub mod Held
 pub mod Deadly
 pub mod Answers
+pub mod Readings
