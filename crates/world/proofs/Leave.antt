@@ -13,7 +13,7 @@ use Rattle.character.specs.Slot.{withCharacter}
 use Rattle.character.specs.Tick.{slotAt}
 use Rattle.character.specs.declared.Slot.{Slot}
 use Rattle.world.specs.Calls.{placeOf, released, vacate, leave}
-use Rattle.world.specs.Leave.{Holds, Left, LeaveReleases}
+use Rattle.world.specs.Leave.{Holds, Vacated, LeaveReleases}
 use Rattle.world.specs.declared.Answer.{Answer}
 use Rattle.world.specs.declared.World.{World}
 use Rattle.world.proofs.Outcomes.{Outcome, no, yes, Seated, leave-outcome}
@@ -46,8 +46,8 @@ other-stays h k f = go (holds h k) refl
 abbrev withHeld : Slot → Hook → Slot
 withHeld x h = withCharacter x (withHook (x .character) h)
 
-vacated-left : (k : ℕ) (w : World) → k < length (w .slots) → Left k w (vacate w k)
-vacated-left k w l = record {
+vacated-is : (k : ℕ) (w : World) → k < length (w .slots) → Vacated k w (vacate w k)
+vacated-is k w l = record {
   own = vacated-at w k l;
   holders = λ j d e. vacated-others w k j d ∙ ap (withHeld (slotAt (w .slots) j)) (held-retracted (slotAt (w .slots) j .character .hook) k e);
   others = λ j d f. vacated-others w k j d ∙ ap (withHeld (slotAt (w .slots) j)) (other-stays (slotAt (w .slots) j .character .hook) k f);
@@ -58,6 +58,6 @@ vacated-left k w l = record {
 pub leave-releases : (n : ℕ) → LeaveReleases n
 leave-releases n w id full = go (leave n w id) (leave-outcome n w id)
   where
-    go : (a : Answer) → Outcome w (vacate w (placeOf n id)) (Seated n w id) a → a .number ≡ 0 → Left (placeOf n id) w (a .world)
+    go : (a : Answer) → Outcome w (vacate w (placeOf n id)) (Seated n w id) a → a .number ≡ 0 → Vacated (placeOf n id) w (a .world)
     go a (no r e) q = let z : suc r ≡ 0 = sym (ap (λ (b : Answer). b .number) e) ∙ q in absurd (omega arith)
-    go a (yes f e) q = rw e (vacated-left (placeOf n id) w (let l = f .seat in omega (arith, full, l)))
+    go a (yes f e) q = rw e (vacated-is (placeOf n id) w (let l = f .seat in omega (arith, full, l)))

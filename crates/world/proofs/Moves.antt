@@ -35,7 +35,7 @@ use Rattle.character_laws.proofs.Slots.{set-every, set-others, replicate-every}
 use Rattle.character_laws.proofs.Moved.{move-clear}
 use Rattle.character_laws.proofs.FitsMove.{move-fits}
 use Rattle.world.specs.Step.{Moving, unpublished, ofNet, recordOf, publish, moveIn, moveTurn, movingFrom, moveAll}
-use Rattle.world.specs.Demand3.{leftIn, leftFrom, FaithfulTo, recordAt, leftOnDeadly}
+use Rattle.world.specs.Demand3.{leftIn, FaithfulTo, recordAt, leftOnDeadly}
 use Rattle.world.specs.declared.Published.{Published}
 use Rattle.world.proofs.Seats.{last-or-below, present-within, net-representable, Settling, move-turn, nobody-moved}
 use Rattle.world.proofs.Standing.{representable-fits, Standing, Stands}
@@ -77,6 +77,11 @@ same-more : (a b : Moving) → _≡_ {A = Turn Moving ℕ} (more a) (more b) →
 same-more a b e = cc
 
 -- ---- the moves so far
+
+-- what the move leaves of j where the moves begin with ss
+abbrev pub leftFrom : ℕ → Sides → List ℕ → Tuning → List Slot → ℕ → MovedAt
+leftFrom n s ts t ss j = leftIn n s ts t j (run (moveTurn n s ts t) j 0 (movingFrom n ss))
+
 module _ (n : ℕ) (s : Sides) (ts : List ℕ) (t : Tuning) (ss : List Slot) where
   -- the record of the id k: there where somebody is, and near to what the move left
   abbrev pub Told : ℕ → Published → Type 0

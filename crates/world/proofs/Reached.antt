@@ -28,14 +28,14 @@ use Rattle.game_tuning.specs.Tuning.{freshTunings, playerCollision}
 use Rattle.world.specs.Calls.{vacate}
 use Rattle.world.specs.Removal.{dies, dying, idsIn, isIn}
 use Rattle.world.specs.Step.{Moving, tickAll, moveAll, moveTurn, movingFrom, stepRefused, stepAnswer, stepOn, step}
-use Rattle.world.specs.Demand3.{left, leftIn, leftFrom, recordAt, FaithfulTo, leftOnDeadly}
+use Rattle.world.specs.Demand3.{left, leftIn, recordAt, FaithfulTo, leftOnDeadly}
 use Rattle.world.specs.declared.Stepped.{Stepped}
 use Rattle.world.specs.declared.World.{World}
 use Rattle.world.proofs.Seats.{Same, Settling, ticks-same, moves-settle}
 use Rattle.world.proofs.Removal.{dying-are, listed-ids, removed-kept}
 use Rattle.world.proofs.Vacated.{vacated-every}
 use Rattle.world.proofs.Standing.{Standing, Stands, ticks-stand}
-use Rattle.world.proofs.Moves.{Sofar, moves-sofar}
+use Rattle.world.proofs.Moves.{leftFrom, Sofar, moves-sofar}
 
 module _ (n : ℕ) (s : Sides) (ts : List ℕ) where
   -- z is player collision

@@ -20,7 +20,6 @@ use Rattle.game_records.specs.declared.CharacterCore.{CharacterCore}
 use Rattle.world.specs.declared.call.Call.{Call}
 use Rattle.world.specs.declared.call.Call.the-variants.{Join, Leave, Input, Step, Tune}
 use Rattle.character.specs.Tick.{slotAt}
-use Rattle.character.specs.declared.Slot.{Slot}
 use Rattle.character.specs.declared.walk.MovedAt.{MovedAt}
 use Rattle.character.specs.declared.walk.MovedAt.the-variants as moved
 use Rattle.character_laws.specs.Faithful.{Faithful}
@@ -30,8 +29,7 @@ use Rattle.world.specs.World.{fresh}
 use Rattle.game_tuning.specs.Tuning.{tuningCount, playerCollision}
 use Rattle.world.specs.Calls as calls
 use Rattle.world.specs.Removal.{idsIn, isIn}
-use Rattle.world.specs.Step.{Moving, unpublished, tickAll, moveIn, moveTurn, movingFrom}
-use Rattle.world.specs.Step as world
+use Rattle.world.specs.Step.{Moving, unpublished, tickAll, moveIn, moveTurn, movingFrom, step}
 use Rattle.world.specs.Run.{ran, after}
 use Rattle.world.specs.declared.Published.{Published}
 use Rattle.world.specs.declared.Stepped.{Stepped}
@@ -79,9 +77,6 @@ abbrev pub leftIn : ℕ → Sides → List ℕ → Tuning → ℕ → Turn Movin
 leftIn n s ts t j (more m) = moveIn n s ts t (m .slots) j
 leftIn n s ts t j (stop k) = moved.TooFar
 
-abbrev pub leftFrom : ℕ → Sides → List ℕ → Tuning → List Slot → ℕ → MovedAt
-leftFrom n s ts t ss j = leftIn n s ts t j (run (moveTurn n s ts t) j 0 (movingFrom n ss))
-
 -- what the move left of j in a step on w
 abbrev pub left : ℕ → World → Sides → List ℕ → ℕ → MovedAt
 left n w s ts j = let t = tuningOf (w .tunings) in leftIn n s ts t j (next (λ ss. run (moveTurn n s ts t) j 0 (movingFrom n ss)) (tickAll n (w .slots) s ts t))
@@ -101,9 +96,9 @@ leftOnDeadly s ts (moved.To c) = onDeadly s ts (c .pos)
 
 -- one record for each id that is there when the step is called, the removed included; removed is who then has a corner on a deadly tile, which is who had it before quantizing
 pub record StepFaithful (n : ℕ) (w : World) (s : Sides) (ts : List ℕ) (there : ℕ → Bool) : Type 0 where
-  pub published : (j : ℕ) → j < n → recordAt (world.step n w s ts .records) j .present ≡ there j
-  pub faithful : (j : ℕ) → j < n → there j ≡ true → FaithfulTo (recordAt (world.step n w s ts .records) j .core) (left n w s ts j)
-  pub removed : (j : ℕ) → j < n → isIn j (idsIn (world.step n w s ts .removed)) ≡ (there j && leftOnDeadly s ts (left n w s ts j))
+  pub published : (j : ℕ) → j < n → recordAt (step n w s ts .records) j .present ≡ there j
+  pub faithful : (j : ℕ) → j < n → there j ≡ true → FaithfulTo (recordAt (step n w s ts .records) j .core) (left n w s ts j)
+  pub removed : (j : ℕ) → j < n → isIn j (idsIn (step n w s ts .removed)) ≡ (there j && leftOnDeadly s ts (left n w s ts j))
 
 -- every accepted step of a list, where `there` says who is present before it
 abbrev pub StepsFaithful : ℕ → Sides → List ℕ → (ℕ → Bool) → World → List Call → Type 0

@@ -20,7 +20,7 @@ pub record Holds (h : Hook) (k : ℕ) : Type 0 where
   pub is : who .0 ≡ k
 
 -- the world w after k has left, as v: the slot of k is as every fresh one; of everybody else a hook that held k is Retracted; nothing else has changed
-pub record Left (k : ℕ) (w v : World) : Type 0 where
+pub record Vacated (k : ℕ) (w v : World) : Type 0 where
   pub own : slotAt (v .slots) k ≡ emptySlot
   pub holders : (j : ℕ) → (j ≡ k → ⊥) → let x = slotAt (w .slots) j in Holds (x .character .hook) k → slotAt (v .slots) j ≡ withCharacter x (withHook (x .character) Retracted)
   pub others : (j : ℕ) → (j ≡ k → ⊥) → let x = slotAt (w .slots) j in (Holds (x .character .hook) k → ⊥) → slotAt (v .slots) j ≡ x
@@ -29,4 +29,4 @@ pub record Left (k : ℕ) (w v : World) : Type 0 where
 
 -- in every world of n slots
 abbrev pub LeaveReleases : ℕ → Type 0
-LeaveReleases n = (w : World) (id : ℤ) → length (w .slots) ≡ n → leave n w id .number ≡ 0 → Left (placeOf n id) w (leave n w id .world)
+LeaveReleases n = (w : World) (id : ℤ) → length (w .slots) ≡ n → leave n w id .number ≡ 0 → Vacated (placeOf n id) w (leave n w id .world)
