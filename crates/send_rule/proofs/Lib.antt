@@ -9,3 +9,4 @@ pub mod Copies
 pub mod Sparing
 pub mod Unmarked
 pub mod Foreseen
+pub mod Quiet
