@@ -14,6 +14,8 @@ use Rattle.trial_rule.proofs.Tables.{rows-tell, independent}
 use Rattle.trial_rule.proofs.Runs.{counts-steps}
 use Rattle.trial_rule.proofs.Told.{tells-smallest, tells-nobody, jumps-after-stay}
 use Rattle.trial_rule.proofs.ByCalls.{runs-by-calls}
+use Rattle.trial_rule.proofs.Inputs.{goes-towards, inputs-stored}
+use Rattle.trial_rule.proofs.Limits.{trial-limits}
 use Rattle.world_late.proofs.Arrival.{any-arrival}
 use Rattle.world_late.proofs.Late.{calls-commute, later-replaces, late-lists, struck-lists}
 use Rattle.send_rule.proofs.Shown.{screen-shows}
@@ -67,6 +69,7 @@ all-theorems n = record {
   nobody = tells-nobody n;
   jumps = jumps-after-stay n;
   trialCalls = runs-by-calls n;
+  inputs = inputs-stored n;
   ways = search-reaches n;
   hold = hook-hold n;
   commute = calls-commute n;
@@ -88,6 +91,8 @@ shipped = record {
   writes = change-writes;
   follows = change-follows;
   reaches = change-reaches;
+  towards = goes-towards;
+  limits = trial-limits;
   holding = holding;
   arrival = any-arrival;
   numbersCommute = numbers-commute;

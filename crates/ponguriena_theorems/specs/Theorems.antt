@@ -10,7 +10,8 @@ use Rattle.world.specs.Held.{HeldPresent}
 use Rattle.world.specs.Deadly.{StepSpikes}
 use Rattle.world.specs.Hold.{HookHold}
 use Rattle.world_solo.specs.Solo.{Solo}
-use Rattle.trial_rule.specs.Laws.{RowsTell, Independent, CountsSteps, TellsSmallest, TellsNobody, JumpsAfterStay, RunsByCalls}
+use Rattle.trial_rule.specs.Laws.{RowsTell, Independent, CountsSteps, TellsSmallest, TellsNobody, JumpsAfterStay, RunsByCalls, GoesTowards, InputsStored}
+use Rattle.trial_rule.specs.Limits.{TrialLimits}
 use Rattle.world_late.specs.Arrival.{AnyArrival}
 use Rattle.world_late.specs.Late.{CallsCommute, LaterReplaces, LateLists, StruckLists}
 use Rattle.send_rule.specs.Shown.{Shown}
@@ -69,6 +70,7 @@ pub record Theorems (n : ℕ) : Type 0 where
   pub nobody : TellsNobody n
   pub jumps : JumpsAfterStay n
   pub trialCalls : RunsByCalls n
+  pub inputs : InputsStored n
   -- request 12: the first way to a place
   pub ways : Reaches n
   -- request 13: the hook's hold
@@ -96,6 +98,9 @@ pub record Shipped : Type 0 where
   pub writes : ChangeWrites
   pub follows : ChangeFollows
   pub reaches : ChangeReaches
+  -- request 11: which way a player goes, and how many tunings and steps a trial has
+  pub towards : GoesTowards
+  pub limits : TrialLimits
   -- request 13: what a tick makes of a hook that holds somebody, whatever the hold
   pub holding : Holding
   -- request 14: the orders in which calls may arrive, and late calls on any numbers
