@@ -23,6 +23,7 @@ use Rattle.send_rule.proofs.Sparing.{sender-spares}
 use Rattle.send_rule.proofs.Along.{sender-passes}
 use Rattle.send_rule.proofs.Foreseen.{copy-foresees, copy-stays}
 use Rattle.send_rule.proofs.Quiet.{message-renews, alone-quiet}
+use Rattle.send_rule.proofs.QuietAmong.{as-alone-quiet}
 use Rattle.send_alone.proofs.Copies.{copies-alone}
 use Rattle.world_numbers.proofs.Encoded.{comes-back}
 use Rattle.world_numbers.proofs.Any.{any-comes-back}
@@ -59,6 +60,7 @@ all-theorems n = record {
   stays = copy-stays n;
   renews = message-renews n;
   quiet = alone-quiet n;
+  quietAmong = as-alone-quiet n;
   alone = copies-alone n;
   roles = roles-hold n;
   solo = solo n;

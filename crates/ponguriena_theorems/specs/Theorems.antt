@@ -18,7 +18,7 @@ use Rattle.send_rule.specs.Shown.{Shown}
 use Rattle.send_rule.specs.Sparing.{Sparing}
 use Rattle.send_rule.specs.Along.{Along}
 use Rattle.send_rule.specs.Foreseen.{Foreseen, Stays}
-use Rattle.send_rule.specs.Quiet.{Renews, Quiet}
+use Rattle.send_rule.specs.Quiet.{Renews, Quiet, QuietAmong}
 use Rattle.send_alone.specs.Alone.{CopiesAlone}
 use Rattle.world_numbers.specs.Decoding.{ComesBack, AnyComesBack}
 use Rattle.world_buffers.specs.Following.{CallsStand, RefusalsLeave, BufferFollows}
@@ -57,6 +57,7 @@ pub record Theorems (n : ℕ) : Type 0 where
   pub stays : Stays n
   pub renews : Renews n
   pub quiet : Quiet n
+  pub quietAmong : QuietAmong n
   pub alone : CopiesAlone n
   -- request 8: a call or a read beyond its role counts for nothing
   pub roles : Roles n

@@ -10,3 +10,4 @@ pub mod Sparing
 pub mod Unmarked
 pub mod Foreseen
 pub mod Quiet
+pub mod QuietAmong

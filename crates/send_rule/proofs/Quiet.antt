@@ -44,11 +44,11 @@ use Rattle.send_rule.proofs.Sparing.{Before, call-sparing, before-next,
 use Rattle.send_rule.proofs.Steps.{not-gone, step-leaves}
 
 -- a message is none of no messages
-one-none : (p : Passed) (ps : List Passed) → ps ≡ [] → ps ≡ p ∷ [] → ⊥
+pub one-none : (p : Passed) (ps : List Passed) → ps ≡ [] → ps ≡ p ∷ [] → ⊥
 one-none p ps e f = let z : _≡_ {A = ℕ} 0 1 = cc in omega arith
 
 -- by the call, and whether it is accepted
-by-call : (P : Call → Type 0) (number : Call → ℕ) → (number Step ≡ 0 → P Step) → ((c : Call) → (c ≡ Step → number c ≡ 0 → ⊥) → P c) → (c : Call) → P c
+pub by-call : (P : Call → Type 0) (number : Call → ℕ) → (number Step ≡ 0 → P Step) → ((c : Call) → (c ≡ Step → number c ≡ 0 → ⊥) → P c) → (c : Call) → P c
 by-call P number f g Step = either-way (eqb (number Step) 0) (λ e. f (eqb-true (number Step) 0 e)) (λ e. g Step (λ q. eqb-false (number Step) 0 e))
 by-call P number f g (Join id x y) = g (Join id x y) (λ q. absurd (let z : _≡_ {A = ℕ} 0 1 = cc in omega arith))
 by-call P number f g (Leave id) = g (Leave id) (λ q. absurd (let z : _≡_ {A = ℕ} 0 1 = cc in omega arith))
@@ -61,34 +61,42 @@ same-character true x i = refl
 same-character false x i = refl
 
 module _ (n : ℕ) (s : Sides) (ts : List ℕ) (k : ℕ) (seat : k < n) where
-  abbrev copyIn : Link → Copy
+  abbrev pub copyIn : Link → Copy
   copyIn l = copyAt (l .copies) k
 
-  abbrev numberOf : Link → Call → ℕ
+  abbrev pub numberOf : Link → Call → ℕ
   numberOf l c = ran n s ts (l .world) c .number
 
-  abbrev messagesOn : Link → Call → List Passed
+  abbrev pub messagesOn : Link → Call → List Passed
   messagesOn l c = messages k (sentOn n s ts l c .passed)
 
   -- the copy after an accepted step that leaves k there
   module _ (l : Link) (h : Linked n s ts l) (e : numberOf l Step ≡ 0) (there : slotAt (called n s ts l Step .world .slots) k .present ≡ true) where
-    stays : isIn k (idsIn (step n (l .world) s ts .removed)) ≡ false
+    pub stays : isIn k (idsIn (step n (l .world) s ts .removed)) ≡ false
     stays = not-gone (isIn k (idsIn (step n (l .world) s ts .removed))) (slotAt (l .world .slots) k .present) (sym (present-next n s ts (l .world) Step (h .settled) k) ∙ there) .0
 
-    stepped-copy : copyIn (called n s ts l Step) ≡ renewed (messagesOn l Step) (stepCopy n s ts (l .world .tunings) k (copyIn l))
+    pub stepped-copy : copyIn (called n s ts l Step) ≡ renewed (messagesOn l Step) (stepCopy n s ts (l .world .tunings) k (copyIn l))
     stepped-copy = copies n s ts l h Step e k seat ∙ ap (λ (b : Bool). cond b noCopy (renewed (messagesOn l Step) (stepCopy n s ts (l .world .tunings) k (copyIn l)))) stays
 
   -- ---- what a message leaves
   module _ (l : Link) (new : Bool) (since : ℕ) (h : Before n s ts k seat l new since) where
     -- a call with a message of k is an accepted step
-    abbrev Sends : Call → Type 0
+    abbrev pub Sends : Call → Type 0
     Sends c = (core : CharacterCore) (i : PlayerInput) → messagesOn l c ≡ passed.Message k core i ∷ [] → slotAt (called n s ts l c .world .slots) k .present ≡ true → AsSent (copyIn (called n s ts l c)) core i
 
-    sent : (c : Call) → Sends c
+    pub sent : (c : Call) → Sends c
     sent = by-call Sends (numberOf l) (λ e core i m p. subst (λ (d : Copy). AsSent d core i) (sym (stepped-copy l (h .linked) e p ∙ ap (λ (ps : List Passed). renewed ps (stepCopy n s ts (l .world .tunings) k (copyIn l))) m)) (record { kept = refl; core = refl; input = refl; stays = refl; unrefused = refl; steps = refl })) (λ c f core i m p. absurd (one-none _ (messagesOn l c) (call-sparing n s ts k seat l new since h c .other f) m))
 
     call-renews : (c : Call) → CallRenews n s ts k l c
     call-renews c core i m p = let a = sent c core i m p in (a, subst (λ (us : List Copy). AsSent (copyAt us k) core i) (sym (call-along n s ts l (h .linked) c .both)) a)
+
+  -- whoever has a copy is not new
+  pub not-new : (l : Link) (new : Bool) (q : ℕ) → Before n s ts k seat l new q → copyIn l .kept ≡ true → Before n s ts k seat l false q
+  not-new l new q h e = subst (λ (b : Bool). Before n s ts k seat l b q) (not-true new (both (slotAt (l .world .slots) k .present) (not new) (sym (h .fits .kept) ∙ e) .1)) h
+
+  -- none since a message
+  pub since-message : (l : Link) (new : Bool) (q : ℕ) (p : Passed) → Before n s ts k seat l new q → numberOf l Step ≡ 0 → messagesOn l Step ≡ p ∷ [] → copyIn (called n s ts l Step) .kept ≡ true → Before n s ts k seat (called n s ts l Step) false 0
+  since-message l new q p h e m b = not-new (called n s ts l Step) _ 0 (subst (Before n s ts k seat (called n s ts l Step) _) (ap (λ (b : Bool). cond b (orNone q (messagesOn l Step)) q) (eq-eqb (numberOf l Step) 0 e) ∙ ap (orNone q) m) (before-next n s ts k seat l new q h Step)) b
 
   -- ---- k alone with the input i
   module _ (i : PlayerInput) where
@@ -118,9 +126,6 @@ module _ (n : ℕ) (s : Sides) (ts : List ℕ) (k : ℕ) (seat : k < n) where
     record Follows (l : Link) (q : ℕ) : Type 0 where
       before : Before n s ts k seat l false q
       alone : Alone n (l .world) k (copyIn l)
-
-    follows : (l : Link) (new : Bool) (q : ℕ) → Before n s ts k seat l new q → Alone n (l .world) k (copyIn l) → Follows l q
-    follows l new q h a = record { before = subst (λ (b : Bool). Before n s ts k seat l b q) (not-true new (both (slotAt (l .world .slots) k .present) (not new) (sym (h .fits .kept) ∙ a .kept) .1)) h; alone = a }
 
     module _ (l : Link) (q : ℕ) (h : Follows l q) where
       abbrev copy : Copy
@@ -196,7 +201,9 @@ module _ (n : ℕ) (s : Sides) (ts : List ℕ) (k : ℕ) (seat : k < n) where
         accepted-call Step e = accepted-step e
 
         next : (c : Call) → AloneIn (called n s ts l c) → Follows (called n s ts l c) (sinceAfter k q (numberOf l c) (sentOn n s ts l c .passed) c)
-        next c b = follows (called n s ts l c) _ _ (before-next n s ts k seat l false q (h .before) c) (either-way (eqb (numberOf l c) 0) (λ e. accepted-call c (eqb-true (numberOf l c) 0 e) b) (λ e. not-accepted c (eqb-false (numberOf l c) 0 e) b))
+        next c b =
+            let d = either-way (eqb (numberOf l c) 0) (λ e. accepted-call c (eqb-true (numberOf l c) 0 e) b) (λ e. not-accepted c (eqb-false (numberOf l c) 0 e) b) in
+            record { before = not-new (called n s ts l c) _ _ (before-next n s ts k seat l false q (h .before) c) (d .kept); alone = d }
 
     -- ---- every call
     quiet-calls : (cs : List Call) (l : Link) (q : ℕ) → (AloneIn l → Follows l q) → EveryCall n s ts (λ m d. AloneIn m) l cs → QuietCalls n s ts k q l cs
@@ -208,7 +215,7 @@ module _ (n : ℕ) (s : Sides) (ts : List ℕ) (k : ℕ) (seat : k < n) where
     from-message l new since h a e some b = go (hasMessage n s ts (l .world) (step n (l .world) s ts) (l .copies) k) (step-messages n s ts l (h .linked) e k seat)
       where
         go : (has : Bool) → messagesOn l Step ≡ cond has (messageOf (l .world) (step n (l .world) s ts) k ∷ []) [] → Follows (called n s ts l Step) 0
-        go true m = follows (called n s ts l Step) _ 0 (subst (Before n s ts k seat (called n s ts l Step) _) (ap (λ (b : Bool). cond b (orNone since (messagesOn l Step)) since) (eq-eqb (numberOf l Step) 0 e) ∙ ap (orNone since) m) (before-next n s ts k seat l new since h Step)) (after-message l new since h e a b m)
+        go true m = let d = after-message l new since h e a b m in record { before = since-message l new since _ h e m (d .kept); alone = d }
         go false m = absurd (some m)
 
   call-quiet : (l : Link) (new : Bool) (since : ℕ) → Before n s ts k seat l new since → (c : Call) → CallQuiet n s ts k l c

@@ -2,7 +2,7 @@
 use Prim.Native.Nat.{ℕ, suc, _<_}
 use native.Mathlib.Omega.{arith}
 use mathlib.Core.Logic.{⊎-elim}
-use mathlib.Core.Bool.{Bool, true, false, cond, true≢false}
+use mathlib.Core.Bool.{Bool, true, false, cond, _&&_, true≢false}
 use mathlib.Core.List.{List, [], _∷_}
 use mathlib.Core.Path.{_≡_, refl, sym, ap, _∙_, subst}
 use lib.Dec.{eqb}
@@ -12,16 +12,18 @@ use borrow.Author.Tests.{eqb-true, eqb-false, eq-eqb}
 use Rattle.base_turns.specs.Turns.{Turn, more, stop, next, run}
 use Rattle.base_turns.proofs.Kept.{Ends, run-kept}
 use Rattle.base_turns.proofs.Tests.{either-way, both, or-first}
+use Rattle.map_tiles.specs.Box.{onDeadly}
 use Rattle.map_tiles.specs.Map.{isMap}
 use Rattle.map_tiles.specs.declared.tiles.Sides.{Sides}
 use Rattle.game_tuning.specs.Tuning.{tuningOf}
 use Rattle.game_tuning.specs.declared.Tuning.{Tuning}
 use Rattle.character.specs.Slot.{withCharacter}
 use Rattle.character.specs.Tick.{slotAt, nowhere}
+use Rattle.character.specs.declared.Character.{Character}
 use Rattle.character.specs.declared.Slot.{Slot}
 use Rattle.character.specs.Records.{fromNet}
 use Rattle.character_laws.proofs.Slots.{set-every}
-use Rattle.world.specs.Removal.{dying, removeAll, isIn}
+use Rattle.world.specs.Removal.{dying, removeAll, idsIn, isIn}
 use Rattle.world.specs.Step.{Moving, unpublished, tickAll, recordOf, publish, moveIn, moveTurn, movingFrom, moveAll, stepAnswer, stepOn, step}
 use Rattle.world.specs.Demand3.{recordAt}
 use Rattle.world.specs.declared.Published.{Published}
@@ -29,7 +31,7 @@ use Rattle.world.specs.declared.Recorded.{Recorded}
 use Rattle.world.specs.declared.Recorded.the-variants.{Refused, Core}
 use Rattle.world.specs.declared.Stepped.{Stepped}
 use Rattle.world.specs.declared.World.{World}
-use Rattle.world.proofs.Removal.{dying-are, dying-within, removed-kept, removed-present}
+use Rattle.world.proofs.Removal.{dying-are, dying-within, listed-ids, removed-kept, removed-present}
 use Rattle.world.proofs.Seats.{by-test, last-or-below, present-within, Same, Settling, ticks-same, moves-settle}
 
 -- nobody is in an empty list alone
@@ -95,16 +97,19 @@ module _ (n : ℕ) (s : Sides) (ts : List ℕ) where
       pub published : a .number ≡ 0 → (k : ℕ) → k < n → slotAt (w .slots) k .present ≡ true → recordAt (a .records) k .present ≡ true
       -- whoever was alone and still is there
       pub read : a .number ≡ 0 → (k : ℕ) → k < n → Nobody k → slotAt (a .world .slots) k .present ≡ true → slotAt (a .world .slots) k .character ≡ fromNet (recordAt (a .records) k .core)
+      -- whoever was there is removed where its record has a corner on a deadly tile
+      pub removed : a .number ≡ 0 → (k : ℕ) → k < n → slotAt (w .slots) k .present ≡ true → isIn k (idsIn (a .removed)) ≡ onDeadly s ts (fromNet (recordAt (a .records) k .core) .pos)
       pub tunings : a .world .tunings ≡ w .tunings
 
     stopped : (k : ℕ) → 0 < k → Leaves (stepAnswer n w s ts (stop k))
-    stopped k l = record { published = λ e. absurd (omega arith); read = λ e. absurd (omega arith); tunings = refl }
+    stopped k l = record { published = λ e. absurd (omega arith); read = λ e. absurd (omega arith); removed = λ e. absurd (omega arith); tunings = refl }
 
     moved : (us : List Slot) → Same (w .slots) us → (a : Turn Moving ℕ) → Ends (Settling n s ts tuning us n) (λ r. 0 < r) a → Ends (Publishing tuning us n) (λ r. Unit {0}) a → Leaves (stepAnswer n w s ts a)
     moved us d (stop k) f g = stopped k f
     moved us d (more m) f g = record {
       published = λ e k l p. g .told k l l (d .present k ∙ p);
       read = λ e k l q p. alone k l q p;
+      removed = λ e k l p. ap (isIn k) (listed-ids n ids) ∙ dying-are n s ts (m .slots) k l ∙ ap (λ (b : Bool). b && onDeadly s ts (slotAt (m .slots) k .character .pos)) (f .same .present k ∙ d .present k ∙ p) ∙ ap (λ (c : Character). onDeadly s ts (c .pos)) (g .read k l l (d .present k ∙ p));
       tunings = removed-kept (λ v. v .tunings ≡ w .tunings) (λ v k e. e) ids moves refl;
     }
       where

@@ -21,7 +21,7 @@ use Rattle.world.specs.Run.{ran, after}
 use Rattle.world.specs.declared.World.{World}
 use Rattle.world.proofs.Seats.{last-or-below, present-within}
 use Rattle.trial_rule.specs.Trial.{Trying, towards, inputFor, inputsFor, stepFrom}
-use Rattle.trial_rule.specs.Laws.{Towards, GoesTowards, storedBy, StepStored, InputsStored}
+use Rattle.trial_rule.specs.Laws.{GoesTowards, storedBy, StepStored, InputsStored}
 
 -- ---- which way
 

@@ -1,7 +1,7 @@
 -- The limits of a trial. Assumes nothing.
-use Prim.Native.Nat.{ℕ, _≤_}
+use Prim.Native.Nat.{_≤_}
 use native.Mathlib.Omega.{arith}
-use mathlib.Core.Bool.{Bool, true, false, _&&_, true≢false}
+use mathlib.Core.Bool.{true, _&&_, true≢false}
 use mathlib.Core.Path.{_≡_, sym}
 use lib.Dec.{leb, leb→le}
 use lib.IntN.{ℤ, pos, negsuc}
