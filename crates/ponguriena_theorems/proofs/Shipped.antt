@@ -22,12 +22,16 @@ use Rattle.trial_rule.proofs.Tables.{rows-tell, independent}
 use Rattle.trial_rule.proofs.Runs.{counts-steps}
 use Rattle.trial_rule.proofs.Told.{tells-smallest, tells-nobody, jumps-after-stay}
 use Rattle.trial_rule.proofs.ByCalls.{runs-by-calls}
+use Rattle.trial_rule.proofs.Inputs.{goes-towards, inputs-stored}
+use Rattle.trial_rule.proofs.Limits.{trial-limits}
 use Rattle.world_late.proofs.Arrival.{any-arrival}
 use Rattle.world_late.proofs.Late.{what-may-be-exchanged, calls-commute, later-replaces, late-lists, struck-lists}
 use Rattle.send_rule.proofs.Shown.{screen-shows}
 use Rattle.send_rule.proofs.Sparing.{sender-spares}
 use Rattle.send_rule.proofs.Along.{sender-passes}
 use Rattle.send_rule.proofs.Foreseen.{copy-foresees, copy-stays}
+use Rattle.send_rule.proofs.Quiet.{message-renews, alone-quiet}
+use Rattle.send_rule.proofs.QuietAmong.{as-alone-quiet}
 use Rattle.send_alone.proofs.Copies.{copies-alone}
 use Rattle.world_numbers.proofs.Encoded.{comes-back}
 use Rattle.world_numbers.proofs.Any.{any-comes-back}
@@ -64,6 +68,9 @@ all-theorems n = record {
   along = sender-passes n;
   foreseen = copy-foresees n;
   stays = copy-stays n;
+  renews = message-renews n;
+  quiet = alone-quiet n;
+  quietAmong = as-alone-quiet n;
   alone = copies-alone n;
   roles = roles-hold n;
   readings = readings n;
@@ -75,6 +82,7 @@ all-theorems n = record {
   nobody = tells-nobody n;
   jumps = jumps-after-stay n;
   trialCalls = runs-by-calls n;
+  inputs = inputs-stored n;
   ways = search-reaches n;
   hold = hook-hold n;
   commute = calls-commute n;
@@ -106,6 +114,8 @@ shipped = record {
   writes = change-writes;
   follows = change-follows;
   reaches = change-reaches;
+  towards = goes-towards;
+  limits = trial-limits;
   holding = holding;
   exchange = what-may-be-exchanged;
   arrival = any-arrival;

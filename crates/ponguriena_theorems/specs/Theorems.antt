@@ -16,13 +16,15 @@ use Rattle.world.specs.Deadly.{StepSpikes}
 use Rattle.world.specs.Hold.{HookHold}
 use Rattle.world.specs.Readings.{Readings}
 use Rattle.world_solo.specs.Solo.{Solo}
-use Rattle.trial_rule.specs.Laws.{RowsTell, Independent, CountsSteps, TellsSmallest, TellsNobody, JumpsAfterStay, RunsByCalls}
+use Rattle.trial_rule.specs.Laws.{RowsTell, Independent, CountsSteps, TellsSmallest, TellsNobody, JumpsAfterStay, RunsByCalls, GoesTowards, InputsStored}
+use Rattle.trial_rule.specs.Limits.{TrialLimits}
 use Rattle.world_late.specs.Arrival.{AnyArrival}
 use Rattle.world_late.specs.Late.{WhatMayBeExchanged, CallsCommute, LaterReplaces, LateLists, StruckLists}
 use Rattle.send_rule.specs.Shown.{Shown}
 use Rattle.send_rule.specs.Sparing.{Sparing}
 use Rattle.send_rule.specs.Along.{Along}
 use Rattle.send_rule.specs.Foreseen.{Foreseen, Stays}
+use Rattle.send_rule.specs.Quiet.{Renews, Quiet, QuietAmong}
 use Rattle.send_alone.specs.Alone.{CopiesAlone}
 use Rattle.world_numbers.specs.Decoding.{ComesBack, AnyComesBack}
 use Rattle.world_buffers.specs.Following.{CallsStand, RefusalsLeave, BufferFollows}
@@ -61,6 +63,9 @@ pub record Theorems (n : ℕ) : Type 0 where
   pub along : Along n
   pub foreseen : Foreseen n
   pub stays : Stays n
+  pub renews : Renews n
+  pub quiet : Quiet n
+  pub quietAmong : QuietAmong n
   pub alone : CopiesAlone n
   -- request 8: a call or a read beyond its role counts for nothing
   pub roles : Roles n
@@ -76,6 +81,7 @@ pub record Theorems (n : ℕ) : Type 0 where
   pub nobody : TellsNobody n
   pub jumps : JumpsAfterStay n
   pub trialCalls : RunsByCalls n
+  pub inputs : InputsStored n
   -- request 12: the first way to a place
   pub ways : Reaches n
   -- request 13: the hook's hold
@@ -117,6 +123,9 @@ pub record Shipped : Type 0 where
   pub writes : ChangeWrites
   pub follows : ChangeFollows
   pub reaches : ChangeReaches
+  -- request 11: which way a player goes, and how many tunings and steps a trial has
+  pub towards : GoesTowards
+  pub limits : TrialLimits
   -- request 13: what a tick makes of a hook that holds somebody, whatever the hold
   pub holding : Holding
   -- request 14: which calls may be exchanged, the orders in which calls may arrive, and late calls on any numbers

@@ -4,6 +4,8 @@ use mathlib.Core.Bool.{Bool, true, false, cond, or-false}
 use mathlib.Core.List.{List, [], _∷_, _++_, map, append-nil}
 use mathlib.Core.Path.{_≡_, refl, sym, ap, _∙_, subst}
 use lib.Dec.{eqb}
+use Rattle.game_records.specs.declared.CharacterCore.{CharacterCore}
+use Rattle.game_records.specs.declared.PlayerInput.{PlayerInput}
 use Rattle.map_tiles.specs.declared.tiles.Sides.{Sides}
 use Rattle.world.specs.Calls.{placeOf}
 use Rattle.world.specs.Removal.{idsIn, isIn}
@@ -31,9 +33,9 @@ drop-test ks cs k = go (isIn k ks) refl
     go true e = drop-same ks cs k e
     go false e = drop-other ks cs k e
 
-renewed-test : (b : Bool) (k : ℕ) (c d : Copy) → cond b (copyOf (c .core) (c .input)) d ≡ renewed (cond b (passed.Message k (c .core) (c .input) ∷ []) []) d
-renewed-test true k c d = refl
-renewed-test false k c d = refl
+renewed-test : (b : Bool) (k : ℕ) (core : CharacterCore) (i : PlayerInput) (d : Copy) → cond b (copyOf core i) d ≡ renewed (cond b (passed.Message k core i ∷ []) []) d
+renewed-test true k core i d = refl
+renewed-test false k core i d = refl
 
 module _ (n : ℕ) (s : Sides) (ts : List ℕ) (l : Link) (h : Linked n s ts l) where
   -- ---- an accepted step
@@ -64,7 +66,7 @@ module _ (n : ℕ) (s : Sides) (ts : List ℕ) (l : Link) (h : Linked n s ts l) 
         let b = hasMessage n s ts (l .world) a (l .copies) k in
         ap (λ (m : Sent). copyAt (m .copies) k) (sent-accepted n s ts l Step accepted)
         ∙ drop-test (idsIn (a .removed)) (m .copies) k
-        ∙ ap (λ (d : Copy). cond (isIn k (idsIn (a .removed))) noCopy d) (sent-copy n s ts (l .world) a (l .copies) (h .size) k q ∙ renewed-test b k (copyOf (takenAt a k) (usedAt (l .world) k)) c ∙ ap (λ (ps : List Passed). renewed ps c) (sym (step-messages k q)))
+        ∙ ap (λ (d : Copy). cond (isIn k (idsIn (a .removed))) noCopy d) (sent-copy n s ts (l .world) a (l .copies) (h .size) k q ∙ renewed-test b k (takenAt a k) (usedAt (l .world) k) c ∙ ap (λ (ps : List Passed). renewed ps c) (sym (step-messages k q)))
 
   -- ---- every call
   passes : (c : Call) → ran n s ts (l .world) c .number ≡ 0 → Passes n (ran n s ts (l .world) c) (sentOn n s ts l c .passed) c

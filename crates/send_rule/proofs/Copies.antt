@@ -9,11 +9,14 @@ use lib.IntN.{ℤ}
 use borrow.Author.Tests.{eqb-true, eqb-false, eq-eqb, lt-ltb, not-true, not-false}
 use Rattle.game_records.specs.declared.CharacterCore.{CharacterCore}
 use Rattle.game_records.specs.declared.PlayerInput.{PlayerInput}
+use Rattle.game_refusals.specs.Refusals.{tooFar}
 use Rattle.map_tiles.specs.declared.tiles.Sides.{Sides}
 use Rattle.character.specs.Tick.{slotAt}
+use Rattle.world.specs.Demand3.{recordAt}
+use Rattle.world.specs.Removal.{idsIn, isIn}
 use Rattle.world.specs.Step.{step}
 use Rattle.world.proofs.Seats.{by-test}
-use Rattle.send_rule.specs.Send.{copyAt, copyOf, mostSteps, counted, alone, steppedTo, staying, stepCopy, sameCore, due, takenAt}
+use Rattle.send_rule.specs.Send.{copyAt, copyOf, mostSteps, counted, alone, withStep, steppedTo, staying, stepCopy, sameCore, due, takenAt}
 use Rattle.send_rule.specs.Link.{Link}
 use Rattle.send_rule.specs.Sparing.{orNone, Surprise, differs, refused, first, long}
 use Rattle.send_rule.specs.declared.Copy.{Copy}
@@ -36,6 +39,10 @@ module _ (n : ℕ) (s : Sides) (ts : List ℕ) (tunings : List ℤ) (k : ℕ) (c
   pub step-some : c .kept ≡ true → stepCopy n s ts tunings k c ≡ cond (c .removed) (staying c) (steppedTo k c (alone n s ts tunings k c))
   unfolding stepCopy
   step-some e = ap (λ (b : Bool). cond b (cond (c .removed) (staying c) (steppedTo k c (alone n s ts tunings k c))) c) e
+
+  -- the record that its small world took
+  pub step-taken : c .kept ≡ true → c .removed ≡ false → alone n s ts tunings k c .number ≡ 0 → stepCopy n s ts tunings k c ≡ withStep c (recordAt (alone n s ts tunings k c .records) k .core) (isIn k (idsIn (alone n s ts tunings k c .removed))) false
+  step-taken e f g = step-some e ∙ ap (λ (b : Bool). cond b (staying c) (steppedTo k c (alone n s ts tunings k c))) f ∙ ap (λ (b : Bool). cond b (withStep c (recordAt (alone n s ts tunings k c .records) k .core) (isIn k (idsIn (alone n s ts tunings k c .removed))) false) (withStep c (c .core) false (eqb (alone n s ts tunings k c .number) tooFar))) (eq-eqb (alone n s ts tunings k c .number) 0 g)
 
   -- it stays one, and counts
   pub record Counts (d : Copy) : Type 0 where

@@ -1,14 +1,13 @@
 -- A seat that is alone in the world is foreseen by its copy, and which copies stay with their last record, for every number of slots. Assumes nothing.
 use Prim.Native.Nat.{ℕ, _<_}
 use native.Mathlib.Omega.{arith}
-use mathlib.Core.Bool.{Bool, true, false, cond, true≢false}
+use mathlib.Core.Bool.{true, false, true≢false}
 use mathlib.Core.Path.{_≡_, refl, sym, ap, _∙_}
 use mathlib.Core.List.{List}
 use lib.Dec.{eqb}
 use lib.ListN.{length, set, replicate, length-set, length-map, length-replicate, getD-replicate}
 use lib.Seq.{ext-getD}
-use borrow.Author.Tests.{eqb-true, eq-eqb}
-use Rattle.game_refusals.specs.Refusals.{tooFar}
+use borrow.Author.Tests.{eqb-true}
 use Rattle.map_tiles.specs.declared.tiles.Sides.{Sides}
 use Rattle.character.specs.Slot.{emptySlot}
 use Rattle.character.specs.Tick.{slotAt, nowhere}
@@ -21,15 +20,11 @@ use Rattle.world.specs.Step.{step}
 use Rattle.world.specs.declared.Stepped.{Stepped}
 use Rattle.world.specs.declared.World.{World}
 use Rattle.world.proofs.Seats.{by-test}
-use Rattle.send_rule.specs.Send.{counted, copySlot, smallWorld, alone, steppedTo, staying, stepCopy}
+use Rattle.send_rule.specs.Send.{copySlot, smallWorld, alone, withStep, stepCopy}
 use Rattle.send_rule.specs.Foreseen.{Alone, Foresees, Foreseen, Stays}
 use Rattle.send_rule.specs.declared.Copy.{Copy}
-use Rattle.send_rule.proofs.Copies.{step-some}
+use Rattle.send_rule.proofs.Copies.{step-taken}
 use Rattle.send_rule.proofs.Unmarked.{withoutMark, withoutMarks, without-at, marks-untold}
-
--- what an accepted step of its small world leaves of a copy
-abbrev steppedBy : ℕ → Copy → Stepped → Copy
-steppedBy k c a = record { kept = true; core = recordAt (a .records) k .core; input = c .input; removed = isIn k (idsIn (a .removed)); refused = false; steps = counted (c .steps) }
 
 module _ (n : ℕ) (w : World) (k : ℕ) (c : Copy) (h : Alone n w k c) where
   abbrev small : List Slot
@@ -60,11 +55,8 @@ module _ (n : ℕ) (w : World) (k : ℕ) (c : Copy) (h : Alone n w k c) where
     unfolding alone smallWorld
     told = marks-untold n s ts (smallWorld n (w .tunings) k c) w without-small refl
 
-    stepped : step n w s ts .number ≡ 0 → stepCopy n s ts (w .tunings) k c ≡ steppedBy k c its
-    stepped e =
-        step-some n s ts (w .tunings) k c (h .kept)
-        ∙ ap (λ (b : Bool). cond b (staying c) (steppedTo k c its)) (h .stays)
-        ∙ ap (λ (b : Bool). cond b (steppedBy k c its) (record { kept = true; core = c .core; input = c .input; removed = false; refused = eqb (its .number) tooFar; steps = counted (c .steps) })) (eq-eqb (its .number) 0 (ap (λ (x : Told). x .number) told ∙ e))
+    stepped : step n w s ts .number ≡ 0 → stepCopy n s ts (w .tunings) k c ≡ withStep c (recordAt (its .records) k .core) (isIn k (idsIn (its .removed))) false
+    stepped e = step-taken n s ts (w .tunings) k c (h .kept) (h .stays) (ap (λ (x : Told). x .number) told ∙ e)
 
     foresees : Foresees n s ts w k c
     foresees = record {

@@ -9,3 +9,5 @@ pub mod Copies
 pub mod Sparing
 pub mod Unmarked
 pub mod Foreseen
+pub mod Quiet
+pub mod QuietAmong

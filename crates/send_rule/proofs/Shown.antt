@@ -1,6 +1,6 @@
 -- After every accepted step and its messages the screen shows what the step took, for every number of slots. Assumes nothing.
 use Prim.Native.Nat.{ℕ, _<_}
-use mathlib.Core.Bool.{Bool, true, false, cond, not, _||_, true≢false}
+use mathlib.Core.Bool.{Bool, true, false, not, _||_}
 use mathlib.Core.List.{List, _∷_}
 use mathlib.Core.Path.{_≡_, refl, sym, ap, _∙_, subst}
 use lib.Dec.{eqb}
@@ -28,7 +28,7 @@ use Rattle.send_rule.specs.declared.Screen.{Screen}
 use Rattle.base_turns.proofs.Tests.{neither, second-false}
 use Rattle.send_rule.proofs.Cores.{core-same}
 use Rattle.send_rule.proofs.Places.{drop-other}
-use Rattle.send_rule.proofs.Steps.{step-leaves}
+use Rattle.send_rule.proofs.Steps.{not-gone, step-leaves}
 use Rattle.send_rule.proofs.Messages.{itsCopy, hasMessage, order-removals, sent-copy, sent-order}
 use Rattle.send_rule.proofs.Linked.{messages-received, Linked, linked-first, linked-next, every-call, sent-accepted}
 
@@ -49,11 +49,6 @@ not-due c core e =
 
 abbrev shownOf : Copy → Published
 shownOf c = record { present = c .kept; core = c .core }
-
--- who is not removed and was there
-stays : (b c : Bool) → cond b false c ≡ true → (b ≡ false) × (c ≡ true)
-stays true c e = absurd (true≢false (sym e))
-stays false c e = (refl, e)
 
 module _ (n : ℕ) (s : Sides) (ts : List ℕ) where
   -- ---- an accepted step
@@ -90,7 +85,7 @@ module _ (n : ℕ) (s : Sides) (ts : List ℕ) where
 
     still : (k : ℕ) → k < n → slotAt (called n s ts l Step .world .slots) k .present ≡ true → shown (called n s ts l Step .screen) k ≡ recordAt (a .records) k
     still k q p =
-        let r = stays (isIn k (idsIn (a .removed))) (slotAt (l .world .slots) k .present) (sym (present-next n s ts (l .world) Step (h .settled) k) ∙ p) in
+        let r = not-gone (isIn k (idsIn (a .removed))) (slotAt (l .world .slots) k .present) (sym (present-next n s ts (l .world) Step (h .settled) k) ∙ p) in
         ap (λ (z : Screen). shown z k) (linked-next n s ts l Step h .screen) ∙ ap (λ (us : List Copy). shownOf (copyAt us k)) left ∙ ap shownOf (drop-other (idsIn (a .removed)) after k (r .0)) ∙ copy-right k q (r .1)
 
     step-shown : StepShown n s ts l

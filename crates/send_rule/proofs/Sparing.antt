@@ -28,7 +28,7 @@ use Rattle.world.proofs.Demand1.{demand1}
 use Rattle.world.proofs.Present.{present-next, fresh-absent}
 use Rattle.world.proofs.Seats.{by-test}
 use Rattle.send_rule.specs.Send.{Sent, noCopy, copyAt, due, takenAt, usedAt, sendMessages, sendAccepted}
-use Rattle.send_rule.specs.Link.{Link, freshLink, sentOn, called, messages}
+use Rattle.send_rule.specs.Link.{Link, freshLink, sentOn, called, EveryCall, messages}
 use Rattle.send_rule.specs.Sparing.{newAfter, orNone, sinceAfter, StepSparing, CallSparing, CallsSparing, Sparing}
 use Rattle.send_rule.specs.declared.Copy.{Copy}
 use Rattle.send_rule.specs.declared.Passed.{Passed}
@@ -39,7 +39,7 @@ use Rattle.send_rule.proofs.Along.{drop-test, step-messages, copies}
 use Rattle.send_rule.proofs.Copies.{Fits, fits-by, step-fits, why-due, due-why}
 
 -- nobody was where an accepted join puts somebody
-join-absent : (n : ℕ) (w : World) (s : Sides) (ts : List ℕ) (id x y : ℤ) → join n w s ts id x y .number ≡ 0 → slotAt (w .slots) (placeOf n id) .present ≡ false
+pub join-absent : (n : ℕ) (w : World) (s : Sides) (ts : List ℕ) (id x y : ℤ) → join n w s ts id x y .number ≡ 0 → slotAt (w .slots) (placeOf n id) .present ≡ false
 unfolding join joinAt
 join-absent n w s ts id x y = go (isMap s ts) (ltb (placeOf n id) n) (inReach x && inReach y) (checkBox s ts (pointOf x y) characterBox) (slotAt (w .slots) (placeOf n id) .present) refl
   where
@@ -71,9 +71,9 @@ module _ (n : ℕ) (s : Sides) (ts : List ℕ) (k : ℕ) (seat : k < n) where
   thereIn w = slotAt (w .slots) k .present
 
   -- both sides, and what was before of the seat k
-  record Before (l : Link) (new : Bool) (since : ℕ) : Type 0 where
-    linked : Linked n s ts l
-    fits : Fits (thereIn (l .world)) (copyAt (l .copies) k) new since
+  pub record Before (l : Link) (new : Bool) (since : ℕ) : Type 0 where
+    pub linked : Linked n s ts l
+    pub fits : Fits (thereIn (l .world)) (copyAt (l .copies) k) new since
 
   module _ (l : Link) (new : Bool) (since : ℕ) (h : Before l new since) where
     abbrev there : Bool
@@ -184,21 +184,29 @@ module _ (n : ℕ) (s : Sides) (ts : List ℕ) (k : ℕ) (seat : k < n) where
     other (Tune index z) e f = refl
     other Step e f = absurd (f refl e)
 
-    call-sparing : (c : Call) → CallSparing n s ts l k new since c
+    pub call-sparing : (c : Call) → CallSparing n s ts l k new since c
     call-sparing c = record {
       step = λ q e. step-sparing (subst (λ (d : Call). numberOf d ≡ 0) q e);
       other = λ f. by-test (λ (m : Sent). messages k (m .passed) ≡ []) (eqb (numberOf c) 0) (λ q. other c (eqb-true (numberOf c) 0 q) f) (λ q. refl);
     }
 
-    before-next : (c : Call) → Before (called n s ts l c) (newAfter n k new (numberOf c) c) (sinceAfter k since (numberOf c) (sentOn n s ts l c .passed) c)
+    pub before-next : (c : Call) → Before (called n s ts l c) (newAfter n k new (numberOf c) c) (sinceAfter k since (numberOf c) (sentOn n s ts l c .passed) c)
     before-next c = record { linked = linked-next n s ts l c (h .linked); fits = either-way (eqb (numberOf c) 0) (λ q. next c (eqb-true (numberOf c) 0 q)) (stays c) }
 
   calls-sparing : (cs : List Call) (l : Link) (new : Bool) (since : ℕ) → Before l new since → CallsSparing n s ts k new since l cs
   calls-sparing [] l new since h = tt
   calls-sparing (c ∷ cs) l new since h = (call-sparing l new since h c, calls-sparing cs (called n s ts l c) _ _ (before-next l new since h c))
 
+  -- what holds of a call after any calls, holds of every call
+  every-sparing : (P : Link → Call → Type 0) → ((l : Link) (new : Bool) (since : ℕ) → Before l new since → (c : Call) → P l c) → (cs : List Call) (l : Link) (new : Bool) (since : ℕ) → Before l new since → EveryCall n s ts P l cs
+  every-sparing P f [] l new since h = tt
+  every-sparing P f (c ∷ cs) l new since h = (f l new since h c, every-sparing P f cs (called n s ts l c) _ _ (before-next l new since h c))
+
   before-first : Before (freshLink n) false 0
   before-first = record { linked = linked-first n s ts; fits = fits-by (fresh-absent n k) (getD-replicate n k noCopy noCopy seat) refl refl (record { kept = refl; steps = λ u. absurd (true≢false (sym u)) }) }
+
+  pub each-call : (P : Link → Call → Type 0) → ((l : Link) (new : Bool) (since : ℕ) → Before l new since → (c : Call) → P l c) → (cs : List Call) → EveryCall n s ts P (freshLink n) cs
+  each-call P f cs = every-sparing P f cs (freshLink n) false 0 before-first
 
 pub sender-spares : (n : ℕ) → Sparing n
 sender-spares n s ts cs k seat = calls-sparing n s ts k seat cs (freshLink n) false 0 (before-first n s ts k seat)

@@ -4,3 +4,4 @@ pub mod Shown
 pub mod Sparing
 pub mod Along
 pub mod Foreseen
+pub mod Quiet

@@ -2,24 +2,29 @@
 use Prim.Native.Nat.{ℕ, zero, suc, _*_, _≤_, _<_}
 use mathlib.Core.Bool.{true, false}
 use mathlib.Core.List.{List, [], _∷_, _++_, map}
+use mathlib.Core.Logic.{_↔_}
 use mathlib.Core.Path.{_≡_}
-use lib.IntN.{ℤ, pos}
+use lib.IntN.{ℤ, pos, negsuc}
 use lib.ListN.{length, take, drop}
 use Rattle.base_turns.specs.Turns.{more}
 use Rattle.game_tuning.specs.Tuning.{tuningCount}
 use Rattle.map_corners.specs.Tile.{tileAt}
 use Rattle.map_tiles.specs.Map.{count}
 use Rattle.map_tiles.specs.declared.tiles.Sides.{Sides}
+use Rattle.character.specs.Slot.{noInput, withInput}
 use Rattle.character.specs.Tick.{slotAt}
 use Rattle.world.specs.World.{fresh}
 use Rattle.world.specs.Calls.{placeOf, pointOf}
 use Rattle.world.specs.Demand3.{recordAt}
-use Rattle.world.specs.Run.{after}
+use Rattle.world.specs.Run.{inputOf, after}
+use Rattle.world.specs.Step.{step}
 use Rattle.world.specs.declared.call.Call.{Call}
-use Rattle.world.specs.declared.call.Call.the-variants.{Join, Input, Step, Tune}
+use Rattle.world.specs.declared.call.Call.the-variants.{Join, Leave, Input, Step, Tune}
 use Rattle.world.specs.declared.Published.{Published}
+use Rattle.world.specs.declared.World.{World}
 use Rattle.world_numbers.specs.Encoding.{flag}
 use Rattle.game_records.specs.Numbers.{sameNumber}
+use Rattle.game_records.specs.declared.PlayerInput.{PlayerInput}
 use Rattle.trial_rule.specs.Trial.{Entrant, targetColumn, targetRow, distanceTo, Trying, playerAt, inputFor, inputsFor, stepFrom, afterStep, towards, tried, enterAll, nobodyYet, tunedTo}
 use Rattle.trial_rule.specs.Calls.{rowCount, tuningsIn, entrants, triedNumbers, hasHold, trialIn}
 use Rattle.trial_rule.specs.declared.Player.{Player}
@@ -98,6 +103,35 @@ abbrev pub TellsNobody : ℕ → Type 0
 TellsNobody n = (s : Sides) (ts : List ℕ) (es : List Entrant) (t : Trying) (zs : List ℤ) (m j : ℕ) → j < n → enterAll n s ts es (nobodyYet n) ≡ more t → ((before later : List Entrant) (e : Entrant) → es ≡ before ++ (e ∷ later) → placeOf n (e .id) ≡ j → ⊥) → playerAt (tried n s ts m (tunedTo zs t) .players) j .joined ≡ false
 
 -- ---- what a player does
+
+-- -1 just where the target's column is less than its own, 1 just where it is greater, 0 just where both are equal
+pub record Towards (own target : ℕ) : Type 0 where
+  pub left : (towards own target ≡ negsuc 0) ↔ (target < own)
+  pub right : (towards own target ≡ pos 1) ↔ (own < target)
+  pub equal : (towards own target ≡ pos 0) ↔ (target ≡ own)
+
+abbrev pub GoesTowards : Type 0
+GoesTowards = (own target : ℕ) → Towards own target
+
+-- the input that an input call stores
+abbrev pub storedBy : Call → PlayerInput
+storedBy (Join id x y) = noInput
+storedBy (Leave id) = noInput
+storedBy (Input id d x y jump hook) = inputOf d x y jump hook
+storedBy (Tune index z) = noInput
+storedBy Step = noInput
+
+-- the step from the state t is called on a world in which everybody present has stored its own input, and that is otherwise as in t
+pub record StepStored (n : ℕ) (s : Sides) (ts : List ℕ) (t : Trying) : Type 0 where
+  pub world : World
+  pub called : stepFrom n s ts t ≡ step n world s ts
+  pub stored : (j : ℕ) → j < n → slotAt (t .world .slots) j .present ≡ true → slotAt (world .slots) j ≡ withInput (slotAt (t .world .slots) j) (storedBy (inputFor s t j))
+  pub absent : (j : ℕ) → j < n → slotAt (t .world .slots) j .present ≡ false → slotAt (world .slots) j ≡ slotAt (t .world .slots) j
+  pub tunings : world .tunings ≡ t .world .tunings
+
+-- in every state, whatever the map and however many players
+abbrev pub InputsStored : ℕ → Type 0
+InputsStored n = (s : Sides) (ts : List ℕ) (t : Trying) → StepStored n s ts t
 
 -- e's input in the state t, with a jump
 abbrev pub inputWith : ℕ → Sides → Trying → Entrant → ℤ → Call

@@ -1,11 +1,12 @@
--- How many tunings and steps a trial may have: what is refused with 15, and what just is not. Definitions only.
-use mathlib.Core.Bool.{true, false}
+-- How many tunings and steps a trial may have: what is not refused with 15. Definitions only.
+use Prim.Native.Nat.{ℕ, _≤_}
+use mathlib.Core.Bool.{true}
+use mathlib.Core.Logic.{_↔_}
 use mathlib.Core.Path.{_≡_}
-use lib.IntN.{pos}
+use lib.IntN.{ℤ, pos}
+use lib.Signed.{_≤ℤ_}
 use Rattle.trial_rule.specs.Calls.{isTrial}
 
-pub record TrialLimits : Type 0 where
-  pub no-tuning : isTrial 0 (pos 1) ≡ false
-  pub most : isTrial 8 (pos 3000) ≡ true
-  pub nine-tunings : isTrial 9 (pos 1) ≡ false
-  pub too-long : isTrial 1 (pos 3001) ≡ false
+-- one tuning to eight, and 0 to 3,000 steps
+abbrev pub TrialLimits : Type 0
+TrialLimits = (tunings : ℕ) (steps : ℤ) → (isTrial tunings steps ≡ true) ↔ ((1 ≤ tunings) × (tunings ≤ 8) × (pos 0 ≤ℤ steps) × (steps ≤ℤ pos 3000))
