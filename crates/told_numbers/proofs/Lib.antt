@@ -1,3 +1,4 @@
 pub mod Records
 pub mod Seated
 pub mod Ways
+pub mod Shown

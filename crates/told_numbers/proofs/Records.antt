@@ -1,7 +1,7 @@
 -- The records of a step come back from their numbers, and so does what an accepted step tells. Assumes nothing.
 use Prim.Native.Nat.{ℕ, _+_, _*_, _-_, _≤_, _<_}
 use mathlib.Core.Bool.{Bool, true, false, cond, not, _&&_, true≢false}
-use mathlib.Core.List.{List, [], _++_, map}
+use mathlib.Core.List.{List, [], _++_, map, append-nil}
 use mathlib.Core.Path.{_≡_, refl, sym, ap, _∙_, subst}
 use native.Mathlib.Omega.{arith}
 use lib.Dec.{eqb, ltb}
@@ -14,7 +14,8 @@ use Rattle.base_turns.proofs.Tests.{either-way, both}
 use Rattle.game_refusals.specs.Refusals.{badMap}
 use Rattle.game_tuning.specs.Tuning.{tuningCount, tuningOf}
 use Rattle.game_tuning.specs.declared.Tuning.{Tuning}
-use Rattle.game_records.specs.Numbers.{coreIn}
+use Rattle.game_records.specs.Numbers.{coreNumbers, coreIn}
+use Rattle.game_records.specs.declared.CharacterCore.{CharacterCore}
 use Rattle.game_records.proofs.Back.{core-back}
 use Rattle.map_tiles.specs.Box.{onDeadly}
 use Rattle.map_tiles.specs.Map.{isMap}
@@ -42,6 +43,10 @@ use Rattle.world_buffers.specs.Stepping.{StepBuffers, LeftByStep, toldIn, leftB
 use Rattle.told_numbers.specs.Records.{publishedIn, publishedAt, RecordsComeBack, TellsStep, StepTold}
 
 -- ---- records
+-- with nothing behind it
+pub core-alone : (n : CharacterCore) → coreIn (coreNumbers n) ≡ n
+core-alone n = ap coreIn (sym (append-nil (coreNumbers n))) ∙ core-back n []
+
 published-back : (p : Published) (l : List ℤ) → Unit {0} → publishedIn (recordNumbers p ++ l) ≡ p
 unfolding publishedIn recordNumbers
 published-back p l u = rw (flag-back (p .present), core-back (p .core) l)
@@ -119,11 +124,11 @@ module _ (s : Sides) (ts : List ℕ) (l : List ℤ) (b : StepBuffers) where
   abbrev a : Stepped
   a = step seats w s ts
 
-  record Accepted (d : StepBuffers) : Type 0 where
-    number : a .number ≡ 0
-    told : d ≡ toldIn a
+  pub record Accepted (d : StepBuffers) : Type 0 where
+    pub number : a .number ≡ 0
+    pub told : d ≡ toldIn a
 
-  accepted : stepIn s ts l b .number ≡ 0 → Accepted (stepIn s ts l b .told)
+  pub accepted : stepIn s ts l b .number ≡ 0 → Accepted (stepIn s ts l b .told)
   unfolding stepIn leftByStep
   accepted = by-test (λ (r : LeftByStep). r .number ≡ 0 → Accepted (r .told)) (has worldCount l && has recordsCount (b .records) && has seats (b .removed))
       (λ e. by-test (λ (r : LeftByStep). r .number ≡ 0 → Accepted (r .told)) (eqb (a .number) 0) (λ f z. record { number = eqb-true (a .number) 0 f; told = refl }) (λ f z. absurd (eqb-false (a .number) 0 f z)))
