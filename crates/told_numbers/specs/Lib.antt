@@ -1,3 +1,4 @@
 pub mod Records
 pub mod Ways
 pub mod Shown
+pub mod Readings
