@@ -28,6 +28,10 @@ use Rattle.world_buffers.proofs.Refusals.{refusals-leave}
 use Rattle.world_buffers.proofs.Reached.{buffer-follows}
 use Rattle.world_late_buffers.proofs.LateNumbers.{numbers-commute, numbers-replaced, late-numbers}
 use Rattle.send_buffers.proofs.Reached.{link-follows}
+use Rattle.told_numbers.proofs.Records.{records-come-back, step-told}
+use Rattle.told_numbers.proofs.Ways.{ways-come-back, search-told}
+use Rattle.told_numbers.proofs.Shown.{shown-told, screen-told}
+use Rattle.told_numbers.proofs.Readings.{readings-told}
 use Rattle.role_rule.proofs.Requests.{roles-hold}
 use Rattle.search_rule.proofs.Laws.{search-reaches}
 use Rattle.ponguriena.proofs.Standing.{roles-stand}
@@ -79,6 +83,13 @@ shipped = record {
   refusals = refusals-leave;
   buffers = buffer-follows;
   links = link-follows;
+  recordsBack = records-come-back;
+  stepTold = step-told;
+  waysBack = ways-come-back;
+  searchTold = search-told;
+  shownTold = shown-told;
+  screenTold = screen-told;
+  readingsTold = readings-told;
   byRole = roles-stand;
   solids = counts-solid;
   clear = clear-area;

@@ -22,6 +22,10 @@ use Rattle.world_numbers.specs.Decoding.{ComesBack, AnyComesBack}
 use Rattle.world_buffers.specs.Following.{CallsStand, RefusalsLeave, BufferFollows}
 use Rattle.world_late_buffers.specs.LateNumbers.{NumbersCommute, NumbersReplaced, LateNumbers}
 use Rattle.send_buffers.specs.Following.{LinkFollows}
+use Rattle.told_numbers.specs.Records.{RecordsComeBack, StepTold}
+use Rattle.told_numbers.specs.Ways.{WaysComeBack, SearchTold}
+use Rattle.told_numbers.specs.Shown.{ShownTold, ScreenTold}
+use Rattle.told_numbers.specs.Readings.{ReadingsTold}
 use Rattle.role_rule.specs.Requests.{Roles}
 use Rattle.search_rule.specs.Laws.{Reaches}
 use Rattle.ponguriena.specs.Standing.{RolesStand}
@@ -85,6 +89,14 @@ pub record Shipped : Type 0 where
   -- after every list of calls from a fresh world, and from a fresh link
   pub buffers : BufferFollows
   pub links : LinkFollows
+  -- what is told in lent buffers comes back as what the world, the search and the screen say
+  pub recordsBack : RecordsComeBack
+  pub stepTold : StepTold
+  pub waysBack : WaysComeBack
+  pub searchTold : SearchTold
+  pub shownTold : ShownTold
+  pub screenTold : ScreenTold
+  pub readingsTold : ReadingsTold
   -- calls and reads by the number of a role are those by the role
   pub byRole : RolesStand
   -- request 9: the solid tiles of an area by running totals, and the totals after a change
