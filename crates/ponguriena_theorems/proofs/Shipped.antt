@@ -32,6 +32,7 @@ use Rattle.told_numbers.proofs.Records.{records-come-back, step-told}
 use Rattle.told_numbers.proofs.Ways.{ways-come-back, search-told}
 use Rattle.told_numbers.proofs.Shown.{shown-told, screen-told}
 use Rattle.told_numbers.proofs.Readings.{readings-told}
+use Rattle.told_numbers.proofs.Refused.{readers-leave}
 use Rattle.role_rule.proofs.Requests.{roles-hold}
 use Rattle.search_rule.proofs.Laws.{search-reaches}
 use Rattle.ponguriena.proofs.Standing.{roles-stand}
@@ -90,6 +91,7 @@ shipped = record {
   shownTold = shown-told;
   screenTold = screen-told;
   readingsTold = readings-told;
+  readersLeave = readers-leave;
   byRole = roles-stand;
   solids = counts-solid;
   clear = clear-area;

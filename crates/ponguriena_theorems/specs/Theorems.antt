@@ -26,6 +26,7 @@ use Rattle.told_numbers.specs.Records.{RecordsComeBack, StepTold}
 use Rattle.told_numbers.specs.Ways.{WaysComeBack, SearchTold}
 use Rattle.told_numbers.specs.Shown.{ShownTold, ScreenTold}
 use Rattle.told_numbers.specs.Readings.{ReadingsTold}
+use Rattle.told_numbers.specs.Refused.{ReadersLeave}
 use Rattle.role_rule.specs.Requests.{Roles}
 use Rattle.search_rule.specs.Laws.{Reaches}
 use Rattle.ponguriena.specs.Standing.{RolesStand}
@@ -97,6 +98,7 @@ pub record Shipped : Type 0 where
   pub shownTold : ShownTold
   pub screenTold : ScreenTold
   pub readingsTold : ReadingsTold
+  pub readersLeave : ReadersLeave
   -- calls and reads by the number of a role are those by the role
   pub byRole : RolesStand
   -- request 9: the solid tiles of an area by running totals, and the totals after a change

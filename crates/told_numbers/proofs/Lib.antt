@@ -3,3 +3,4 @@ pub mod Seated
 pub mod Ways
 pub mod Shown
 pub mod Readings
+pub mod Refused
