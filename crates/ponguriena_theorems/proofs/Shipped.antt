@@ -30,7 +30,7 @@ use Rattle.world_late_buffers.proofs.LateNumbers.{numbers-commute, numbers-repl
 use Rattle.send_buffers.proofs.Reached.{link-follows}
 use Rattle.told_numbers.proofs.Records.{records-come-back, step-told}
 use Rattle.told_numbers.proofs.Ways.{ways-come-back, search-told}
-use Rattle.told_numbers.proofs.Shown.{shown-told, screen-told}
+use Rattle.told_numbers.proofs.Shown.{shown-told, send-step-told, screen-told, absent-told}
 use Rattle.told_numbers.proofs.Readings.{readings-told}
 use Rattle.told_numbers.proofs.Refused.{readers-leave}
 use Rattle.role_rule.proofs.Requests.{roles-hold}
@@ -89,7 +89,9 @@ shipped = record {
   waysBack = ways-come-back;
   searchTold = search-told;
   shownTold = shown-told;
+  sendStepTold = send-step-told;
   screenTold = screen-told;
+  absentTold = absent-told;
   readingsTold = readings-told;
   readersLeave = readers-leave;
   byRole = roles-stand;

@@ -24,7 +24,7 @@ use Rattle.world_late_buffers.specs.LateNumbers.{NumbersCommute, NumbersReplace
 use Rattle.send_buffers.specs.Following.{LinkFollows}
 use Rattle.told_numbers.specs.Records.{RecordsComeBack, StepTold}
 use Rattle.told_numbers.specs.Ways.{WaysComeBack, SearchTold}
-use Rattle.told_numbers.specs.Shown.{ShownTold, ScreenTold}
+use Rattle.told_numbers.specs.Shown.{ShownTold, SendStepTold, ScreenTold, AbsentTold}
 use Rattle.told_numbers.specs.Readings.{ReadingsTold}
 use Rattle.told_numbers.specs.Refused.{ReadersLeave}
 use Rattle.role_rule.specs.Requests.{Roles}
@@ -96,7 +96,9 @@ pub record Shipped : Type 0 where
   pub waysBack : WaysComeBack
   pub searchTold : SearchTold
   pub shownTold : ShownTold
+  pub sendStepTold : SendStepTold
   pub screenTold : ScreenTold
+  pub absentTold : AbsentTold
   pub readingsTold : ReadingsTold
   pub readersLeave : ReadersLeave
   -- calls and reads by the number of a role are those by the role

@@ -23,9 +23,11 @@ use Rattle.world_numbers.specs.Decoding.{decoding}
 use Rattle.send_numbers.specs.Copies.{screenCount, screenDecoding}
 use Rattle.send_numbers.specs.Passing.{passedCount}
 use Rattle.world_buffers.specs.Readers.{Told, untold}
-use Rattle.send_buffers.specs.Sends.{sendStepIn}
+use Rattle.world_buffers.specs.Stepping.{StepBuffers}
+use Rattle.send_buffers.specs.Sends.{SenderBuffers, sendStepIn}
 use Rattle.send_buffers.specs.Screens.{shownIn}
 use Rattle.send_buffers.specs.Following.{LinkNumbers, Lent, linkNumbers, senderLent, linkLeft, linkLeftAll}
+use Rattle.told_numbers.specs.Records.{TellsStep}
 
 -- t is accepted, and tells this record
 pub record TellsRecord (n : CharacterCore) (t : Told) : Type 0 where
@@ -44,7 +46,11 @@ pub record TellsShown (z : Screen) (k : ℕ) (out : List ℤ) (t : Told) : Type 
 abbrev pub ShownTold : Type 0
 ShownTold = (l : List ℤ) (id : ℤ) (out : List ℤ) → length l ≡ screenCount → length out ≡ coreCount → TellsShown (screenDecoding seats l) (placeOf seats id) out (shownIn l id out)
 
--- ---- after a step that was sent and received
+-- ---- a step through a sender
+
+-- accepted, it tells what the step on the world's numbers tells
+abbrev pub SendStepTold : Type 0
+SendStepTold = (s : Sides) (ts : List ℕ) (l : List ℤ) (t : StepBuffers) (b : SenderBuffers) → let r = sendStepIn s ts l t b .left in r .number ≡ 0 → let w = decoding seats l in TellsStep w (step seats w s ts) (r .told)
 
 -- on the buffers x: where the step was accepted, of everybody still there the screen tells the record that it took
 abbrev pub TellsTaken : Sides → List ℕ → Lent → LinkNumbers → List ℤ → Type 0
@@ -54,6 +60,16 @@ TellsTaken s ts b x out =
     → (k : ℕ) → k < seats → slotAt (decoding seats (y .world) .slots) k .present ≡ true
     → TellsRecord (recordAt (step seats (decoding seats (x .world)) s ts .records) k .core) (shownIn (y .screen) (pos k) out)
 
--- after every list of calls from a fresh link, whatever the map
+-- P of the buffers after every list of calls from a fresh link, whatever the map, and of a buffer for a record
+abbrev pub Everywhere : (Sides → List ℕ → Lent → LinkNumbers → List ℤ → Type 0) → Type 0
+Everywhere P = (s : Sides) (ts : List ℕ) (b : Lent) (cs : List Call) (out : List ℤ) → length (b .told .records) ≡ recordsCount → length (b .told .removed) ≡ seats → length (b .passed) ≡ passedCount → length out ≡ coreCount → P s ts b (linkLeftAll s ts b (linkNumbers (freshLink seats)) cs) out
+
 abbrev pub ScreenTold : Type 0
-ScreenTold = (s : Sides) (ts : List ℕ) (b : Lent) (cs : List Call) (out : List ℤ) → length (b .told .records) ≡ recordsCount → length (b .told .removed) ≡ seats → length (b .passed) ≡ passedCount → length out ≡ coreCount → TellsTaken s ts b (linkLeftAll s ts b (linkNumbers (freshLink seats)) cs) out
+ScreenTold = Everywhere TellsTaken
+
+-- of nobody else: whoever isn't there is told as 8, after a step or any other call
+abbrev pub TellsAbsent : Sides → List ℕ → Lent → LinkNumbers → List ℤ → Type 0
+TellsAbsent s ts b x out = (k : ℕ) → k < seats → slotAt (decoding seats (x .world) .slots) k .present ≡ false → shownIn (x .screen) (pos k) out ≡ untold out isAbsent
+
+abbrev pub AbsentTold : Type 0
+AbsentTold = Everywhere TellsAbsent
