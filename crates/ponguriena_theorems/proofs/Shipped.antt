@@ -29,7 +29,7 @@ use Rattle.world_buffers.proofs.Reached.{buffer-follows}
 use Rattle.world_late_buffers.proofs.LateNumbers.{numbers-commute, numbers-replaced, late-numbers}
 use Rattle.send_buffers.proofs.Reached.{link-follows}
 use Rattle.told_numbers.proofs.Records.{records-come-back, step-told}
-use Rattle.told_numbers.proofs.Ways.{ways-come-back, search-told}
+use Rattle.told_numbers.proofs.Ways.{ways-come-back, zeros-behind, search-told}
 use Rattle.told_numbers.proofs.Shown.{shown-told, send-step-told, screen-told, absent-told}
 use Rattle.told_numbers.proofs.Readings.{readings-told}
 use Rattle.told_numbers.proofs.Refused.{readers-leave}
@@ -87,6 +87,7 @@ shipped = record {
   recordsBack = records-come-back;
   stepTold = step-told;
   waysBack = ways-come-back;
+  zerosBehind = zeros-behind;
   searchTold = search-told;
   shownTold = shown-told;
   sendStepTold = send-step-told;

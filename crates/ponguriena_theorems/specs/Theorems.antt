@@ -23,7 +23,7 @@ use Rattle.world_buffers.specs.Following.{CallsStand, RefusalsLeave, BufferFoll
 use Rattle.world_late_buffers.specs.LateNumbers.{NumbersCommute, NumbersReplaced, LateNumbers}
 use Rattle.send_buffers.specs.Following.{LinkFollows}
 use Rattle.told_numbers.specs.Records.{RecordsComeBack, StepTold}
-use Rattle.told_numbers.specs.Ways.{WaysComeBack, SearchTold}
+use Rattle.told_numbers.specs.Ways.{WaysComeBack, ZerosBehind, SearchTold}
 use Rattle.told_numbers.specs.Shown.{ShownTold, SendStepTold, ScreenTold, AbsentTold}
 use Rattle.told_numbers.specs.Readings.{ReadingsTold}
 use Rattle.told_numbers.specs.Refused.{ReadersLeave}
@@ -94,6 +94,7 @@ pub record Shipped : Type 0 where
   pub recordsBack : RecordsComeBack
   pub stepTold : StepTold
   pub waysBack : WaysComeBack
+  pub zerosBehind : ZerosBehind
   pub searchTold : SearchTold
   pub shownTold : ShownTold
   pub sendStepTold : SendStepTold

@@ -1,10 +1,11 @@
 -- A way comes back from its numbers, and so does what a search tells. Assumes nothing.
-use Prim.Native.Nat.{ℕ, zero, suc, _+_, _≤_, _<_}
+use Prim.Native.Nat.{ℕ, zero, suc, _+_, _*_, _-_, _≤_, _<_}
 use mathlib.Core.List.{List, [], _∷_, _++_}
 use mathlib.Core.Path.{_≡_, refl, ap, _∙_}
 use native.Mathlib.Omega.{arith}
 use lib.IntN.{ℤ, pos}
 use lib.ListN.{length, drop, replicate}
+use lib.Seq.{drop-at}
 use borrow.Author.Tests.{eq-eqb}
 use Rattle.base_rows.specs.Put.{put}
 use Rattle.base_turns.specs.Turns.{more, stop}
@@ -18,11 +19,12 @@ use Rattle.world.specs.declared.reading.Seated.the-variants as seat
 use Rattle.world.proofs.Seats.{by-test}
 use Rattle.world_numbers.specs.Encoding.{worldCount, each}
 use Rattle.world_numbers.specs.Decoding.{eachIn, decoding}
+use Rattle.world_numbers.proofs.Rows.{each-long}
 use Rattle.search_rule.specs.Ways.{Way}
 use Rattle.search_rule.specs.Search.{Found, firstWay, goalOf, SearchAnswer, Refused, NoWay, WayTo, answerOf, searchFrom, search}
 use Rattle.search_rule.proofs.Laws.{search-reaches}
 use Rattle.search_calls.specs.Numbers.{wayCount, buttonsNumbers, wayNumbers, searchTold, searchIn}
-use Rattle.told_numbers.specs.Ways.{buttonsIn, wayOf, WaysComeBack, wayAnswer, answerIn, SearchTold}
+use Rattle.told_numbers.specs.Ways.{buttonsIn, wayOf, WaysComeBack, ZerosBehind, wayAnswer, answerIn, SearchTold}
 use Rattle.told_numbers.proofs.Seated.{Numbered, seated-numbered}
 
 -- ---- a way
@@ -35,6 +37,20 @@ steps-back (b ∷ u) l = ap (λ (v : Way). b ∷ v) (steps-back u l)
 pub ways-come-back : WaysComeBack
 unfolding wayOf wayNumbers put
 ways-come-back u = steps-back u (drop (0 + suc (length (each buttonsNumbers u))) (replicate wayCount (pos 0)))
+
+zeros-dropped : (n m : ℕ) → drop n (replicate m (pos 0)) ≡ replicate (m - n) (pos 0)
+zeros-dropped zero m = ap (λ (k : ℕ). replicate k (pos 0)) {x = m} {y = m - 0} (omega arith)
+zeros-dropped (suc n) zero = ap (λ (k : ℕ). replicate k (pos 0)) {x = 0} {y = 0 - suc n} (omega arith)
+zeros-dropped (suc n) (suc m) = zeros-dropped n m ∙ ap (λ (k : ℕ). replicate k (pos 0)) {x = m - n} {y = suc m - suc n} (omega arith)
+
+pub zeros-behind : ZerosBehind
+unfolding wayNumbers put
+zeros-behind u =
+    let n = 1 + 2 * length u in
+    let w : List ℤ = pos (length u) ∷ each buttonsNumbers u in
+    let long : length w ≡ n = omega (arith, each-long buttonsNumbers 2 (λ b. refl) u) in
+    let same : 0 + length w ≡ n = omega arith in
+    drop-at w (drop (0 + length w) (replicate wayCount (pos 0))) n long ∙ ap (λ (k : ℕ). drop k (replicate wayCount (pos 0))) same ∙ zeros-dropped n wayCount
 
 -- ---- a search
 -- a refusal is never 0

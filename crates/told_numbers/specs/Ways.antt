@@ -1,9 +1,9 @@
 -- What a search tells in its buffer, read again. Definitions only; proofs/Ways.antt proves it.
-use Prim.Native.Nat.{ℕ, zero, suc}
+use Prim.Native.Nat.{ℕ, zero, suc, _+_, _*_, _-_}
 use mathlib.Core.List.{List, [], _∷_}
 use mathlib.Core.Path.{_≡_}
-use lib.IntN.{ℤ, natAbs}
-use lib.ListN.{length, drop}
+use lib.IntN.{ℤ, pos, natAbs}
+use lib.ListN.{length, drop, replicate}
 use Rattle.game_records.specs.Numbers.{numberAt}
 use Rattle.map_tiles.specs.declared.tiles.Sides.{Sides}
 use Rattle.character.specs.Tick.{seats}
@@ -27,6 +27,10 @@ wayOf l = eachIn buttonsIn 2 (natAbs (numberAt l 0)) (drop 1 l)
 -- every way comes back from its numbers
 abbrev pub WaysComeBack : Type 0
 WaysComeBack = (u : Way) → wayOf (wayNumbers u) ≡ u
+
+-- zeros stand behind them
+abbrev pub ZerosBehind : Type 0
+ZerosBehind = (u : Way) → let n = 1 + 2 * length u in drop n (wayNumbers u) ≡ replicate (wayCount - n) (pos 0)
 
 -- ---- a search
 
