@@ -40,6 +40,11 @@ use Rattle.world_buffers.proofs.Refusals.{refusals-leave}
 use Rattle.world_buffers.proofs.Reached.{buffer-follows}
 use Rattle.world_late_buffers.proofs.LateNumbers.{numbers-commute, numbers-replaced, late-numbers}
 use Rattle.send_buffers.proofs.Reached.{link-follows}
+use Rattle.told_numbers.proofs.Records.{records-come-back, step-told}
+use Rattle.told_numbers.proofs.Ways.{ways-come-back, zeros-behind, search-told}
+use Rattle.told_numbers.proofs.Shown.{shown-told, send-step-told, screen-told, absent-told}
+use Rattle.told_numbers.proofs.Readings.{readings-told}
+use Rattle.told_numbers.proofs.Refused.{readers-leave}
 use Rattle.role_rule.proofs.Requests.{roles-hold}
 use Rattle.search_rule.proofs.Laws.{search-reaches}
 use Rattle.ponguriena.proofs.Standing.{roles-stand}
@@ -100,6 +105,17 @@ shipped = record {
   refusals = refusals-leave;
   buffers = buffer-follows;
   links = link-follows;
+  recordsBack = records-come-back;
+  stepTold = step-told;
+  waysBack = ways-come-back;
+  zerosBehind = zeros-behind;
+  searchTold = search-told;
+  shownTold = shown-told;
+  sendStepTold = send-step-told;
+  screenTold = screen-told;
+  absentTold = absent-told;
+  readingsTold = readings-told;
+  readersLeave = readers-leave;
   byRole = roles-stand;
   roundTrip = round-trip;
   accepted = accepted;

@@ -30,6 +30,11 @@ use Rattle.world_numbers.specs.Decoding.{ComesBack, AnyComesBack}
 use Rattle.world_buffers.specs.Following.{CallsStand, RefusalsLeave, BufferFollows}
 use Rattle.world_late_buffers.specs.LateNumbers.{NumbersCommute, NumbersReplaced, LateNumbers}
 use Rattle.send_buffers.specs.Following.{LinkFollows}
+use Rattle.told_numbers.specs.Records.{RecordsComeBack, StepTold}
+use Rattle.told_numbers.specs.Ways.{WaysComeBack, ZerosBehind, SearchTold}
+use Rattle.told_numbers.specs.Shown.{ShownTold, SendStepTold, ScreenTold, AbsentTold}
+use Rattle.told_numbers.specs.Readings.{ReadingsTold}
+use Rattle.told_numbers.specs.Refused.{ReadersLeave}
 use Rattle.role_rule.specs.Requests.{Roles}
 use Rattle.search_rule.specs.Laws.{Reaches}
 use Rattle.ponguriena.specs.Standing.{RolesStand}
@@ -105,6 +110,18 @@ pub record Shipped : Type 0 where
   -- after every list of calls from a fresh world, and from a fresh link
   pub buffers : BufferFollows
   pub links : LinkFollows
+  -- what is told in lent buffers comes back as what the world, the search and the screen say
+  pub recordsBack : RecordsComeBack
+  pub stepTold : StepTold
+  pub waysBack : WaysComeBack
+  pub zerosBehind : ZerosBehind
+  pub searchTold : SearchTold
+  pub shownTold : ShownTold
+  pub sendStepTold : SendStepTold
+  pub screenTold : ScreenTold
+  pub absentTold : AbsentTold
+  pub readingsTold : ReadingsTold
+  pub readersLeave : ReadersLeave
   -- calls and reads by the number of a role are those by the role
   pub byRole : RolesStand
   -- request 1: packed records come back, nothing else is read, and what is told where none is

@@ -1,0 +1,6 @@
+pub mod Records
+pub mod Seated
+pub mod Ways
+pub mod Shown
+pub mod Readings
+pub mod Refused
