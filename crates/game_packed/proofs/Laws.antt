@@ -10,13 +10,13 @@ use Rattle.game_records.specs.declared.CharacterCore.{CharacterCore}
 use Rattle.game_records.proofs.Back.{core-numbers-back}
 use Rattle.game_packed.specs.Packed.{intsBytes, coreBytes}
 use Rattle.game_packed.specs.Unpacked.{unpacked}
-use Rattle.game_packed.specs.Laws.{AllI32, Accepted, SizesHold, NoneBegins}
+use Rattle.game_packed.specs.Laws.{AllI32, ReadAsWritten, SizesHold, NoneBegins}
 use Rattle.game_packed.specs.declared.Unpacked.the-variants as answer
 use Rattle.game_packed.proofs.Back.{all-set, round-trip}
 use Rattle.game_packed.proofs.Sizes.{core-short}
 use Rattle.game_packed.proofs.Sound.{ints-found}
 
-pub accepted : Accepted
+pub accepted : ReadAsWritten
 unfolding unpacked
 accepted s bs n used e =
     let f = ints-found coreCount 0 s bs 0 (replicate coreCount (pos 0)) n used e in

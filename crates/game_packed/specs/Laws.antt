@@ -25,8 +25,8 @@ abbrev pub RoundTrip : Type 0
 RoundTrip = (n : CharacterCore) → AllI32 (coreNumbers n) → (t : List ℕ) → unpacked (coreBytes n ++ t) ≡ answer.Record n (length (coreBytes n))
 
 -- the bytes that the reader used are those that the writer makes of the record that it tells
-abbrev pub Accepted : Type 0
-Accepted = (s : List ℕ) → AllBytes s → (n : CharacterCore) (used : ℕ) → unpacked s ≡ answer.Record n used → AllI32 (coreNumbers n) × ((t : List ℕ) × (s ≡ coreBytes n ++ t) × (used ≡ length (coreBytes n)))
+abbrev pub ReadAsWritten : Type 0
+ReadAsWritten = (s : List ℕ) → AllBytes s → (n : CharacterCore) (used : ℕ) → unpacked s ≡ answer.Record n used → AllI32 (coreNumbers n) × ((t : List ℕ) × (s ≡ coreBytes n ++ t) × (used ≡ length (coreBytes n)))
 
 -- a record has at least 15 and at most 75 bytes
 abbrev pub SizesHold : Type 0

@@ -6,7 +6,7 @@ use native.Mathlib.Omega.{arith}
 use lib.IntN.{ℤ, pos}
 use lib.ListN.{length, drop}
 use lib.Seq.{drop-cons, drop-length}
-use Rattle.game_records.specs.Numbers.{coreCount, inputCount, coreNumbers, inputNumbers, numberAt, coreIn, inputIn}
+use Rattle.game_records.specs.Numbers.{coreCount, inputCount, coreNumbers, inputNumbers, numberAt, coreIn, inputOfNumbers}
 use Rattle.game_records.specs.declared.CharacterCore.{CharacterCore}
 use Rattle.game_records.specs.declared.PlayerInput.{PlayerInput}
 
@@ -23,8 +23,8 @@ pub core-back : (n : CharacterCore) (l : List ℤ) → coreIn (coreNumbers n ++ 
 unfolding coreNumbers coreIn
 core-back n l = refl
 
-pub input-back : (i : PlayerInput) (l : List ℤ) → inputIn (inputNumbers i ++ l) ≡ i
-unfolding inputNumbers inputIn
+pub input-back : (i : PlayerInput) (l : List ℤ) → inputOfNumbers (inputNumbers i ++ l) ≡ i
+unfolding inputNumbers inputOfNumbers
 input-back i l = refl
 
 -- n numbers from the k-th on, each by its place
@@ -41,6 +41,6 @@ pub core-numbers-back : (l : List ℤ) → length l ≡ coreCount → coreNumber
 unfolding coreNumbers coreIn listed
 core-numbers-back l h = all-listed coreCount 0 l h
 
-pub input-numbers-back : (l : List ℤ) → length l ≡ inputCount → inputNumbers (inputIn l) ≡ l
-unfolding inputNumbers inputIn listed
+pub input-numbers-back : (l : List ℤ) → length l ≡ inputCount → inputNumbers (inputOfNumbers l) ≡ l
+unfolding inputNumbers inputOfNumbers listed
 input-numbers-back l h = all-listed inputCount 0 l h

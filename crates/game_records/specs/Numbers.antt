@@ -60,5 +60,5 @@ coreIn l = record {
 }
 
 -- the input whose numbers l starts with
-unfoldable pub inputIn : List ℤ → PlayerInput
-inputIn l = record { direction = numberAt l 0; «target_x» = numberAt l 1; «target_y» = numberAt l 2; jump = numberAt l 3; hook = numberAt l 4 }
+unfoldable pub inputOfNumbers : List ℤ → PlayerInput
+inputOfNumbers l = record { direction = numberAt l 0; «target_x» = numberAt l 1; «target_y» = numberAt l 2; jump = numberAt l 3; hook = numberAt l 4 }

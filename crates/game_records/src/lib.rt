@@ -2,7 +2,7 @@
 ghost use mathlib.Core.Path.{_≡_};
 ghost use Prim.Native.Nat.{_≤_};
 ghost use lib.ListN.{length};
-ghost use Rattle.game_records.specs.Numbers.{coreCount, inputCount, coreNumbers, inputNumbers, coreIn, inputIn};
+ghost use Rattle.game_records.specs.Numbers.{coreCount, inputCount, coreNumbers, inputNumbers, coreIn, inputOfNumbers};
 
 // How many numbers a record has, and an input.
 pub const CORE: usize = 15;
@@ -100,7 +100,7 @@ pub fn core_of(numbers: &[i32]) -> CharacterCore
 // The input whose numbers a slice starts with.
 pub fn input_of(numbers: &[i32]) -> PlayerInput
     requires { ⌜ inputCount ≤ length (now numbers) ⌝ }
-    ensures { λ r. ⌜ r ≡ inputIn (now (numbers .entry)) ⌝ }
+    ensures { λ r. ⌜ r ≡ inputOfNumbers (now (numbers .entry)) ⌝ }
 {
     PlayerInput {
         direction: numbers[0],

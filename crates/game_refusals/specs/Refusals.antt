@@ -26,12 +26,12 @@ abbrev pub badText : ℕ
 badText = 6
 
 -- a join of an id that is present
-abbrev pub isPresent : ℕ
-isPresent = 7
+abbrev pub alreadyPresent : ℕ
+alreadyPresent = 7
 
 -- an id that is absent
-abbrev pub isAbsent : ℕ
-isAbsent = 8
+abbrev pub notPresent : ℕ
+notPresent = 8
 
 -- a walk of more turns than there may be
 abbrev pub tooFar : ℕ

@@ -19,8 +19,8 @@ use Rattle.role_rule.specs.declared.Ask.the-variants as ask
 use Rattle.role_rule.specs.declared.Role.{Role}
 use Rattle.role_rule.specs.declared.Role.the-variants.{Referee, Seat, Board}
 use Rattle.world_numbers.specs.Decoding.{decoding}
-use Rattle.world_buffers.specs.Buffers.{Left, refusedIn, leaveIn, tuneIn}
-use Rattle.world_buffers.specs.Readers.{Told, untold, readingTold, readIn}
+use Rattle.world_buffers.specs.Buffers.{LeftWorld, refusedIn, leaveIn, tuneIn}
+use Rattle.world_buffers.specs.Readers.{ReadTold, untold, readingTold, readIn}
 use Rattle.world_buffers.specs.Stepping.{StepBuffers, stepIn}
 use Rattle.world_buffers.specs.Following.{leftOf, leftBy, leftByAll}
 use Rattle.send_buffers.specs.Sends.{LeftBySend, LeftBySendStep, sendIn, sendStepIn}
@@ -68,8 +68,8 @@ module _ (s : Sides) (ts : List ℕ) (b : StepBuffers) where
 
   stands-as : (role : Role) (l : List ℤ) (c : Call) → leftBy s ts b l c .number ≡ ran seats s ts (decoding seats l) c .number → decoding seats (leftBy s ts b l c .world) ≡ ran seats s ts (decoding seats l) c .world → StandsAs s ts b role l c
   stands-as role l c n w = record {
-    number = ap (λ (x : Left). x .number) (left-by-role role l c) ∙ number (allowed role (ask.Call c));
-    world = ap (λ (x : Left). decoding seats (x .world)) (left-by-role role l c) ∙ next (allowed role (ask.Call c));
+    number = ap (λ (x : LeftWorld). x .number) (left-by-role role l c) ∙ number (allowed role (ask.Call c));
+    world = ap (λ (x : LeftWorld). decoding seats (x .world)) (left-by-role role l c) ∙ next (allowed role (ask.Call c));
   }
     where
       number : (m : Bool) → cond m (leftBy s ts b l c) (refusedIn l notAllowed) .number ≡ cond m (ran seats s ts (decoding seats l) c) (stepRefused seats (decoding seats l) notAllowed) .number
@@ -83,7 +83,7 @@ module _ (s : Sides) (ts : List ℕ) (b : StepBuffers) where
   -- ---- a list
   all-allowed : (rs : List RoleCall) (l : List ℤ) → leftAsAll s ts b l rs ≡ leftByAll s ts b l (allowedCalls rs)
   all-allowed [] l = refl
-  all-allowed (r ∷ rs) l = ap (λ (x : Left). leftAsAll s ts b (x .world) rs) (left-as (r .role) l (r .call)) ∙ go (mayAsk (r .role) (ask.Call (r .call))) (all-allowed rs)
+  all-allowed (r ∷ rs) l = ap (λ (x : LeftWorld). leftAsAll s ts b (x .world) rs) (left-as (r .role) l (r .call)) ∙ go (mayAsk (r .role) (ask.Call (r .call))) (all-allowed rs)
     where
       go : (m : Bool) → ((u : List ℤ) → leftAsAll s ts b u rs ≡ leftByAll s ts b u (allowedCalls rs)) → leftAsAll s ts b (cond m (leftBy s ts b l (r .call)) (refusedIn l notAllowed) .world) rs ≡ leftByAll s ts b l (cond m (r .call ∷ allowedCalls rs) (allowedCalls rs))
       go true h = h (leftBy s ts b l (r .call) .world)
@@ -93,8 +93,8 @@ module _ (s : Sides) (ts : List ℕ) (b : StepBuffers) where
 module _ (s : Sides) (ts : List ℕ) (b : Lent) where
   -- a call on the world alone
   alone-left : (role : ℤ) (x : LinkNumbers) (c : Call) (m : Bool) → mayAsk role (ask.Call c) ≡ m → record { world = leftAs s ts (b .told) role (x .world) c .world; sender = x .sender; screen = x .screen } ≡ cond m (record { world = leftBy s ts (b .told) (x .world) c .world; sender = x .sender; screen = x .screen }) x
-  alone-left role x c true e = ap (λ (y : Left). record { world = y .world; sender = x .sender; screen = x .screen }) (left-as s ts (b .told) role (x .world) c ∙ ap (λ (k : Bool). cond k (leftBy s ts (b .told) (x .world) c) (refusedIn (x .world) notAllowed)) e)
-  alone-left role x c false e = ap (λ (y : Left). record { world = y .world; sender = x .sender; screen = x .screen }) (left-as s ts (b .told) role (x .world) c ∙ ap (λ (k : Bool). cond k (leftBy s ts (b .told) (x .world) c) (refusedIn (x .world) notAllowed)) e)
+  alone-left role x c true e = ap (λ (y : LeftWorld). record { world = y .world; sender = x .sender; screen = x .screen }) (left-as s ts (b .told) role (x .world) c ∙ ap (λ (k : Bool). cond k (leftBy s ts (b .told) (x .world) c) (refusedIn (x .world) notAllowed)) e)
+  alone-left role x c false e = ap (λ (y : LeftWorld). record { world = y .world; sender = x .sender; screen = x .screen }) (left-as s ts (b .told) role (x .world) c ∙ ap (λ (k : Bool). cond k (leftBy s ts (b .told) (x .world) c) (refusedIn (x .world) notAllowed)) e)
 
   -- a leave or a tune, and a step
   sent-left : (x : LinkNumbers) (y : LeftBySend) (m : Bool) → afterSend s ts b x (cond m y (record { left = refusedIn (x .world) notAllowed; sent = senderLent b x })) ≡ cond m (afterSend s ts b x y) x
@@ -129,11 +129,11 @@ reads-stand role q l out h g = ap (λ (m : Bool). cond m (readIn q l out) (untol
     go false = refl
 
 -- ---- a search
-referee-searches : (out : List ℤ) (told : Told) → searchAs (roleNumber Referee) out told ≡ told
+referee-searches : (out : List ℤ) (told : ReadTold) → searchAs (roleNumber Referee) out told ≡ told
 unfolding mayAsk
 referee-searches out told = refl
 
-others-told : (z : ℤ) → (z ≡ roleNumber Referee → ⊥) → (out : List ℤ) (told : Told) → searchAs z out told ≡ untold out notAllowed
+others-told : (z : ℤ) → (z ≡ roleNumber Referee → ⊥) → (out : List ℤ) (told : ReadTold) → searchAs z out told ≡ untold out notAllowed
 unfolding mayAsk
 others-told (pos k) h out told = refl
 others-told (negsuc zero) h out told = absurd (h refl)

@@ -9,13 +9,13 @@ use Rattle.world.specs.declared.call.Call.the-variants.{Step}
 use Rattle.world.specs.declared.reading.Query.{Query}
 use Rattle.role_rule.specs.Roles.{mayAsk}
 use Rattle.role_rule.specs.declared.Ask.the-variants as ask
-use Rattle.world_buffers.specs.Buffers.{Left, refusedIn}
-use Rattle.world_buffers.specs.Readers.{Told, untold}
+use Rattle.world_buffers.specs.Buffers.{LeftWorld, refusedIn}
+use Rattle.world_buffers.specs.Readers.{ReadTold, untold}
 use Rattle.world_buffers.specs.Stepping.{StepBuffers, LeftByStep}
 use Rattle.send_buffers.specs.Sends.{SenderBuffers, LeftBySend, LeftBySendStep}
 
 -- a call that leaves `left` of the numbers l where it may be made
-abbrev pub callAs : ℤ → Call → List ℤ → Left → Left
+abbrev pub callAs : ℤ → Call → List ℤ → LeftWorld → LeftWorld
 callAs role c l left = cond (mayAsk role (ask.Call c)) left (refusedIn l notAllowed)
 
 -- a step, which is lent b to tell
@@ -23,11 +23,11 @@ abbrev pub stepAs : ℤ → List ℤ → StepBuffers → LeftByStep → LeftBySt
 stepAs role l b left = cond (mayAsk role (ask.Call Step)) left (record { number = notAllowed; world = l; told = b })
 
 -- a read into a buffer that had the numbers `out`
-abbrev pub readAs : ℤ → Query → List ℤ → Told → Told
-readAs role q out told = cond (mayAsk role (ask.Read q)) told (untold out notAllowed)
+abbrev pub readInAs : ℤ → Query → List ℤ → ReadTold → ReadTold
+readInAs role q out told = cond (mayAsk role (ask.Read q)) told (untold out notAllowed)
 
 -- a search into a buffer that had the numbers `out`: it is made of steps, so it is allowed where a step is
-abbrev pub searchAs : ℤ → List ℤ → Told → Told
+abbrev pub searchAs : ℤ → List ℤ → ReadTold → ReadTold
 searchAs role out told = cond (mayAsk role (ask.Call Step)) told (untold out notAllowed)
 
 -- a call beside a sender's buffers b

@@ -24,15 +24,15 @@ use Rattle.role_rule.specs.declared.Role.{Role}
 use Rattle.role_rule.specs.declared.Role.the-variants.{Referee}
 use Rattle.world_numbers.specs.Encoding.{worldCount, recordsCount, encoding}
 use Rattle.world_numbers.specs.Decoding.{decoding}
-use Rattle.world_buffers.specs.Buffers.{Left, joinIn, leaveIn, inputIn, tuneIn}
-use Rattle.world_buffers.specs.Readers.{Told, untold, queryCount, readingTold, readIn}
+use Rattle.world_buffers.specs.Buffers.{LeftWorld, joinIn, leaveIn, inputIn, tuneIn}
+use Rattle.world_buffers.specs.Readers.{ReadTold, untold, queryCount, readingTold, readIn}
 use Rattle.world_buffers.specs.Stepping.{StepBuffers, stepIn}
 use Rattle.world_buffers.specs.Following.{leftOf}
 use Rattle.send_rule.specs.Link.{freshLink}
 use Rattle.send_numbers.specs.Passing.{passedCount}
 use Rattle.send_buffers.specs.Sends.{sendIn, sendStepIn}
 use Rattle.send_buffers.specs.Following.{LinkNumbers, Lent, linkNumbers, senderLent, afterSend, afterStep, calledAll}
-use Rattle.ponguriena.specs.ByRole.{callAs, stepAs, readAs, searchAs, sendAs, sendStepAs}
+use Rattle.ponguriena.specs.ByRole.{callAs, stepAs, readInAs, searchAs, sendAs, sendStepAs}
 
 -- ---- the number of a role
 
@@ -44,7 +44,7 @@ pub record RoleNumbers : Type 0 where
 -- ---- one call or read on any numbers
 
 -- what a call leaves; b is what a step is lent to tell
-abbrev pub leftAs : Sides → List ℕ → StepBuffers → ℤ → List ℤ → Call → Left
+abbrev pub leftAs : Sides → List ℕ → StepBuffers → ℤ → List ℤ → Call → LeftWorld
 leftAs s ts b role l (Join id x y) = callAs role (Join id x y) l (joinIn s ts l id x y)
 leftAs s ts b role l (Leave id) = callAs role (Leave id) l (leaveIn l id)
 leftAs s ts b role l (Input id d x y j h) = callAs role (Input id d x y j h) l (inputIn l id (inputOf d x y j h))
@@ -62,12 +62,12 @@ RoleCallsStand = (s : Sides) (ts : List ℕ) (b : StepBuffers) (role : Role) (l 
 
 -- a read tells the numbers of what the read by the role tells of that world
 abbrev pub RoleReadsStand : Type 0
-RoleReadsStand = (role : Role) (q : Query) (l out : List ℤ) → length l ≡ worldCount → length out ≡ queryCount q → readAs (roleNumber role) q out (readIn q l out) ≡ readingTold out (roles.readAs seats role (decoding seats l) q)
+RoleReadsStand = (role : Role) (q : Query) (l out : List ℤ) → length l ≡ worldCount → length out ≡ queryCount q → readInAs (roleNumber role) q out (readIn q l out) ≡ readingTold out (roles.readAs seats role (decoding seats l) q)
 
 -- a search is the referee's alone: any other number is told 13, whatever else is asked, and the buffer is as it was
 pub record RefereeSearches : Type 0 where
-  pub referee : (out : List ℤ) (told : Told) → searchAs (roleNumber Referee) out told ≡ told
-  pub others : (z : ℤ) → (z ≡ roleNumber Referee → ⊥) → (out : List ℤ) (told : Told) → searchAs z out told ≡ untold out notAllowed
+  pub referee : (out : List ℤ) (told : ReadTold) → searchAs (roleNumber Referee) out told ≡ told
+  pub others : (z : ℤ) → (z ≡ roleNumber Referee → ⊥) → (out : List ℤ) (told : ReadTold) → searchAs z out told ≡ untold out notAllowed
 
 -- ---- every list of calls on a fresh world
 

@@ -7,11 +7,11 @@ ghost use mathlib.Core.List.{[], _∷_};
 ghost use mathlib.Core.Path.{_≡_};
 ghost use Rattle.world.specs.declared.reading.Query.the-variants as query;
 ghost use Rattle.world_buffers.specs.Readers.{readIn};
-ghost use Rattle.ponguriena.specs.ByRole.{readAs};
+ghost use Rattle.ponguriena.specs.ByRole.{readInAs};
 
 #[no_mangle]
 pub extern "C" fn ponguriena_record(role: i32, world: &[i32], id: i32, record: &mut [i32]) -> u32
-    ensures { λ r. ⌜ readAs role (query.Record id) (now («record» .entry)) (readIn (query.Record id) (now (world .entry)) (now («record» .entry))) ≡ record { number = r; numbers = now («record» .exit) } ⌝ }
+    ensures { λ r. ⌜ readInAs role (query.Record id) (now («record» .entry)) (readIn (query.Record id) (now (world .entry)) (now («record» .entry))) ≡ record { number = r; numbers = now («record» .exit) } ⌝ }
 {
     if !may_ask(role, Ask::Read(Query::Record(id))) {
         return NOT_ALLOWED;
@@ -26,7 +26,7 @@ pub extern "C" fn ponguriena_player_input(
     id: i32,
     input: &mut [i32],
 ) -> u32
-    ensures { λ r. ⌜ readAs role (query.PlayerInput id) (now (input .entry)) (readIn (query.PlayerInput id) (now (world .entry)) (now (input .entry))) ≡ record { number = r; numbers = now (input .exit) } ⌝ }
+    ensures { λ r. ⌜ readInAs role (query.PlayerInput id) (now (input .entry)) (readIn (query.PlayerInput id) (now (world .entry)) (now (input .entry))) ≡ record { number = r; numbers = now (input .exit) } ⌝ }
 {
     if !may_ask(role, Ask::Read(Query::PlayerInput(id))) {
         return NOT_ALLOWED;
@@ -36,7 +36,7 @@ pub extern "C" fn ponguriena_player_input(
 
 #[no_mangle]
 pub extern "C" fn ponguriena_tuning(role: i32, world: &[i32], index: i32, value: &mut i32) -> u32
-    ensures { λ r. ⌜ readAs role (query.Tuning index) (now (value .entry) ∷ []) (readIn (query.Tuning index) (now (world .entry)) (now (value .entry) ∷ [])) ≡ record { number = r; numbers = now (value .exit) ∷ [] } ⌝ }
+    ensures { λ r. ⌜ readInAs role (query.Tuning index) (now (value .entry) ∷ []) (readIn (query.Tuning index) (now (world .entry)) (now (value .entry) ∷ [])) ≡ record { number = r; numbers = now (value .exit) ∷ [] } ⌝ }
 {
     if !may_ask(role, Ask::Read(Query::Tuning(index))) {
         return NOT_ALLOWED;
@@ -46,7 +46,7 @@ pub extern "C" fn ponguriena_tuning(role: i32, world: &[i32], index: i32, value:
 
 #[no_mangle]
 pub extern "C" fn ponguriena_floor_mark(role: i32, world: &[i32], id: i32, mark: &mut i32) -> u32
-    ensures { λ r. ⌜ readAs role (query.FloorMark id) (now (mark .entry) ∷ []) (readIn (query.FloorMark id) (now (world .entry)) (now (mark .entry) ∷ [])) ≡ record { number = r; numbers = now (mark .exit) ∷ [] } ⌝ }
+    ensures { λ r. ⌜ readInAs role (query.FloorMark id) (now (mark .entry) ∷ []) (readIn (query.FloorMark id) (now (world .entry)) (now (mark .entry) ∷ [])) ≡ record { number = r; numbers = now (mark .exit) ∷ [] } ⌝ }
 {
     if !may_ask(role, Ask::Read(Query::FloorMark(id))) {
         return NOT_ALLOWED;

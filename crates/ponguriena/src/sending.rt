@@ -11,13 +11,13 @@ ghost use Rattle.world.specs.declared.call.Call.the-variants as call;
 ghost use Rattle.send_rule.specs.Send.{noCopies, freshScreen};
 ghost use Rattle.send_numbers.specs.Copies.{senderCount, screenCount, copiesEncoding, screenEncoding};
 ghost use Rattle.world_buffers.specs.Buffers.{leaveIn, tuneIn};
-ghost use Rattle.send_buffers.specs.Sends.{freshIn, sendIn, sendStepIn};
+ghost use Rattle.send_buffers.specs.Sends.{freshBuffer, sendIn, sendStepIn};
 ghost use Rattle.send_buffers.specs.Screens.{receiveIn, shownIn};
 ghost use Rattle.ponguriena.specs.ByRole.{sendAs, sendStepAs};
 
 #[no_mangle]
 pub extern "C" fn ponguriena_sender_fresh(sender: &mut [i32]) -> u32
-    ensures { λ r. ⌜ freshIn senderCount (copiesEncoding (noCopies seats)) (now (sender .entry)) ≡ record { number = r; numbers = now (sender .exit) } ⌝ }
+    ensures { λ r. ⌜ freshBuffer senderCount (copiesEncoding (noCopies seats)) (now (sender .entry)) ≡ record { number = r; numbers = now (sender .exit) } ⌝ }
 {
     send_buffers::sender_fresh_in(sender)
 }
@@ -91,7 +91,7 @@ pub extern "C" fn ponguriena_send_step(
 
 #[no_mangle]
 pub extern "C" fn ponguriena_screen_fresh(screen: &mut [i32]) -> u32
-    ensures { λ r. ⌜ freshIn screenCount (screenEncoding (freshScreen seats)) (now (screen .entry)) ≡ record { number = r; numbers = now (screen .exit) } ⌝ }
+    ensures { λ r. ⌜ freshBuffer screenCount (screenEncoding (freshScreen seats)) (now (screen .entry)) ≡ record { number = r; numbers = now (screen .exit) } ⌝ }
 {
     send_buffers::screen_fresh_in(screen)
 }

@@ -2,7 +2,7 @@
 use Prim.Native.Nat.{ℕ}
 use mathlib.Core.Path.{_≡_}
 use Rattle.aim_rule.specs.Scan.{ReadsAQuarter}
-use Rattle.game_packed.specs.Laws.{RoundTrip, Accepted, SizesHold, NoneBegins, ToldEnds, WorkedBytes}
+use Rattle.game_packed.specs.Laws.{RoundTrip, ReadAsWritten, SizesHold, NoneBegins, ToldEnds, WorkedBytes}
 use Rattle.character.specs.Tick.{seats}
 use Rattle.character_cases.specs.Holding.{Holding}
 use Rattle.character_cases.specs.ProvedCases.{ProvedCases}
@@ -126,7 +126,7 @@ pub record Shipped : Type 0 where
   pub byRole : RolesStand
   -- request 1: packed records come back, nothing else is read, and what is told where none is
   pub roundTrip : RoundTrip
-  pub accepted : Accepted
+  pub accepted : ReadAsWritten
   pub sizes : SizesHold
   pub noneBegins : NoneBegins
   pub toldEnds : ToldEnds

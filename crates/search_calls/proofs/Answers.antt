@@ -9,7 +9,7 @@ use lib.IntN.{ℤ}
 use lib.ListN.{length}
 use borrow.Author.Tests.{eq-eqb, ne-eqb, ltb-true}
 use Rattle.base_turns.specs.Turns.{more, stop}
-use Rattle.game_refusals.specs.Refusals.{badMap, badId, isAbsent, badLength}
+use Rattle.game_refusals.specs.Refusals.{badMap, badId, notPresent, badLength}
 use Rattle.map_tiles.specs.Map.{isMap}
 use Rattle.map_tiles.specs.declared.tiles.Sides.{Sides}
 use Rattle.character.specs.Tick.{seats, slotAt}
@@ -55,6 +55,6 @@ pub seat-within : (n : ℕ) (w : World) (id : ℤ) (x : Slot) → seated n w id 
 unfolding seated
 seat-within n w id x = go (ltb (placeOf n id) n) (slotAt (w .slots) (placeOf n id) .present) refl
   where
-    go : (b c : Bool) → ltb (placeOf n id) n ≡ b → cond b (cond c (seat.There (slotAt (w .slots) (placeOf n id))) (seat.Refused isAbsent)) (seat.Refused badId) ≡ seat.There x → placeOf n id < n
+    go : (b c : Bool) → ltb (placeOf n id) n ≡ b → cond b (cond c (seat.There (slotAt (w .slots) (placeOf n id))) (seat.Refused notPresent)) (seat.Refused badId) ≡ seat.There x → placeOf n id < n
     go true c l e = ltb-true (placeOf n id) n l
     go false c l e = let z : _≡_ {A = ℕ} 0 1 = cc in absurd (omega arith)

@@ -33,11 +33,11 @@ use Rattle.world_numbers.specs.Decoding.{isSet, decoding}
 use Rattle.world_numbers.proofs.Encoded.{flag-back}
 use Rattle.world_numbers.proofs.Rows.{record-long, each-long}
 use Rattle.world_numbers.proofs.Written.{each-row}
-use Rattle.world_buffers.specs.Buffers.{Left, isThere, inputIn}
+use Rattle.world_buffers.specs.Buffers.{LeftWorld, isThere, inputIn}
 use Rattle.world_buffers.specs.Stepping.{StepBuffers, LeftByStep, leftByStep, stepIn}
 use Rattle.world_buffers.proofs.Stands.{there, stands}
 use Rattle.game_records.proofs.Same.{number-self, number-differs}
-use Rattle.search_rule.specs.Search.{inputWith, stepWith, isAt, arrives, goesOn}
+use Rattle.search_rule.specs.Search.{inputOfWay, stepWith, isAt, arrives, goesOn}
 use Rattle.search_rule.specs.declared.Buttons.{Buttons}
 use Rattle.search_rule.specs.declared.Goal.{Goal}
 use Rattle.search_calls.specs.Steps.{recordIsAt, Took}
@@ -110,9 +110,9 @@ module _ (s : Sides) (ts : List ℕ) (g : Goal) (b : Buttons) (l : List ℤ) (lo
   press = Input (g .id) (b .direction) (g .«target_x») (g .«target_y») (b .jump) (pos 0)
 
   -- the numbers m after the input, and what the step leaves of them and tells in the buffers d
-  module _ (n : ℕ) (m : List ℤ) (e : inputIn l (g .id) (inputWith g b) ≡ record { number = n; world = m }) (long-m : length m ≡ worldCount) (d : StepBuffers) (rows : length (d .records) ≡ recordsCount) (ids : length (d .removed) ≡ seats) where
-    stored : decoding seats m ≡ input seats w (g .id) (inputWith g b) .world
-    stored = ap (λ (x : Left). decoding seats (x .world)) (sym e) ∙ stands s ts d l press long rows ids settled .world
+  module _ (n : ℕ) (m : List ℤ) (e : inputIn l (g .id) (inputOfWay g b) ≡ record { number = n; world = m }) (long-m : length m ≡ worldCount) (d : StepBuffers) (rows : length (d .records) ≡ recordsCount) (ids : length (d .removed) ≡ seats) where
+    stored : decoding seats m ≡ input seats w (g .id) (inputOfWay g b) .world
+    stored = ap (λ (x : LeftWorld). decoding seats (x .world)) (sym e) ∙ stands s ts d l press long rows ids settled .world
 
     settled-m : Settled seats (decoding seats m)
     settled-m = subst (Settled seats) (sym stored) (answer-settled seats s ts w press settled)

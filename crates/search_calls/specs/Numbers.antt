@@ -12,7 +12,7 @@ use Rattle.character.specs.Tick.{seats}
 use Rattle.world_numbers.specs.Encoding.{worldCount, each}
 use Rattle.world_numbers.specs.Decoding.{decoding}
 use Rattle.world_buffers.specs.Buffers.{has}
-use Rattle.world_buffers.specs.Readers.{Told, untold, toldAs}
+use Rattle.world_buffers.specs.Readers.{ReadTold, untold, toldAs}
 use Rattle.search_rule.specs.Ways.{Way, longest}
 use Rattle.search_rule.specs.Search.{Found, SearchAnswer, Refused, NoWay, WayTo, search}
 use Rattle.search_rule.specs.declared.Buttons.{Buttons}
@@ -43,11 +43,11 @@ foundIn l at (more z) = record { found = false; way = l }
 foundIn l at (stop u) = record { found = true; way = put l at (each buttonsNumbers u) }
 
 -- a refusal leaves the numbers as they were
-abbrev pub searchTold : List ℤ → SearchAnswer → Told
+abbrev pub searchTold : List ℤ → SearchAnswer → ReadTold
 searchTold out (Refused k) = untold out k
 searchTold out NoWay = toldAs (wayNumbers [])
 searchTold out (WayTo u) = toldAs (wayNumbers u)
 
 -- a search in the world that the numbers l stand for
-unfoldable pub searchIn : Sides → List ℕ → List ℤ → ℤ → ℤ → ℤ → List ℤ → Told
+unfoldable pub searchIn : Sides → List ℕ → List ℤ → ℤ → ℤ → ℤ → List ℤ → ReadTold
 searchIn s ts l id x y out = cond (has worldCount l && has wayCount out) (searchTold out (search seats s ts (decoding seats l) id x y)) (untold out badLength)

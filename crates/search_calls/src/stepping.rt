@@ -19,7 +19,7 @@ ghost use Rattle.world.specs.Calls.{placeOf};
 ghost use Rattle.world.specs.Settled.{Settled};
 ghost use Rattle.world_numbers.specs.Encoding.{worldCount, recordsCount};
 ghost use Rattle.world_numbers.specs.Decoding.{decoding};
-ghost use Rattle.search_rule.specs.Search.{inputWith, choices, buttonsAt};
+ghost use Rattle.search_rule.specs.Search.{inputOfWay, choices, buttonsAt};
 ghost use Rattle.search_calls.specs.Steps.{Copied, recordIsAt, Took};
 
 // Three directions, each with and without jump.
@@ -93,7 +93,7 @@ fn record_is_at(records: &[i32], at: usize, goal: Goal) -> bool
 
 // What is pressed, hook 0 and the stored target.
 fn input_with(goal: Goal, buttons: Buttons) -> PlayerInput
-    ensures { λ r. ⌜ r ≡ inputWith goal buttons ⌝ }
+    ensures { λ r. ⌜ r ≡ inputOfWay goal buttons ⌝ }
 {
     PlayerInput {
         direction: buttons.direction,

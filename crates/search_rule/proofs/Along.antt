@@ -29,8 +29,8 @@ use Rattle.game_records.specs.Numbers.{sameNumber}
 use Rattle.game_records.proofs.Same.{number-same, number-self}
 use Rattle.base_turns.proofs.Tests.{both}
 use Rattle.search_rule.specs.Ways.{Way}
-use Rattle.search_rule.specs.Search.{inputWith, stepWith, isAt, arrives, goesOn, counts}
-use Rattle.search_rule.specs.Laws.{callsOf, Accepted, lastRecord, HasPlace}
+use Rattle.search_rule.specs.Search.{inputOfWay, stepWith, isAt, arrives, goesOn, counts}
+use Rattle.search_rule.specs.Laws.{callsOf, AllAccepted, lastRecord, HasPlace}
 use Rattle.search_rule.specs.declared.Buttons.{Buttons}
 use Rattle.search_rule.specs.declared.Goal.{Goal}
 
@@ -67,7 +67,7 @@ module _ (n : ℕ) (s : Sides) (ts : List ℕ) (g : Goal) where
   tells w u = told n s ts w (callsOf (g .id) (g .«target_x») (g .«target_y») u)
 
   pub record Arrives (w : World) (u : Way) : Type 0 where
-    pub accepted : Accepted (tells w u)
+    pub accepted : AllAccepted (tells w u)
     pub arrived : HasPlace (g .x) (g .y) (lastRecord (placeOf n (g .id)) (tells w u))
 
   pub leads-there : (u : Way) (w : World) → Seated n w (g .id) → counts n s ts g w u ≡ true → Arrives w u
@@ -77,20 +77,20 @@ module _ (n : ℕ) (s : Sides) (ts : List ℕ) (g : Goal) where
       let a = stepWith n s ts g w b in
       let r = recordAt (a .records) (placeOf n (g .id)) in
       let t = both (eqb (a .number) 0) (isAt g r) e in
-      record { accepted = (input-accepted n w (g .id) (inputWith g b) h, (eqb-true (a .number) 0 (t .0), tt)); arrived = is-at g r (t .1) }
+      record { accepted = (input-accepted n w (g .id) (inputOfWay g b) h, (eqb-true (a .number) 0 (t .0), tt)); arrived = is-at g r (t .1) }
   leads-there (b ∷ c ∷ u) w h e =
       let a = stepWith n s ts g w b in
       let t = both (goesOn n g a) (counts n s ts g (a .world) (c ∷ u)) e in
       let o = both (eqb (a .number) 0) (slotAt (a .world .slots) (placeOf n (g .id)) .present) (t .0) in
       let r = leads-there (c ∷ u) (a .world) (record { seat = h .seat; there = o .1 }) (t .1) in
-      record { accepted = (input-accepted n w (g .id) (inputWith g b) h, (eqb-true (a .number) 0 (o .0), r .accepted)); arrived = r .arrived }
+      record { accepted = (input-accepted n w (g .id) (inputOfWay g b) h, (eqb-true (a .number) 0 (o .0), r .accepted)); arrived = r .arrived }
 
   pub there-counts : (b : Buttons) (u : Way) (w : World) → Arrives w (b ∷ u) → counts n s ts g w (b ∷ u) ≡ true
   unfolding stepWith arrives goesOn
   there-counts b [] w h = let a = stepWith n s ts g w b in rw (eq-eqb (a .number) 0 (h .accepted .1 .0), at-place g (recordAt (a .records) (placeOf n (g .id))) (h .arrived))
   there-counts b (c ∷ u) w h =
       let a = stepWith n s ts g w b in
-      let o = input-seat n (a .world) (g .id) (inputWith g c) (h .accepted .1 .1 .0) in
+      let o = input-seat n (a .world) (g .id) (inputOfWay g c) (h .accepted .1 .1 .0) in
       rw (eq-eqb (a .number) 0 (h .accepted .1 .0), o .there) (there-counts c u (a .world) (record { accepted = h .accepted .1 .1; arrived = h .arrived }))
 
 -- ---- who is lost in a step
@@ -104,9 +104,9 @@ module _ (n : ℕ) (s : Sides) (ts : List ℕ) (w : World) (g : Goal) (b : Butto
   k = placeOf n (g .id)
 
   abbrev stored : World
-  stored = withSlot w k (withInput (slotAt (w .slots) k) (inputWith g b))
+  stored = withSlot w k (withInput (slotAt (w .slots) k) (inputOfWay g b))
 
-  stores : input n w (g .id) (inputWith g b) .world ≡ stored
+  stores : input n w (g .id) (inputOfWay g b) .world ≡ stored
   unfolding input
   stores = rw (lt-ltb k n (h .seat), h .there)
 
@@ -115,6 +115,6 @@ module _ (n : ℕ) (s : Sides) (ts : List ℕ) (w : World) (g : Goal) (b : Butto
   lost-to-spikes =
       let a = step n stored s ts in
       let within : k < length (w .slots) = omega (arith, full, h .seat) in
-      let here : slotAt (stored .slots) k .present ≡ true = ap (λ (x : Slot). x .present) (getD-set-same (w .slots) k (withInput (slotAt (w .slots) k) (inputWith g b)) nowhere within) ∙ h .there in
+      let here : slotAt (stored .slots) k .present ≡ true = ap (λ (x : Slot). x .present) (getD-set-same (w .slots) k (withInput (slotAt (w .slots) k) (inputOfWay g b)) nowhere within) ∙ h .there in
       let c = isIn k (idsIn (a .removed)) in
       rw stores (ap (λ (d : Bool). eqb (a .number) 0 && d) (step-present n s ts stored (length-set (w .slots) k _ ∙ full) k ∙ ap (cond c false) here ∙ unless c))

@@ -8,7 +8,7 @@ use lib.Dec.{ltb}
 use lib.IntN.{ℤ}
 use borrow.Author.Tests.{lt-ltb}
 use Rattle.base_turns.specs.Turns.{more, stop}
-use Rattle.game_refusals.specs.Refusals.{badMap, badId, isAbsent}
+use Rattle.game_refusals.specs.Refusals.{badMap, badId, notPresent}
 use Rattle.game_records.specs.declared.PlayerInput.{PlayerInput}
 use Rattle.map_tiles.specs.Map.{isMap}
 use Rattle.map_tiles.specs.declared.tiles.Sides.{Sides}
@@ -24,7 +24,7 @@ use Rattle.world.specs.declared.World.{World}
 use Rattle.world.specs.declared.reading.Seated.the-variants as seat
 use Rattle.world.proofs.Outcomes.{Seated}
 use Rattle.search_rule.specs.Ways.{Way, IsWay}
-use Rattle.search_rule.specs.Search.{inputWith, stepWith, counts, Found, firstWay, goalOf, Refused, NoWay, WayTo, answerOf, searchFrom, search}
+use Rattle.search_rule.specs.Search.{inputOfWay, stepWith, counts, Found, firstWay, goalOf, Refused, NoWay, WayTo, answerOf, searchFrom, search}
 use Rattle.search_rule.specs.Laws.{callsOf, Leads, First, None, numberOf, Reaches}
 use Rattle.search_rule.specs.declared.Buttons.{Buttons}
 use Rattle.search_rule.specs.declared.Goal.{Goal}
@@ -71,7 +71,7 @@ module _ (n : ℕ) (s : Sides) (ts : List ℕ) (w : World) (id x y : ℤ) where
       slot : Slot
       slot = slotAt (w .slots) k
 
-      go : (a b c : Bool) → numberOf (cond a (searchFrom n s ts w id x y (cond b (cond c (seat.There slot) (seat.Refused isAbsent)) (seat.Refused badId))) (Refused badMap)) ≡ cond a (cond b (cond c (accepted (withSlot w k (withInput slot i))) (refused w isAbsent)) (refused w badId) .number) badMap
+      go : (a b c : Bool) → numberOf (cond a (searchFrom n s ts w id x y (cond b (cond c (seat.There slot) (seat.Refused notPresent)) (seat.Refused badId))) (Refused badMap)) ≡ cond a (cond b (cond c (accepted (withSlot w k (withInput slot i))) (refused w notPresent)) (refused w badId) .number) badMap
       go false b c = refl
       go true false c = refl
       go true true false = refl
@@ -87,7 +87,7 @@ module _ (n : ℕ) (s : Sides) (ts : List ℕ) (w : World) (id x y : ℤ) where
 
   leads-runs : (u : Way) → IsWay u → Leads n s ts w id x y u → Runs
   leads-runs [] i h = absurd (omega (arith, i .some))
-  leads-runs (b ∷ u) i h = record { map = step-map n s ts _ (h .accepted .1 .0); seat = input-seat n w id (inputWith goal b) (h .accepted .0) }
+  leads-runs (b ∷ u) i h = record { map = step-map n s ts _ (h .accepted .1 .0); seat = input-seat n w id (inputOfWay goal b) (h .accepted .0) }
 
   -- ---- a way counts just where it leads there
   counts-leads : Runs → (u : Way) → counts n s ts goal w u ≡ true → Leads n s ts w id x y u

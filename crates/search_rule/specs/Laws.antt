@@ -37,9 +37,9 @@ abbrev pub toldAlong : ℕ → Sides → List ℕ → World → ℤ → Way → 
 toldAlong n s ts w id u = let i = slotAt (w .slots) (placeOf n id) .input in told n s ts w (callsOf id (i .«target_x») (i .«target_y») u)
 
 -- every call is accepted
-abbrev pub Accepted : List Told → Type 0
-Accepted [] = Unit {0}
-Accepted (t ∷ ts) = (t .number ≡ 0) × Accepted ts
+abbrev pub AllAccepted : List Told → Type 0
+AllAccepted [] = Unit {0}
+AllAccepted (t ∷ ts) = (t .number ≡ 0) × AllAccepted ts
 
 -- the record of the seat k that the last one told
 abbrev pub lastRecord : ℕ → List Told → Published
@@ -53,7 +53,7 @@ HasPlace x y p = (p .present ≡ true) × (p .core .x ≡ x) × (p .core .y ≡ 
 
 -- the way leads there
 pub record Leads (n : ℕ) (s : Sides) (ts : List ℕ) (w : World) (id x y : ℤ) (u : Way) : Type 0 where
-  pub accepted : Accepted (toldAlong n s ts w id u)
+  pub accepted : AllAccepted (toldAlong n s ts w id u)
   pub arrived : HasPlace x y (lastRecord (placeOf n id) (toldAlong n s ts w id u))
 
 -- ---- the first, and none

@@ -28,12 +28,12 @@ use Rattle.search_rule.specs.declared.Goal.{Goal}
 -- ---- one step of a way
 
 -- its input: what is pressed, hook 0 and the stored target
-abbrev pub inputWith : Goal → Buttons → PlayerInput
-inputWith g b = inputOf (b .direction) (g .«target_x») (g .«target_y») (b .jump) (pos 0)
+abbrev pub inputOfWay : Goal → Buttons → PlayerInput
+inputOfWay g b = inputOf (b .direction) (g .«target_x») (g .«target_y») (b .jump) (pos 0)
 
 -- that input for the one id, then a step; other inputs are as stored
 unfoldable pub stepWith : ℕ → Sides → List ℕ → Goal → World → Buttons → Stepped
-stepWith n s ts g w b = step n (input n w (g .id) (inputWith g b) .world) s ts
+stepWith n s ts g w b = step n (input n w (g .id) (inputOfWay g b) .world) s ts
 
 -- a record of somebody, with that x and y
 abbrev pub isAt : Goal → Published → Bool

@@ -25,19 +25,19 @@ use Rattle.world_numbers.specs.Encoding.{worldCount, recordsCount}
 use Rattle.world_numbers.specs.Decoding.{decoding}
 use Rattle.send_numbers.specs.Copies.{senderCount, copiesEncoding, copiesDecoding}
 use Rattle.send_numbers.specs.Passing.{passedCount, allNumbers}
-use Rattle.world_buffers.specs.Buffers.{Left, refusedIn}
+use Rattle.world_buffers.specs.Buffers.{LeftWorld, refusedIn}
 use Rattle.world_buffers.specs.Stepping.{StepBuffers, LeftByStep, leftByStep}
 use Rattle.world_buffers.proofs.StepAnswers.{right-lengths}
-use Rattle.send_buffers.specs.Sends.{freshIn, SenderBuffers, keepSent, passes, passedIn, sendIn, sendStepIn}
+use Rattle.send_buffers.specs.Sends.{freshBuffer, SenderBuffers, keepSent, passes, passedIn, sendIn, sendStepIn}
 
 -- ---- before any call
 module _ (n : ℕ) (new l : List ℤ) where
-  pub fresh-wrong : (length l ≡ n → ⊥) → freshIn n new l ≡ record { number = badLength; numbers = l }
-  unfolding freshIn
+  pub fresh-wrong : (length l ≡ n → ⊥) → freshBuffer n new l ≡ record { number = badLength; numbers = l }
+  unfolding freshBuffer
   fresh-wrong h = rw (ne-eqb (length l) n h)
 
-  pub fresh-right : (m : List ℤ) → length l ≡ n → m ≡ new → freshIn n new l ≡ record { number = 0; numbers = m }
-  unfolding freshIn
+  pub fresh-right : (m : List ℤ) → length l ≡ n → m ≡ new → freshBuffer n new l ≡ record { number = 0; numbers = m }
+  unfolding freshBuffer
   fresh-right m h e = rw (eq-eqb (length l) n h, e)
 
 -- ---- what is passed along
@@ -83,14 +83,14 @@ module _ (c : Call) (l : List ℤ) (b : SenderBuffers) where
       let m : Sent = send seats (sidesOf 0 0) [] (decoding seats l) (copiesDecoding seats (b .sender)) c in
       rw (← e) (ap₂ (keepSent b) (ap (λ (y : Stepped). y .number) (sym q)) (sym (sent-back m x p)) ∙ t)
 
-  module _ (left : Left) (r : Bool) (d : SenderBuffers) (e : r ≡ passes l b) (p : passedIn c l b ≡ d) where
-    pub made : (a : Left) → r ≡ true → left ≡ a → sendIn c left l b ≡ record { left = a; sent = d }
+  module _ (left : LeftWorld) (r : Bool) (d : SenderBuffers) (e : r ≡ passes l b) (p : passedIn c l b ≡ d) where
+    pub made : (a : LeftWorld) → r ≡ true → left ≡ a → sendIn c left l b ≡ record { left = a; sent = d }
     unfolding sendIn
-    made a t q = ap₂ (λ (u : Left) (v : SenderBuffers). record { left = u; sent = v }) (ap (λ (z : Bool). cond z left (refusedIn l badLength)) (sym e ∙ t) ∙ q) p
+    made a t q = ap₂ (λ (u : LeftWorld) (v : SenderBuffers). record { left = u; sent = v }) (ap (λ (z : Bool). cond z left (refusedIn l badLength)) (sym e ∙ t) ∙ q) p
 
     pub not-made : r ≡ false → sendIn c left l b ≡ record { left = refusedIn l badLength; sent = d }
     unfolding sendIn
-    not-made t = ap₂ (λ (u : Left) (v : SenderBuffers). record { left = u; sent = v }) (ap (λ (z : Bool). cond z left (refusedIn l badLength)) (sym e ∙ t)) p
+    not-made t = ap₂ (λ (u : LeftWorld) (v : SenderBuffers). record { left = u; sent = v }) (ap (λ (z : Bool). cond z left (refusedIn l badLength)) (sym e ∙ t)) p
 
 -- ---- step
 module _ (s : Sides) (ts : List ℕ) (l : List ℤ) (r : StepBuffers) (b : SenderBuffers) where

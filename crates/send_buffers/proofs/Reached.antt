@@ -25,7 +25,7 @@ use Rattle.world_numbers.proofs.Encoded.{decoding-encoding}
 use Rattle.send_numbers.specs.Copies.{copyCount, senderCount, copiesEncoding, copiesDecoding, screenEncoding}
 use Rattle.send_numbers.specs.Passing.{passedCount}
 use Rattle.send_numbers.proofs.CopiesBack.{copies-long, copies-come-back}
-use Rattle.world_buffers.specs.Buffers.{Left, leaveIn, tuneIn}
+use Rattle.world_buffers.specs.Buffers.{LeftWorld, leaveIn, tuneIn}
 use Rattle.world_buffers.specs.Stepping.{stepIn}
 use Rattle.world_buffers.specs.Following.{leftBy}
 use Rattle.world_buffers.proofs.Reached.{encoding-proper, one, one-number}
@@ -57,7 +57,7 @@ module _ (s : Sides) (ts : List ℕ) (b : Lent) (k : length (b .told .records) �
 
   -- ---- on the numbers of a world and of copies
   module _ (w : World) (cs : List Copy) (h : Settled seats w) (g : Copied seats cs) where
-    send-is : (c : Call) (a : Left) → sendIn c a (encoding w) (lent cs) ≡ record { left = a; sent = keepSent (lent cs) (ran seats (sidesOf 0 0) [] w c .number) (send seats (sidesOf 0 0) [] w cs c) }
+    send-is : (c : Call) (a : LeftWorld) → sendIn c a (encoding w) (lent cs) ≡ record { left = a; sent = keepSent (lent cs) (ran seats (sidesOf 0 0) [] w c .number) (send seats (sidesOf 0 0) [] w cs c) }
     unfolding sendIn passedIn
     send-is c a = rw (eq-eqb (length (encoding w)) worldCount (encoding-proper w h .long), eq-eqb (length (copiesEncoding cs)) senderCount (copied-long cs g), eq-eqb (length (b .passed)) passedCount f, decoding-encoding seats w h, copied-back cs g)
 

@@ -6,7 +6,7 @@ use mathlib.Core.Path.{_≡_, sym, ap, _∙_}
 use lib.IntN.{ℤ}
 use lib.ListN.{length}
 use borrow.Author.Tests.{eq-eqb, ne-eqb, lt-ltb, le-ltb}
-use Rattle.game_refusals.specs.Refusals.{badId, isAbsent, badLength}
+use Rattle.game_refusals.specs.Refusals.{badId, notPresent, badLength}
 use Rattle.game_records.specs.Numbers.{coreCount, coreNumbers}
 use Rattle.map_tiles.specs.declared.tiles.Sides.{Sides}
 use Rattle.character.specs.Tick.{seats}
@@ -54,7 +54,7 @@ module _ (l : List ℤ) (id : ℤ) (out : List ℤ) where
       unfolding shownIn recordShown
       shown-no-seat f = rw (eq-eqb (length l) screenCount h, eq-eqb (length out) coreCount g, ← p, le-ltb k seats f)
 
-      pub shown-none : k < seats → copyAt (screenDecoding seats l .copies) k .kept ≡ false → shownIn l id out ≡ record { number = isAbsent; numbers = out }
+      pub shown-none : k < seats → copyAt (screenDecoding seats l .copies) k .kept ≡ false → shownIn l id out ≡ record { number = notPresent; numbers = out }
       unfolding shownIn recordShown
       shown-none f e = rw (eq-eqb (length l) screenCount h, eq-eqb (length out) coreCount g, ← p, lt-ltb k seats f, e)
 

@@ -4,7 +4,7 @@ use mathlib.Core.Bool.{cond, _&&_}
 use mathlib.Core.List.{List}
 use lib.Dec.{ltb}
 use lib.IntN.{ℤ}
-use Rattle.game_refusals.specs.Refusals.{badId, isAbsent, badLength}
+use Rattle.game_refusals.specs.Refusals.{badId, notPresent, badLength}
 use Rattle.game_records.specs.Numbers.{coreCount, coreNumbers}
 use Rattle.map_tiles.specs.declared.tiles.Sides.{Sides}
 use Rattle.character.specs.Tick.{seats}
@@ -17,7 +17,7 @@ use Rattle.send_numbers.specs.Reading.{readPassed}
 use Rattle.send_numbers.specs.declared.reading.PassedRead.{PassedRead}
 use Rattle.send_numbers.specs.declared.reading.PassedRead.the-variants.{Refused, Of}
 use Rattle.world_buffers.specs.Buffers.{has}
-use Rattle.world_buffers.specs.Readers.{Told}
+use Rattle.world_buffers.specs.Readers.{ReadTold}
 
 -- ---- what arrives
 
@@ -39,13 +39,13 @@ receiveIn s ts l ps used = cond (has screenCount l) (takeIn s ts l used (readPas
 -- ---- what is read
 
 -- the screen's record of an id: 2 where there is no such seat, 8 where it has no copy
-unfoldable pub recordShown : Screen → ℤ → List ℤ → Told
+unfoldable pub recordShown : Screen → ℤ → List ℤ → ReadTold
 recordShown z id out =
     let k = placeOf seats id in
     cond (ltb k seats)
-    (cond (shown z k .present) (record { number = 0; numbers = coreNumbers (shown z k .core) }) (record { number = isAbsent; numbers = out }))
+    (cond (shown z k .present) (record { number = 0; numbers = coreNumbers (shown z k .core) }) (record { number = notPresent; numbers = out }))
     (record { number = badId; numbers = out })
 
 -- of the screen that the numbers l stand for
-unfoldable pub shownIn : List ℤ → ℤ → List ℤ → Told
+unfoldable pub shownIn : List ℤ → ℤ → List ℤ → ReadTold
 shownIn l id out = cond (has screenCount l && has coreCount out) (recordShown (screenDecoding seats l) id out) (record { number = badLength; numbers = out })

@@ -19,7 +19,7 @@ use Rattle.world_numbers.specs.Encoding.{worldCount, recordsCount}
 use Rattle.world_numbers.specs.Decoding.{decoding}
 use Rattle.send_numbers.specs.Copies.{senderCount, copiesEncoding, copiesDecoding}
 use Rattle.send_numbers.specs.Passing.{passedCount, allNumbers}
-use Rattle.world_buffers.specs.Buffers.{has, Left, refusedIn}
+use Rattle.world_buffers.specs.Buffers.{has, LeftWorld, refusedIn}
 use Rattle.world_buffers.specs.Stepping.{StepBuffers, LeftByStep, stepIn}
 
 -- ---- before any call
@@ -30,8 +30,8 @@ pub record LeftIn : Type 0 where
   pub numbers : List ℤ
 
 -- the n numbers `new` in place of those that the buffer had
-unfoldable pub freshIn : ℕ → List ℤ → List ℤ → LeftIn
-freshIn n new l = cond (has n l) (record { number = 0; numbers = new }) (record { number = badLength; numbers = l })
+unfoldable pub freshBuffer : ℕ → List ℤ → List ℤ → LeftIn
+freshBuffer n new l = cond (has n l) (record { number = 0; numbers = new }) (record { number = badLength; numbers = l })
 
 -- ---- what is passed along
 
@@ -65,11 +65,11 @@ passedIn c l b = cond (passes l b) (sentFor (sidesOf 0 0) [] c l b) b
 
 -- its number and the numbers of the world that it leaves, and what it leaves in the sender's buffers
 pub record LeftBySend : Type 0 where
-  pub left : Left
+  pub left : LeftWorld
   pub sent : SenderBuffers
 
 -- the call c, which leaves `left` of the world's numbers l where it is made without a sender
-unfoldable pub sendIn : Call → Left → List ℤ → SenderBuffers → LeftBySend
+unfoldable pub sendIn : Call → LeftWorld → List ℤ → SenderBuffers → LeftBySend
 sendIn c left l b = record { left = cond (passes l b) left (refusedIn l badLength); sent = passedIn c l b }
 
 -- ---- step

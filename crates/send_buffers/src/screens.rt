@@ -21,11 +21,11 @@ ghost use mathlib.Core.Path.{_≡_};
 ghost use Rattle.character.specs.Tick.{seats};
 ghost use Rattle.send_rule.specs.Send.{freshScreen};
 ghost use Rattle.send_numbers.specs.Copies.{screenCount, screenEncoding};
-ghost use Rattle.send_buffers.specs.Sends.{freshIn};
+ghost use Rattle.send_buffers.specs.Sends.{freshBuffer};
 ghost use Rattle.send_buffers.specs.Screens.{receiveIn, shownIn};
 
 pub fn screen_fresh_in(screen: &mut [i32]) -> u32
-    ensures { λ r. ⌜ freshIn screenCount (screenEncoding (freshScreen seats)) (now (screen .entry)) ≡ record { number = r; numbers = now (screen .exit) } ⌝ }
+    ensures { λ r. ⌜ freshBuffer screenCount (screenEncoding (freshScreen seats)) (now (screen .entry)) ≡ record { number = r; numbers = now (screen .exit) } ⌝ }
 {
     if screen.len() != SCREEN {
         return BAD_LENGTH;

@@ -28,10 +28,10 @@ ghost use Rattle.send_calls.specs.Sending.{sentIn};
 ghost use Rattle.world_buffers.specs.Buffers.{leaveIn, tuneIn};
 ghost use Rattle.send_numbers.specs.Copies.{senderCount, copiesEncoding};
 ghost use Rattle.send_numbers.specs.Passing.{passedCount};
-ghost use Rattle.send_buffers.specs.Sends.{freshIn, keepSent, passes, passedIn, sendIn, sendStepIn};
+ghost use Rattle.send_buffers.specs.Sends.{freshBuffer, keepSent, passes, passedIn, sendIn, sendStepIn};
 
 pub fn sender_fresh_in(sender: &mut [i32]) -> u32
-    ensures { λ r. ⌜ freshIn senderCount (copiesEncoding (noCopies seats)) (now (sender .entry)) ≡ record { number = r; numbers = now (sender .exit) } ⌝ }
+    ensures { λ r. ⌜ freshBuffer senderCount (copiesEncoding (noCopies seats)) (now (sender .entry)) ≡ record { number = r; numbers = now (sender .exit) } ⌝ }
 {
     if sender.len() != SENDER {
         return BAD_LENGTH;

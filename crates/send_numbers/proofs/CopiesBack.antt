@@ -7,7 +7,7 @@ use lib.IntN.{ℤ, pos, negsuc}
 use lib.ListN.{length, drop}
 use Rattle.num_convert.specs.Casts.{IsI32, castUnsigned}
 use Rattle.num_convert.proofs.Back.{cast-back}
-use Rattle.game_records.specs.Numbers.{coreNumbers, inputNumbers, numberAt, coreIn, inputIn}
+use Rattle.game_records.specs.Numbers.{coreNumbers, inputNumbers, numberAt, coreIn, inputOfNumbers}
 use Rattle.send_rule.specs.Send.{noCopy, copyAt}
 use Rattle.send_rule.specs.declared.Copy.{Copy}
 use Rattle.world_numbers.specs.Encoding.{each, recordNumbers}
@@ -29,7 +29,7 @@ copies-long cs = each-long copyNumbers copyCount copy-long cs
 
 -- ---- there and back
 copy-back : (c : Copy) (l : List ℤ) → c .steps < 2 ^ 32 → copyIn (copyNumbers c ++ l) ≡ c
-unfolding copyIn copyNumbers recordNumbers coreNumbers inputNumbers coreIn inputIn
+unfolding copyIn copyNumbers recordNumbers coreNumbers inputNumbers coreIn inputOfNumbers
 copy-back c l h = rw (flag-back (c .kept), flag-back (c .removed), flag-back (c .refused), cast-back (c .steps) h)
 
 pub copies-come-back : (n : ℕ) → CopiesComeBack n

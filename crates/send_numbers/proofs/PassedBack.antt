@@ -12,7 +12,7 @@ use Rattle.base_rows.specs.Put.{put}
 use Rattle.base_rows.proofs.Puts.{put-none, put-put}
 use Rattle.num_convert.specs.Casts.{castSigned}
 use Rattle.game_refusals.specs.Refusals.{badId, badTuning}
-use Rattle.game_records.specs.Numbers.{coreNumbers, inputNumbers, coreIn, inputIn}
+use Rattle.game_records.specs.Numbers.{coreNumbers, inputNumbers, coreIn, inputOfNumbers}
 use Rattle.game_tuning.specs.Tuning.{tuningCount}
 use Rattle.world.specs.Calls.{placeOf}
 use Rattle.send_rule.specs.declared.Item.{Item}
@@ -22,7 +22,7 @@ use Rattle.world_numbers.specs.Encoding.{each}
 use Rattle.world_numbers.proofs.Rows.{each-last}
 use Rattle.send_numbers.specs.Passing.{messageCount, messageNumbers, passedNumbers, allNumbers}
 use Rattle.send_rule.specs.Send.{firstOf}
-use Rattle.send_numbers.specs.Reading.{messageIn, readMessage, readRemoval, readLeave, tuneIn, readTune, readKind, readPassed, PassedComesBack, PassedFits}
+use Rattle.send_numbers.specs.Reading.{messageIn, readMessage, readRemoval, readLeave, tuneRead, readTune, readKind, readPassed, PassedComesBack, PassedFits}
 use Rattle.send_numbers.proofs.Readings.{place-read}
 
 -- an id or an index is read as the place that it names
@@ -36,12 +36,12 @@ unfolding readPassed
 some-read n z l = rw (ne-eqb (length (z ∷ l)) 0 (λ e. omega arith))
 
 pub passed-comes-back : (n : ℕ) → PassedComesBack n
-unfolding passedNumbers messageNumbers readMessage readRemoval readLeave readTune coreNumbers inputNumbers coreIn inputIn
+unfolding passedNumbers messageNumbers readMessage readRemoval readLeave readTune coreNumbers inputNumbers coreIn inputOfNumbers
 passed-comes-back n b passed.Mark rest h = some-read n (pos 0) rest
 passed-comes-back n b (passed.Message k core i) rest h = let l : List ℤ = messageNumbers k core i ++ rest in let e : messageCount ≤ length l = omega (arith, length-append (messageNumbers k core i) rest) in some-read n (pos 1) _ ∙ place-read messageCount n badId (messageIn l) l k e (sym (place-back n k b h)) h
 passed-comes-back n b (passed.Removal k) rest h = let l : List ℤ = pos 2 ∷ castSigned k ∷ rest in let e : 2 ≤ length l = omega arith in some-read n (pos 2) _ ∙ place-read 2 n badId passed.Removal l k e (sym (place-back n k b h)) h
 passed-comes-back n b (passed.Leave k) rest h = let l : List ℤ = pos 3 ∷ castSigned k ∷ rest in let e : 2 ≤ length l = omega arith in some-read n (pos 3) _ ∙ place-read 2 n badId passed.Leave l k e (sym (place-back n k b h)) h
-passed-comes-back n b (passed.Tune k v) rest h = let l : List ℤ = pos 4 ∷ castSigned k ∷ v ∷ rest in let e : 3 ≤ length l = omega arith in some-read n (pos 4) _ ∙ place-read 3 tuningCount badTuning (tuneIn l) l k e (sym (place-back tuningCount k (omega arith) h)) h
+passed-comes-back n b (passed.Tune k v) rest h = let l : List ℤ = pos 4 ∷ castSigned k ∷ v ∷ rest in let e : 3 ≤ length l = omega arith in some-read n (pos 4) _ ∙ place-read 3 tuningCount badTuning (tuneRead l) l k e (sym (place-back tuningCount k (omega arith) h)) h
 
 -- ---- how many there are
 pub thing-long : (p : Passed) → (0 < length (passedNumbers p)) × (length (passedNumbers p) ≤ messageCount)

@@ -5,7 +5,7 @@ use mathlib.Core.Path.{_≡_}
 use lib.IntN.{ℤ}
 use lib.ListN.{length, take, drop}
 use Rattle.num_convert.specs.Casts.{IsI32, castSigned, castUnsigned}
-use Rattle.game_records.specs.Numbers.{inputCount, inputNumbers, numberAt, coreIn, inputIn}
+use Rattle.game_records.specs.Numbers.{inputCount, inputNumbers, numberAt, coreIn, inputOfNumbers}
 use Rattle.game_tuning.specs.Tuning.{tuningCount}
 use Rattle.character.specs.Tick.{seats}
 use Rattle.send_rule.specs.Send.{copyAt}
@@ -53,7 +53,7 @@ unfoldable pub copyIn : List ℤ → Copy
 copyIn l = record {
   kept = isSet (numberAt l 0);
   core = coreIn (drop 1 l);
-  input = inputIn (drop recordCount l);
+  input = inputOfNumbers (drop recordCount l);
   removed = isSet (numberAt l marksPlace);
   refused = isSet (numberAt l (marksPlace + 1));
   steps = castUnsigned (numberAt l (marksPlace + 2));

@@ -7,7 +7,7 @@ use lib.Dec.{eqb, ltb}
 use lib.IntN.{ℤ, pos}
 use lib.ListN.{length, drop}
 use Rattle.game_refusals.specs.Refusals.{badId, badTuning, badLength}
-use Rattle.game_records.specs.Numbers.{sameNumber, coreCount, numberAt, coreIn, inputIn}
+use Rattle.game_records.specs.Numbers.{sameNumber, coreCount, numberAt, coreIn, inputOfNumbers}
 use Rattle.game_tuning.specs.Tuning.{tuningCount}
 use Rattle.world.specs.Calls.{placeOf}
 use Rattle.send_rule.specs.declared.Passed.{Passed}
@@ -22,7 +22,7 @@ readPlace m n none thing l = let k = placeOf n (numberAt l 1) in cond (ltb (leng
 
 -- the message of the seat k whose numbers l starts with
 abbrev pub messageIn : List ℤ → ℕ → Passed
-messageIn l k = passed.Message k (coreIn (drop 2 l)) (inputIn (drop (2 + coreCount) l))
+messageIn l k = passed.Message k (coreIn (drop 2 l)) (inputOfNumbers (drop (2 + coreCount) l))
 
 -- a message of one of n seats
 unfoldable pub readMessage : ℕ → List ℤ → PassedRead
@@ -37,12 +37,12 @@ unfoldable pub readLeave : ℕ → List ℤ → PassedRead
 readLeave n l = readPlace 2 n badId passed.Leave l
 
 -- the tuning k with the value that l has
-abbrev pub tuneIn : List ℤ → ℕ → Passed
-tuneIn l k = passed.Tune k (numberAt l 2)
+abbrev pub tuneRead : List ℤ → ℕ → Passed
+tuneRead l k = passed.Tune k (numberAt l 2)
 
 -- a tuning
 unfoldable pub readTune : List ℤ → PassedRead
-readTune l = readPlace 3 tuningCount badTuning (tuneIn l) l
+readTune l = readPlace 3 tuningCount badTuning (tuneRead l) l
 
 -- whether l begins with the kind k
 abbrev pub isKind : ℕ → List ℤ → Bool

@@ -8,7 +8,7 @@ use lib.Dec.{eqb, ltb}
 use lib.IntN.{ℤ}
 use lib.ListN.{getD-replicate}
 use borrow.Author.Tests.{eqb-true, eqb-false, eq-eqb}
-use Rattle.game_refusals.specs.Refusals.{badMap, badId, outOfReach, notClear, isPresent}
+use Rattle.game_refusals.specs.Refusals.{badMap, badId, outOfReach, notClear, alreadyPresent}
 use Rattle.map_tiles.specs.Box.{checkBox, characterBox}
 use Rattle.map_tiles.specs.Map.{isMap}
 use Rattle.map_tiles.specs.declared.tiles.Sides.{Sides}
@@ -43,7 +43,7 @@ pub join-absent : (n : ℕ) (w : World) (s : Sides) (ts : List ℕ) (id x y : �
 unfolding join joinAt
 join-absent n w s ts id x y = go (isMap s ts) (ltb (placeOf n id) n) (inReach x && inReach y) (checkBox s ts (pointOf x y) characterBox) (slotAt (w .slots) (placeOf n id) .present) refl
   where
-    go : (a b c d e : Bool) → slotAt (w .slots) (placeOf n id) .present ≡ e → cond a (cond b (cond c (cond d (refused w notClear) (cond e (refused w isPresent) (accepted (withSlot w (placeOf n id) (joinedSlot (pointOf x y)))))) (refused w outOfReach)) (refused w badId)) (refused w badMap) .number ≡ 0 → slotAt (w .slots) (placeOf n id) .present ≡ false
+    go : (a b c d e : Bool) → slotAt (w .slots) (placeOf n id) .present ≡ e → cond a (cond b (cond c (cond d (refused w notClear) (cond e (refused w alreadyPresent) (accepted (withSlot w (placeOf n id) (joinedSlot (pointOf x y)))))) (refused w outOfReach)) (refused w badId)) (refused w badMap) .number ≡ 0 → slotAt (w .slots) (placeOf n id) .present ≡ false
     go false b c d e p q = absurd (omega arith)
     go true false c d e p q = absurd (omega arith)
     go true true false d e p q = absurd (omega arith)

@@ -7,7 +7,7 @@ use lib.IntN.{pos}
 use lib.ListN.{length}
 use Rattle.map_tiles.specs.declared.tiles.Sides.{Sides}
 use Rattle.world.specs.declared.call.Call.{Call}
-use Rattle.text_reading.specs.Calls.{CallAt, lineNumber}
+use Rattle.text_reading.specs.Calls.{CallAt, answerOfLine}
 use Rattle.text_reading.specs.declared.call_lines.CallLine.the-variants as line
 use Rattle.text_writing.specs.Output.{answerBytes}
 use Rattle.text_writing.specs.Put.{Put}
@@ -29,6 +29,6 @@ pub data LineRan (n : ℕ) (text : List ℕ) (s : Sides) (ts : List ℕ) (b : Se
   -- the text ends: nothing is written
   end : length text ≤ b .place → r ≡ endedAt (b .call) (b .place) (b .world) at → e ≡ d → LineRan n text s ts b d at r e
   -- no call stands there: text at fault, with the number of the call that is due
-  fault : b .place < length text → CallAt text (b .place) line.Fault → r ≡ endedAt (b .call) (b .place) (b .world) (r .next) → Put d at (answerBytes (pos (b .call)) (pos (lineNumber line.Fault))) e (r .next) → LineRan n text s ts b d at r e
+  fault : b .place < length text → CallAt text (b .place) line.Fault → r ≡ endedAt (b .call) (b .place) (b .world) (r .next) → Put d at (answerBytes (pos (b .call)) (pos (answerOfLine line.Fault))) e (r .next) → LineRan n text s ts b d at r e
   -- a call: it is run, and its answer is written
   call : (c : Call) (past : ℕ) → b .place < length text → CallAt text (b .place) (line.Read c past) → r ≡ goesOn (b .call + 1) past (ran n s ts (b .world) c .world) (r .next) → Put d at (toldBytes n (pos (b .call)) (toldBy (ran n s ts (b .world) c))) e (r .next) → LineRan n text s ts b d at r e

@@ -33,6 +33,6 @@ CallAt s at (callLine.Read c next) = IsCall c × Stands (callBytes c) s at next
 CallAt s at callLine.Fault = (c : Call) → IsCall c → Absent (callBytes c) s at
 
 -- document 01's number of an answer
-abbrev pub lineNumber : CallLine → ℕ
-lineNumber (callLine.Read c next) = 0
-lineNumber callLine.Fault = badText
+abbrev pub answerOfLine : CallLine → ℕ
+answerOfLine (callLine.Read c next) = 0
+answerOfLine callLine.Fault = badText

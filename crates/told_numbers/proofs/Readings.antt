@@ -5,7 +5,7 @@ use mathlib.Core.Path.{_≡_, refl, sym, ap, _∙_}
 use native.Mathlib.Omega.{arith}
 use lib.Dec.{ltb}
 use lib.IntN.{ℤ}
-use Rattle.game_records.specs.Numbers.{inputNumbers, inputIn}
+use Rattle.game_records.specs.Numbers.{inputNumbers, inputOfNumbers}
 use Rattle.game_records.proofs.Back.{input-back}
 use Rattle.game_tuning.specs.Tuning.{tuningCount}
 use Rattle.character.specs.Records.{toNet}
@@ -25,7 +25,7 @@ use Rattle.world.specs.declared.reading.Seated.the-variants as seat
 use Rattle.world.proofs.Seats.{by-test}
 use Rattle.world_numbers.specs.Decoding.{decoding}
 use Rattle.world_numbers.proofs.Encoded.{flag-back}
-use Rattle.world_buffers.specs.Readers.{Told, readingTold}
+use Rattle.world_buffers.specs.Readers.{ReadTold, readingTold}
 use Rattle.world_buffers.proofs.Readings.{right-lengths}
 use Rattle.told_numbers.specs.Readings.{readingIn, ReadingsTold}
 use Rattle.told_numbers.proofs.Records.{core-alone}
@@ -49,8 +49,8 @@ module _ (out : List ℤ) where
   unfolding tuningNow
   read-back w (query.Record id) = seated-back (query.Record id) recordNow (λ x. record-back id (toNet (x .character))) (seated seats w id) (seated-numbered seats w id)
   read-back w (query.FloorMark id) = seated-back (query.FloorMark id) markNow (λ x. ap reading.FloorMark (flag-back (x .grounded))) (seated seats w id) (seated-numbered seats w id)
-  read-back w (query.PlayerInput id) = seated-back (query.PlayerInput id) inputNow (λ x. ap reading.PlayerInput (ap inputIn (sym (append-nil (inputNumbers (x .input)))) ∙ input-back (x .input) [])) (seated seats w id) (seated-numbered seats w id)
+  read-back w (query.PlayerInput id) = seated-back (query.PlayerInput id) inputNow (λ x. ap reading.PlayerInput (ap inputOfNumbers (sym (append-nil (inputNumbers (x .input)))) ∙ input-back (x .input) [])) (seated seats w id) (seated-numbered seats w id)
   read-back w (query.Tuning index) = by-test (Back (query.Tuning index)) (ltb (placeOf tuningCount index) tuningCount) (λ e. refl) (λ e. refl)
 
 pub readings-told : ReadingsTold
-readings-told q l out h g = ap (λ (t : Told). readingIn (t .number) q (t .numbers)) (right-lengths q l out h g) ∙ read-back out (decoding seats l) q
+readings-told q l out h g = ap (λ (t : ReadTold). readingIn (t .number) q (t .numbers)) (right-lengths q l out h g) ∙ read-back out (decoding seats l) q

@@ -44,7 +44,7 @@ use Rattle.world_numbers.proofs.Encoded.{decoding-encoding}
 use Rattle.send_numbers.specs.Copies.{screenCount, screenDecoding}
 use Rattle.send_numbers.specs.Passing.{passedCount}
 use Rattle.world_buffers.specs.Buffers.{has}
-use Rattle.world_buffers.specs.Readers.{Told}
+use Rattle.world_buffers.specs.Readers.{ReadTold}
 use Rattle.world_buffers.specs.Stepping.{StepBuffers, LeftByStep, stepIn}
 use Rattle.send_buffers.specs.Sends.{SenderBuffers, LeftBySendStep, hasRoom, sendStepIn}
 use Rattle.send_buffers.specs.Screens.{shownIn}
@@ -53,12 +53,12 @@ use Rattle.send_buffers.proofs.Fit.{Fit, received-fit, fit-back, fit-long, fres
 use Rattle.send_buffers.proofs.Reached.{link-follows}
 use Rattle.send_buffers.proofs.Taken.{shown-no-seat, shown-none, shown-is}
 use Rattle.told_numbers.specs.Records.{TellsStep}
-use Rattle.told_numbers.specs.Shown.{TellsRecord, ShownTold, TellsTaken, ScreenTold, SendStepTold, TellsAbsent, AbsentTold}
+use Rattle.told_numbers.specs.Shown.{TellsCore, ShownTold, TellsTaken, ScreenTold, SendStepTold, TellsAbsent, AbsentTold}
 use Rattle.told_numbers.proofs.Records.{core-alone, accepted, step-told}
 
 -- ---- on any numbers
-record-told : (n : CharacterCore) (t : Told) → t ≡ record { number = 0; numbers = coreNumbers n } → TellsRecord n t
-record-told n t e = record { number = ap (λ (u : Told). u .number) e; core = ap (λ (u : Told). coreIn (u .numbers)) e ∙ core-alone n }
+record-told : (n : CharacterCore) (t : ReadTold) → t ≡ record { number = 0; numbers = coreNumbers n } → TellsCore n t
+record-told n t e = record { number = ap (λ (u : ReadTold). u .number) e; core = ap (λ (u : ReadTold). coreIn (u .numbers)) e ∙ core-alone n }
 
 pub shown-told : ShownTold
 shown-told l id out h g =

@@ -4,7 +4,7 @@ use mathlib.Core.List.{List}
 use mathlib.Core.Path.{_≡_}
 use lib.IntN.{ℤ}
 use lib.ListN.{length}
-use Rattle.game_records.specs.Numbers.{numberAt, coreIn, inputIn}
+use Rattle.game_records.specs.Numbers.{numberAt, coreIn, inputOfNumbers}
 use Rattle.character.specs.Tick.{seats}
 use Rattle.world.specs.Readers.{readOf}
 use Rattle.world.specs.declared.reading.Query.{Query}
@@ -20,7 +20,7 @@ abbrev pub readingIn : ℕ → Query → List ℤ → Reading
 readingIn (suc k) q l = reading.Refused (suc k)
 readingIn zero (query.Record id) l = reading.Record (coreIn l)
 readingIn zero (query.FloorMark id) l = reading.FloorMark (isSet (numberAt l 0))
-readingIn zero (query.PlayerInput id) l = reading.PlayerInput (inputIn l)
+readingIn zero (query.PlayerInput id) l = reading.PlayerInput (inputOfNumbers l)
 readingIn zero (query.Tuning index) l = reading.Tuning (numberAt l 0)
 
 -- on any numbers, what the world says that they stand for

@@ -5,12 +5,12 @@ use mathlib.Core.Path.{_≡_}
 use lib.IntN.{ℤ}
 use Rattle.map_tiles.specs.declared.tiles.Sides.{Sides}
 use Rattle.world.specs.declared.reading.Query.{Query}
-use Rattle.world_buffers.specs.Readers.{Told, readIn}
+use Rattle.world_buffers.specs.Readers.{ReadTold, readIn}
 use Rattle.search_calls.specs.Numbers.{searchIn}
 use Rattle.send_buffers.specs.Screens.{shownIn}
 
 -- where t is refused, the buffer is as it was
-abbrev pub Leaves : List ℤ → Told → Type 0
+abbrev pub Leaves : List ℤ → ReadTold → Type 0
 Leaves out t = (t .number ≡ 0 → ⊥) → t .numbers ≡ out
 
 -- so with every reader, whatever the lengths

@@ -5,7 +5,7 @@ use mathlib.Core.List.{List}
 use mathlib.Core.Path.{_≡_}
 use lib.IntN.{ℤ, pos}
 use lib.ListN.{length}
-use Rattle.game_refusals.specs.Refusals.{badId, isAbsent}
+use Rattle.game_refusals.specs.Refusals.{badId, notPresent}
 use Rattle.game_records.specs.Numbers.{coreCount, coreIn}
 use Rattle.game_records.specs.declared.CharacterCore.{CharacterCore}
 use Rattle.map_tiles.specs.declared.tiles.Sides.{Sides}
@@ -22,7 +22,7 @@ use Rattle.world_numbers.specs.Encoding.{recordsCount}
 use Rattle.world_numbers.specs.Decoding.{decoding}
 use Rattle.send_numbers.specs.Copies.{screenCount, screenDecoding}
 use Rattle.send_numbers.specs.Passing.{passedCount}
-use Rattle.world_buffers.specs.Readers.{Told, untold}
+use Rattle.world_buffers.specs.Readers.{ReadTold, untold}
 use Rattle.world_buffers.specs.Stepping.{StepBuffers}
 use Rattle.send_buffers.specs.Sends.{SenderBuffers, sendStepIn}
 use Rattle.send_buffers.specs.Screens.{shownIn}
@@ -30,16 +30,16 @@ use Rattle.send_buffers.specs.Following.{LinkNumbers, Lent, linkNumbers, sender
 use Rattle.told_numbers.specs.Records.{TellsStep}
 
 -- t is accepted, and tells this record
-pub record TellsRecord (n : CharacterCore) (t : Told) : Type 0 where
+pub record TellsCore (n : CharacterCore) (t : ReadTold) : Type 0 where
   pub number : t .number ≡ 0
   pub core : coreIn (t .numbers) ≡ n
 
 -- ---- on any numbers
 
 -- what t tells of the seat k of the screen z: the record that it shows; 8 where it shows none, and 2 where there is no such seat, with the buffer as it was
-pub record TellsShown (z : Screen) (k : ℕ) (out : List ℤ) (t : Told) : Type 0 where
-  pub there : k < seats → shown z k .present ≡ true → TellsRecord (shown z k .core) t
-  pub absent : k < seats → shown z k .present ≡ false → t ≡ untold out isAbsent
+pub record TellsShown (z : Screen) (k : ℕ) (out : List ℤ) (t : ReadTold) : Type 0 where
+  pub there : k < seats → shown z k .present ≡ true → TellsCore (shown z k .core) t
+  pub absent : k < seats → shown z k .present ≡ false → t ≡ untold out notPresent
   pub none : seats ≤ k → t ≡ untold out badId
 
 -- of the screen that the numbers stand for
@@ -58,7 +58,7 @@ TellsTaken s ts b x out =
     let y = linkLeft s ts b x Step in
     sendStepIn s ts (x .world) (b .told) (senderLent b x) .left .number ≡ 0
     → (k : ℕ) → k < seats → slotAt (decoding seats (y .world) .slots) k .present ≡ true
-    → TellsRecord (recordAt (step seats (decoding seats (x .world)) s ts .records) k .core) (shownIn (y .screen) (pos k) out)
+    → TellsCore (recordAt (step seats (decoding seats (x .world)) s ts .records) k .core) (shownIn (y .screen) (pos k) out)
 
 -- P of the buffers after every list of calls from a fresh link, whatever the map, and of a buffer for a record
 abbrev pub Everywhere : (Sides → List ℕ → Lent → LinkNumbers → List ℤ → Type 0) → Type 0
@@ -69,7 +69,7 @@ ScreenTold = Everywhere TellsTaken
 
 -- of nobody else: whoever isn't there is told as 8, after a step or any other call
 abbrev pub TellsAbsent : Sides → List ℕ → Lent → LinkNumbers → List ℤ → Type 0
-TellsAbsent s ts b x out = (k : ℕ) → k < seats → slotAt (decoding seats (x .world) .slots) k .present ≡ false → shownIn (x .screen) (pos k) out ≡ untold out isAbsent
+TellsAbsent s ts b x out = (k : ℕ) → k < seats → slotAt (decoding seats (x .world) .slots) k .present ≡ false → shownIn (x .screen) (pos k) out ≡ untold out notPresent
 
 abbrev pub AbsentTold : Type 0
 AbsentTold = Everywhere TellsAbsent

@@ -20,7 +20,7 @@ use Rattle.world.proofs.Seats.{last-or-below}
 use Rattle.world_numbers.specs.Encoding.{flag}
 use Rattle.game_records.specs.Numbers.{sameNumber}
 use Rattle.trial_rule.specs.Trial.{Entrant, targetColumn, targetRow, distanceTo, Trying, noPlayer, playerAt, entered, noted, inputFor, stepFrom, towards, tried, nobodyYet, tunedTo}
-use Rattle.trial_rule.specs.Laws.{stateAfter, recordAfter, IsAfter, distanceOf, inputWith, Smallest, TellsSmallest, TellsNobody, JumpsAfterStay}
+use Rattle.trial_rule.specs.Laws.{stateAfter, recordAfter, IsAfter, distanceOf, inputOfTrial, Smallest, TellsSmallest, TellsNobody, JumpsAfterStay}
 use Rattle.trial_rule.specs.declared.Player.{Player}
 use Rattle.trial_rule.proofs.Players.{after, noted-at}
 use Rattle.trial_rule.proofs.Runs.{state-full, ended}
@@ -155,14 +155,14 @@ module _ (n : ℕ) (s : Sides) (ts : List ℕ) (u : Trying) where
           record { joined = h .joined; done = h .done; reached = h .reached; first = h .first; least = h .least }
 
       -- ---- the inputs
-      with-jump : (k : ℕ) (z : ℤ) → flag (me k .stayed) ≡ z → inputFor s (stateAfter n s ts u k) (placeOf n (e .id)) ≡ inputWith n s (stateAfter n s ts u k) e z
+      with-jump : (k : ℕ) (z : ℤ) → flag (me k .stayed) ≡ z → inputFor s (stateAfter n s ts u k) (placeOf n (e .id)) ≡ inputOfTrial n s (stateAfter n s ts u k) e z
       with-jump k z q = ap₂ (λ (c : ℕ) (b : ℤ). Input (pos (placeOf n (e .id))) (towards (tileAt (s .width) (slotAt (stateAfter n s ts u k .world .slots) (placeOf n (e .id)) .character .pos .x)) c) (pos 0) (pos 0) b (pos 0)) (kept k .column) q
 
-      first-jump : inputFor s u (placeOf n (e .id)) ≡ inputWith n s u e (pos 0)
+      first-jump : inputFor s u (placeOf n (e .id)) ≡ inputOfTrial n s u e (pos 0)
       unfolding entered
       first-jump = with-jump 0 (pos 0) (ap (λ (p : Player). flag (p .stayed)) start)
 
-      later-jump : (k : ℕ) (a b : ℤ) → Across k a → Across (suc k) b → inputFor s (stateAfter n s ts u (suc k)) (placeOf n (e .id)) ≡ inputWith n s (stateAfter n s ts u (suc k)) e (flag (sameNumber a b))
+      later-jump : (k : ℕ) (a b : ℤ) → Across k a → Across (suc k) b → inputFor s (stateAfter n s ts u (suc k)) (placeOf n (e .id)) ≡ inputOfTrial n s (stateAfter n s ts u (suc k)) e (flag (sameNumber a b))
       unfolding noted
       later-jump k a b p q =
           with-jump (suc k) (flag (sameNumber a b)) (ap (λ (o : Player). flag (o .stayed)) (next-player full (placeOf n (e .id)) seat k) ∙ rw (q .0) (ap₂ (λ (v w : ℤ). flag (sameNumber v w)) (kept k .across a p) (sym (q .1))))

@@ -134,16 +134,16 @@ abbrev pub InputsStored : ℕ → Type 0
 InputsStored n = (s : Sides) (ts : List ℕ) (t : Trying) → StepStored n s ts t
 
 -- e's input in the state t, with a jump
-abbrev pub inputWith : ℕ → Sides → Trying → Entrant → ℤ → Call
-inputWith n s t e jump = let j = placeOf n (e .id) in Input (pos j) (towards (tileAt (s .width) (slotAt (t .world .slots) j .character .pos .x)) (targetColumn s e)) (pos 0) (pos 0) jump (pos 0)
+abbrev pub inputOfTrial : ℕ → Sides → Trying → Entrant → ℤ → Call
+inputOfTrial n s t e jump = let j = placeOf n (e .id) in Input (pos j) (towards (tileAt (s .width) (slotAt (t .world .slots) j .character .pos .x)) (targetColumn s e)) (pos 0) (pos 0) jump (pos 0)
 
 -- jump is 0 before step 1, and then 1 just after a step whose record's x is that of the one before, in step 1 that of the join
 abbrev pub JumpsAfterStay : ℕ → Type 0
 JumpsAfterStay n = (s : Sides) (ts : List ℕ) (before later : List Entrant) (e : Entrant) (t : Trying) (zs : List ℤ) → enterAll n s ts (before ++ (e ∷ later)) (nobodyYet n) ≡ more t →
     let u = tunedTo zs t in
     let j = placeOf n (e .id) in
-    (inputFor s u j ≡ inputWith n s u e (pos 0))
-    × ((k : ℕ) (x y : ℤ) → IsAfter n s ts u e (λ a b. a) k x → IsAfter n s ts u e (λ a b. a) (suc k) y → inputFor s (stateAfter n s ts u (suc k)) j ≡ inputWith n s (stateAfter n s ts u (suc k)) e (flag (sameNumber x y)))
+    (inputFor s u j ≡ inputOfTrial n s u e (pos 0))
+    × ((k : ℕ) (x y : ℤ) → IsAfter n s ts u e (λ a b. a) k x → IsAfter n s ts u e (λ a b. a) (suc k) y → inputFor s (stateAfter n s ts u (suc k)) j ≡ inputOfTrial n s (stateAfter n s ts u (suc k)) e (flag (sameNumber x y)))
 
 -- ---- a run by calls
 

@@ -26,7 +26,7 @@ use Rattle.world_numbers.specs.Encoding.{worldCount, each, encoding}
 use Rattle.world_numbers.specs.Decoding.{decoding}
 use Rattle.world_numbers.proofs.Encoded.{decoding-encoding}
 use Rattle.world_numbers.proofs.Rows.{each-last}
-use Rattle.world_buffers.specs.Buffers.{Left, acceptedIn, freshIn}
+use Rattle.world_buffers.specs.Buffers.{LeftWorld, acceptedIn, freshIn}
 use Rattle.world_buffers.proofs.Answers.{a-world}
 use Rattle.trial_rule.specs.Trial.{Trying, tried, enterAll, nobodyYet, tunedTo, trial}
 use Rattle.trial_rule.specs.Calls.{joinCount, targetCount, rowCount, tuningsIn, areWhole, entrants, tuningRows, triedNumbers, isSteps, isTrial, haveHolds, trialFault, LeftTrial, trialIn}
@@ -122,5 +122,5 @@ pub fresh-is : (l m : List ℤ) (k : ℕ) → length l ≡ worldCount → freshI
 unfolding freshIn
 fresh-is l m k e q =
     let h : Settled seats (fresh seats) = after-settled seats (record { width = 0; height = 0 }) [] [] in
-    let f : m ≡ encoding (fresh seats) = sym (ap (λ (x : Left). x .world) (sym (a-world l (acceptedIn (encoding (fresh seats))) e) ∙ q)) in
+    let f : m ≡ encoding (fresh seats) = sym (ap (λ (x : LeftWorld). x .world) (sym (a-world l (acceptedIn (encoding (fresh seats))) e) ∙ q)) in
     (subst IsWorld (sym f) (is-encoding (fresh seats) h), ap (decoding seats) f ∙ decoding-encoding seats (fresh seats) h)

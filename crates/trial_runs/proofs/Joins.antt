@@ -19,7 +19,7 @@ use Rattle.world.specs.declared.call.Call.the-variants.{Join}
 use Rattle.world.proofs.Outcomes.{Outcome, no, yes, Joins, join-outcome}
 use Rattle.world_numbers.specs.Encoding.{worldCount}
 use Rattle.world_numbers.specs.Decoding.{decoding}
-use Rattle.world_buffers.specs.Buffers.{Left, joinIn}
+use Rattle.world_buffers.specs.Buffers.{LeftWorld, joinIn}
 use Rattle.trial_rule.specs.Trial.{Entrant, Trying, entered, enter, enterAll}
 use Rattle.trial_rule.specs.Calls.{joinCount, targetCount, entrants}
 use Rattle.trial_rule.specs.declared.Player.{Player}
@@ -86,7 +86,7 @@ module _ (s : Sides) (ts : List ℕ) (l l₁ : List ℤ) (ps : List Player) (e :
   a = join seats (decoding seats l) s ts (e .id) (e .x) (e .y)
 
   number-is : a .number ≡ k
-  number-is = sym (by-call .number) ∙ ap (λ (x : Left). x .number) told
+  number-is = sym (by-call .number) ∙ ap (λ (x : LeftWorld). x .number) told
 
   refused : (k ≡ 0 → ⊥) → enter seats s ts e (state l ps) ≡ stop k
   unfolding enter
@@ -97,11 +97,11 @@ module _ (s : Sides) (ts : List ℕ) (l l₁ : List ℤ) (ps : List Player) (e :
     seat-there = joined-seat (decoding seats l) s ts (e .id) (e .x) (e .y) (number-is ∙ z)
 
     kept : IsWorld l₁
-    kept = subst IsWorld (ap (λ (x : Left). x .world) told) (by-call .kept)
+    kept = subst IsWorld (ap (λ (x : LeftWorld). x .world) told) (by-call .kept)
 
     accepted : enter seats s ts e (state l ps) ≡ more (state l₁ (set ps (placeOf seats (e .id)) (entered s e)))
     unfolding enter
-    accepted = rw (eq-eqb (a .number) 0 (number-is ∙ z)) (ap (λ (w : World). more (record { world = w; players = set ps (placeOf seats (e .id)) (entered s e) })) (sym (sym (ap (decoding seats) (ap (λ (x : Left). x .world) told)) ∙ by-call .world)))
+    accepted = rw (eq-eqb (a .number) 0 (number-is ∙ z)) (ap (λ (w : World). more (record { world = w; players = set ps (placeOf seats (e .id)) (entered s e) })) (sym (sym (ap (decoding seats) (ap (λ (x : LeftWorld). x .world) told)) ∙ by-call .world)))
 
 -- ---- the loop
 

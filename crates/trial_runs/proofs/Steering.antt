@@ -30,7 +30,7 @@ use Rattle.world_numbers.specs.Encoding.{recordCount, seatCount, worldCount, se
 use Rattle.world_numbers.specs.Decoding.{isSet, readable, seatOf, decoding}
 use Rattle.world_numbers.proofs.Seats.{seat-is}
 use Rattle.world_numbers.proofs.Written.{rowAt}
-use Rattle.world_buffers.specs.Buffers.{Left, isThere, inputIn}
+use Rattle.world_buffers.specs.Buffers.{LeftWorld, isThere, inputIn}
 use Rattle.world_buffers.specs.Following.{leftBy}
 use Rattle.world_buffers.proofs.Answers.{nobody, somebody}
 use Rattle.world_buffers.proofs.Released.{first-in}
@@ -52,14 +52,14 @@ module _ (s : Sides) (p : Player) (j : ℕ) (l : List ℤ) (h : j < seats) (long
   -- nobody is there
   pub stays : isThere l j ≡ false → steeredAt s p j l ≡ l
   unfolding steeredAt inputIn
-  stays e = ap (λ (a : Left). a .world) (nobody l (pos j) (λ k. put l (seatPlace k + recordCount) (inputNumbers i)) j long (sym (place-self seats j h)) h e)
+  stays e = ap (λ (a : LeftWorld). a .world) (nobody l (pos j) (λ k. put l (seatPlace k + recordCount) (inputNumbers i)) j long (sym (place-self seats j h)) h e)
 
   -- somebody is: the numbers behind the seat are as they were
   behind-kept : isThere l j ≡ true → drop (seatPlace (suc j)) (steeredAt s p j l) ≡ drop (seatPlace (suc j)) l
   unfolding steeredAt inputIn
   behind-kept e =
       let m = put l (seatPlace j + recordCount) (inputNumbers i) in
-      ap (λ (a : Left). drop (seatPlace (suc j)) (a .world)) (somebody l (pos j) (λ k. put l (seatPlace k + recordCount) (inputNumbers i)) j long (sym (place-self seats j h)) m h e refl)
+      ap (λ (a : LeftWorld). drop (seatPlace (suc j)) (a .world)) (somebody l (pos j) (λ k. put l (seatPlace k + recordCount) (inputNumbers i)) j long (sym (place-self seats j h)) m h e refl)
       ∙ drop-behind l (seatPlace j + recordCount) (inputNumbers i) (seatPlace (suc j)) (omega (arith, input-long i)) (omega arith)
 
 -- the x of somebody who is at a seat

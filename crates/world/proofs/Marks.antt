@@ -14,7 +14,7 @@ use Rattle.map_tiles.specs.declared.tiles.Sides.{Sides}
 use Rattle.game_tuning.specs.Tuning.{tuningOf}
 use Rattle.game_tuning.specs.declared.Tuning.{Tuning}
 use Rattle.game_records.specs.declared.PlayerInput.{PlayerInput}
-use Rattle.game_refusals.specs.Refusals.{badId, isAbsent}
+use Rattle.game_refusals.specs.Refusals.{badId, notPresent}
 use Rattle.num_vec2.specs.declared.vec2.{vec2}
 use Rattle.character_motion.specs.Controls.{grounded}
 use Rattle.character.specs.Slot.{emptySlot, joinedSlot, withCharacter, withInput}
@@ -177,7 +177,7 @@ marks-follow n s ts cs id = go (ltb k n) refl (present n s ts k false (fresh n) 
     last : LastStep
     last = lastStep n s ts k none (fresh n) cs
 
-    go : (b : Bool) → ltb k n ≡ b → (c : Bool) → x .present ≡ c → ofSeated markNow (cond b (cond (x .present) (seat.There x) (seat.Refused isAbsent)) (seat.Refused badId)) ≡ cond b (cond c (reading.FloorMark (groundedThen s ts last)) (reading.Refused isAbsent)) (reading.Refused badId)
+    go : (b : Bool) → ltb k n ≡ b → (c : Bool) → x .present ≡ c → ofSeated markNow (cond b (cond (x .present) (seat.There x) (seat.Refused notPresent)) (seat.Refused badId)) ≡ cond b (cond c (reading.FloorMark (groundedThen s ts last)) (reading.Refused notPresent)) (reading.Refused badId)
     go false e c p = refl
     go true e false p = rw p refl
     go true e true p = rw p (ap reading.FloorMark (marks-fresh n s ts k (ltb-true k n e) cs p))

@@ -8,7 +8,7 @@ use lib.IntN.{ℤ, pos, natAbs}
 use lib.ListN.{getD}
 use borrow.Author.Tests.{ltb-true, ltb-false, leb-true, leb-false, lt-ltb, ne-eqb}
 use Rattle.game_records.specs.declared.CharacterCore.{CharacterCore}
-use Rattle.game_refusals.specs.Refusals.{badId, badTuning, isAbsent}
+use Rattle.game_refusals.specs.Refusals.{badId, badTuning, notPresent}
 use Rattle.game_tuning.specs.Tuning.{tuningCount, hookHold, toldTuning}
 use Rattle.character_hook.specs.Hook.{tickOf}
 use Rattle.character_hook.specs.declared.hook.CharacterId.{CharacterId}
@@ -67,7 +67,7 @@ module _ (n : ℕ) (w : World) (id : ℤ) where
   unfolding seated
   seat-number f z = go (ltb at n) (me .present)
     where
-      go : (b c : Bool) → readNumber (ofSeated f (cond b (cond c (seat.There me) (seat.Refused isAbsent)) (seat.Refused badId))) ≡ cond b (cond c 0 8) 2
+      go : (b c : Bool) → readNumber (ofSeated f (cond b (cond c (seat.There me) (seat.Refused notPresent)) (seat.Refused badId))) ≡ cond b (cond c 0 8) 2
       go false c = refl
       go true false = refl
       go true true = z
@@ -99,7 +99,7 @@ module _ (n : ℕ) (w : World) (id : ℤ) where
   unfolding seated
   record-number = go (ltb at n) (me .present) refl refl
     where
-      go : (b c : Bool) → ltb at n ≡ b → me .present ≡ c → LowestFirst (RecordFits n w id) (readNumber (ofSeated recordNow (cond b (cond c (seat.There me) (seat.Refused isAbsent)) (seat.Refused badId))))
+      go : (b c : Bool) → ltb at n ≡ b → me .present ≡ c → LowestFirst (RecordFits n w id) (readNumber (ofSeated recordNow (cond b (cond c (seat.There me) (seat.Refused notPresent)) (seat.Refused badId))))
       go false c l p = lowest-fits _ 2 (omega arith) (no-one (fits.SeatFits.no-seat refl (place-outside n id (ltb-false at n l)))) (record-none (λ k. k < 2) (seat-none n w id (λ k. k < 2) (λ b. absurd (omega arith)) (λ b. absurd (omega arith))) (λ b. absurd (omega arith)))
       go true false l p = let h = ltb-true at n l in lowest-fits _ 8 (omega arith) (no-one (fits.SeatFits.absent refl (seat-absent w n id h p))) (record-none (λ k. k < 8) (seat-none n w id (λ k. k < 8) (λ b. seat-inside w n id h) (λ b. absurd (omega arith))) (λ b. absurd (omega arith)))
       go true true l p = there-number (ltb-true at n l) p
@@ -121,7 +121,7 @@ module _ (n : ℕ) (w : World) (id : ℤ) where
       none : {r : ℕ} → reading.Refused r ≡ reading.Record c → Read c
       none e = let z : _≡_ {A = ℕ} 0 1 = cc in absurd (omega arith)
 
-      go : (b d : Bool) → ltb at n ≡ b → me .present ≡ d → ofSeated recordNow (cond b (cond d (seat.There me) (seat.Refused isAbsent)) (seat.Refused badId)) ≡ reading.Record c → Read c
+      go : (b d : Bool) → ltb at n ≡ b → me .present ≡ d → ofSeated recordNow (cond b (cond d (seat.There me) (seat.Refused notPresent)) (seat.Refused badId)) ≡ reading.Record c → Read c
       go false d l p e = none e
       go true false l p e = none e
       go true true l p e = record { inside = ltb-true at n l; there = p; net = named (toNet (me .character)) c e }
@@ -131,7 +131,7 @@ module _ (n : ℕ) (w : World) (id : ℤ) where
   unfolding seated quantize
   tells = go (ltb at n) (me .present) (toNet (me .character)) refl refl refl
     where
-      go : (b d : Bool) (o : Net) → ltb at n ≡ b → me .present ≡ d → toNet (me .character) ≡ o → readNumber (ofSeated recordNow (cond b (cond d (seat.There me) (seat.Refused isAbsent)) (seat.Refused badId))) ≡ 0 → TellsRecord n w id
+      go : (b d : Bool) (o : Net) → ltb at n ≡ b → me .present ≡ d → toNet (me .character) ≡ o → readNumber (ofSeated recordNow (cond b (cond d (seat.There me) (seat.Refused notPresent)) (seat.Refused badId))) ≡ 0 → TellsRecord n w id
       go false d o l p q e = absurd (omega (arith, e))
       go true false o l p q e = absurd (omega (arith, e))
       go true true net.TickTooLarge l p q e = let z : _≡_ {A = ℕ} 10 0 = sym (ap (λ (o : Net). readNumber (ofRecord o)) q) ∙ e in absurd (omega (arith, z))

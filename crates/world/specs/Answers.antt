@@ -10,7 +10,7 @@ use Rattle.num_convert.specs.Convert.{i32ToF32}
 use Rattle.num_vec2.specs.Vec2.{vnew}
 use Rattle.map_tiles.specs.declared.tiles.Sides.{Sides}
 use Rattle.game_constants.specs.Constants.{maxHookGrabTime}
-use Rattle.game_refusals.specs.Refusals.{badMap, badId, badTuning, outOfReach, notClear, isPresent, isAbsent, badHold}
+use Rattle.game_refusals.specs.Refusals.{badMap, badId, badTuning, outOfReach, notClear, alreadyPresent, notPresent, badHold}
 use Rattle.game_tuning.specs.Tuning.{tuningCount, hookHold}
 use Rattle.character.specs.Tick.{slotAt}
 use Rattle.world.specs.declared.call.Call.{Call}
@@ -59,12 +59,12 @@ pub data JoinFits (n : ℕ) (s : Sides) (ts : List ℕ) (w : World) (id x y : �
   no-seat : k ≡ badId → Outside n id → JoinFits n s ts w id x y k
   far : k ≡ outOfReach → (100000 < natAbs x) ⊎ (100000 < natAbs y) → JoinFits n s ts w id x y k
   not-clear : k ≡ notClear → (CornersClear s ts (vnew (i32ToF32 x) (i32ToF32 y)) → ⊥) → JoinFits n s ts w id x y k
-  present : k ≡ isPresent → Present w id → JoinFits n s ts w id x y k
+  present : k ≡ alreadyPresent → Present w id → JoinFits n s ts w id x y k
 
 -- a leave, an input, and a read of an id
 pub data SeatFits (n : ℕ) (w : World) (id : ℤ) (k : ℕ) : Type 0 where
   no-seat : k ≡ badId → Outside n id → SeatFits n w id k
-  absent : k ≡ isAbsent → (Present w id → ⊥) → SeatFits n w id k
+  absent : k ≡ notPresent → (Present w id → ⊥) → SeatFits n w id k
 
 -- a tune
 pub data TuneFits (index z : ℤ) (k : ℕ) : Type 0 where

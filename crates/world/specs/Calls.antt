@@ -11,7 +11,7 @@ use Rattle.map_tiles.specs.Map.{isMap}
 use Rattle.map_tiles.specs.declared.tiles.Sides.{Sides}
 use Rattle.map_tiles.specs.Box.{checkBox, characterBox}
 use Rattle.game_records.specs.declared.PlayerInput.{PlayerInput}
-use Rattle.game_refusals.specs.Refusals.{badMap, badId, badTuning, outOfReach, notClear, isPresent, isAbsent, badHold}
+use Rattle.game_refusals.specs.Refusals.{badMap, badId, badTuning, outOfReach, notClear, alreadyPresent, notPresent, badHold}
 use Rattle.character_hook.specs.Hook.{holds}
 use Rattle.character_hook.specs.declared.hook.Hook.{Hook}
 use Rattle.character_hook.specs.declared.hook.Hook.the-variants.{Retracted}
@@ -48,7 +48,7 @@ pointOf x y = vnew (i32ToF32 x) (i32ToF32 y)
 unfoldable pub joinAt : World → Sides → List ℕ → ℕ → vec2 → Answer
 joinAt w s ts k p =
     cond (checkBox s ts p characterBox) (refused w notClear)
-    (cond (slotAt (w .slots) k .present) (refused w isPresent) (accepted (withSlot w k (joinedSlot p))))
+    (cond (slotAt (w .slots) k .present) (refused w alreadyPresent) (accepted (withSlot w k (joinedSlot p))))
 
 -- 1 where the map is none, 2 where the id has no slot, 4 where x or y is out of reach
 unfoldable pub join : ℕ → World → Sides → List ℕ → ℤ → ℤ → ℤ → Answer
@@ -59,7 +59,7 @@ join n w s ts id x y =
 
 -- what leave and input do at a seat: 8 where nobody is there
 abbrev pub ifPresent : World → ℕ → World → Answer
-ifPresent w k next = cond (slotAt (w .slots) k .present) (accepted next) (refused w isAbsent)
+ifPresent w k next = cond (slotAt (w .slots) k .present) (accepted next) (refused w notPresent)
 
 -- a hook that holds k is Retracted, any other stays
 unfoldable pub released : Hook → ℕ → Hook

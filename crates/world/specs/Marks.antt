@@ -6,7 +6,7 @@ use mathlib.Core.Path.{_≡_}
 use lib.Dec.{eqb, ltb}
 use lib.IntN.{ℤ}
 use Rattle.num_vec2.specs.declared.vec2.{vec2}
-use Rattle.game_refusals.specs.Refusals.{badId, isAbsent}
+use Rattle.game_refusals.specs.Refusals.{badId, notPresent}
 use Rattle.map_tiles.specs.declared.tiles.Sides.{Sides}
 use Rattle.character_motion.specs.Controls.{grounded}
 use Rattle.character.specs.Tick.{slotAt}
@@ -50,4 +50,4 @@ abbrev pub MarksFollow : ℕ → Type 0
 MarksFollow n = (s : Sides) (ts : List ℕ) (cs : List Call) (id : ℤ) →
     let k = placeOf n id in
     readOf n (after n s ts (fresh n) cs) (query.FloorMark id)
-    ≡ cond (ltb k n) (cond (present n s ts k false (fresh n) cs) (reading.FloorMark (groundedThen s ts (lastStep n s ts k none (fresh n) cs))) (reading.Refused isAbsent)) (reading.Refused badId)
+    ≡ cond (ltb k n) (cond (present n s ts k false (fresh n) cs) (reading.FloorMark (groundedThen s ts (lastStep n s ts k none (fresh n) cs))) (reading.Refused notPresent)) (reading.Refused badId)

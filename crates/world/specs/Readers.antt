@@ -4,7 +4,7 @@ use mathlib.Core.Bool.{cond}
 use lib.Dec.{ltb}
 use lib.IntN.{ℤ, pos}
 use lib.ListN.{getD}
-use Rattle.game_refusals.specs.Refusals.{badId, badTuning, isAbsent, tickTooLarge}
+use Rattle.game_refusals.specs.Refusals.{badId, badTuning, notPresent, tickTooLarge}
 use Rattle.game_tuning.specs.Tuning.{tuningCount, toldTuning}
 use Rattle.character.specs.Records.{toNet}
 use Rattle.character.specs.Tick.{slotAt}
@@ -22,7 +22,7 @@ use Rattle.world.specs.declared.reading.Seated.the-variants as seat
 
 -- who is at an id: 2 where it has no slot, 8 where nobody is there
 unfoldable pub seated : ℕ → World → ℤ → Seated
-seated n w id = let k = placeOf n id in cond (ltb k n) (cond (slotAt (w .slots) k .present) (seat.There (slotAt (w .slots) k)) (seat.Refused isAbsent)) (seat.Refused badId)
+seated n w id = let k = placeOf n id in cond (ltb k n) (cond (slotAt (w .slots) k .present) (seat.There (slotAt (w .slots) k)) (seat.Refused notPresent)) (seat.Refused badId)
 
 -- f of who is there
 abbrev pub ofSeated : (Slot → Reading) → Seated → Reading

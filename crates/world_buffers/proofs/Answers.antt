@@ -8,7 +8,7 @@ use lib.ListN.{length, set}
 use borrow.Author.Tests.{eq-eqb, ne-eqb, lt-ltb, le-ltb}
 use Rattle.base_rows.specs.Put.{put}
 use Rattle.num_vec2.specs.declared.vec2.{vec2}
-use Rattle.game_refusals.specs.Refusals.{badMap, badId, badTuning, outOfReach, notClear, isPresent, isAbsent, badHold, badLength}
+use Rattle.game_refusals.specs.Refusals.{badMap, badId, badTuning, outOfReach, notClear, alreadyPresent, notPresent, badHold, badLength}
 use Rattle.map_tiles.specs.Map.{isMap}
 use Rattle.map_tiles.specs.declared.tiles.Sides.{Sides}
 use Rattle.map_tiles.specs.Box.{checkBox, characterBox}
@@ -17,10 +17,10 @@ use Rattle.character.specs.Slot.{joinedSlot}
 use Rattle.character.specs.Tick.{seats}
 use Rattle.world.specs.Calls.{placeOf, inReach, pointOf}
 use Rattle.world_numbers.specs.Encoding.{worldCount, seatPlace, presentNumbers}
-use Rattle.world_buffers.specs.Buffers.{Left, refusedIn, acceptedIn, ofWorld, tuneIn, isThere, atSeat, joinAtIn, joinIn}
+use Rattle.world_buffers.specs.Buffers.{LeftWorld, refusedIn, acceptedIn, ofWorld, tuneIn, isThere, atSeat, joinAtIn, joinIn}
 
 -- ---- the length
-module _ (l : List ℤ) (a : Left) where
+module _ (l : List ℤ) (a : LeftWorld) where
   pub no-world : (length l ≡ worldCount → ⊥) → ofWorld l a ≡ refusedIn l badLength
   no-world h = rw (ne-eqb (length l) worldCount h)
 
@@ -46,7 +46,7 @@ module _ (l : List ℤ) (id : ℤ) (next : ℕ → List ℤ) (k : ℕ) (h : leng
   pub no-seat : seats ≤ k → atSeat l id next ≡ refusedIn l badId
   no-seat g = rw (eq-eqb (length l) worldCount h, ← p, le-ltb k seats g)
 
-  pub nobody : k < seats → isThere l k ≡ false → atSeat l id next ≡ refusedIn l isAbsent
+  pub nobody : k < seats → isThere l k ≡ false → atSeat l id next ≡ refusedIn l notPresent
   nobody g e = rw (eq-eqb (length l) worldCount h, ← p, lt-ltb k seats g, e)
 
   pub somebody : (m : List ℤ) → k < seats → isThere l k ≡ true → m ≡ next k → atSeat l id next ≡ acceptedIn m
@@ -59,7 +59,7 @@ module _ (s : Sides) (ts : List ℕ) (l : List ℤ) (k : ℕ) (p : vec2) where
   blocked e = rw e
 
   module _ (e : checkBox s ts p characterBox ≡ false) where
-    pub taken : isThere l k ≡ true → joinAtIn s ts l k p ≡ refusedIn l isPresent
+    pub taken : isThere l k ≡ true → joinAtIn s ts l k p ≡ refusedIn l alreadyPresent
     unfolding joinAtIn
     taken f = rw (e, f)
 
@@ -86,6 +86,6 @@ module _ (s : Sides) (ts : List ℕ) (l : List ℤ) (id x y : ℤ) (h : length l
       unfolding joinIn
       y-far f j = rw (eq-eqb (length l) worldCount h, e, ← p, lt-ltb k seats g, f, j)
 
-      pub in-reach : (a : Left) → inReach x ≡ true → inReach y ≡ true → joinAtIn s ts l k (pointOf x y) ≡ a → joinIn s ts l id x y ≡ a
+      pub in-reach : (a : LeftWorld) → inReach x ≡ true → inReach y ≡ true → joinAtIn s ts l k (pointOf x y) ≡ a → joinIn s ts l id x y ≡ a
       unfolding joinIn
       in-reach a f j q = rw (eq-eqb (length l) worldCount h, e, ← p, lt-ltb k seats g, f, j) q

@@ -36,7 +36,7 @@ use Rattle.world_numbers.proofs.Encoded.{decoding-encoding}
 use Rattle.world_numbers.proofs.Parts.{input-put}
 use Rattle.world_numbers.proofs.Rows.{encoding-long}
 use Rattle.world_numbers.proofs.Written.{rowAt, row-long, put-written, OwnRow, Own, own-encoding, encoding-own}
-use Rattle.world_buffers.specs.Buffers.{Left, has, isThere, tuneIn, atSeat, inputIn, leaveIn, joinAtIn, joinIn}
+use Rattle.world_buffers.specs.Buffers.{LeftWorld, has, isThere, tuneIn, atSeat, inputIn, leaveIn, joinAtIn, joinIn}
 use Rattle.world_buffers.specs.Leaving.{vacateIn}
 use Rattle.world_buffers.specs.Stepping.{StepBuffers, LeftByStep, leftByStep, stepIn}
 use Rattle.world_buffers.specs.Following.{leftBy, leftByAll, BufferFollows}
@@ -55,10 +55,10 @@ encoding-proper w h = record { long = encoding-long w ∙ ap₂ (λ (m n : ℕ).
 
 -- ---- a call on such numbers leaves such
 module _ (l : List ℤ) (h : Proper l) where
-  abbrev Fine : Left → Type 0
+  abbrev Fine : LeftWorld → Type 0
   Fine a = Proper (a .world)
 
-  of-world : (a : Left) → Fine a → Fine (cond (has worldCount l) a (record { number = 17; world = l }))
+  of-world : (a : LeftWorld) → Fine a → Fine (cond (has worldCount l) a (record { number = 17; world = l }))
   of-world a q = by-test Fine (has worldCount l) (λ e. q) (λ e. h)
 
   -- tune

@@ -20,16 +20,16 @@ use Rattle.world.specs.declared.call.Call.the-variants.{Join, Leave, Input, Ste
 use Rattle.world.proofs.Seats.{by-test}
 use Rattle.world_numbers.specs.Encoding.{recordCount, worldCount, recordsCount, seatPlace}
 use Rattle.world_numbers.specs.Decoding.{decoding}
-use Rattle.world_buffers.specs.Buffers.{Left, has, ofWorld, isThere, atSeat, tuneIn, inputIn, leaveIn, joinAtIn, joinIn}
+use Rattle.world_buffers.specs.Buffers.{LeftWorld, has, ofWorld, isThere, atSeat, tuneIn, inputIn, leaveIn, joinAtIn, joinIn}
 use Rattle.world_buffers.specs.Leaving.{vacateIn}
 use Rattle.world_buffers.specs.Stepping.{StepBuffers, LeftByStep, leftByStep, stepIn}
 use Rattle.world_buffers.specs.Following.{RefusalsLeave}
 
 module _ (l : List ℤ) where
-  abbrev Leaves : Left → Type 0
+  abbrev Leaves : LeftWorld → Type 0
   Leaves a = (a .number ≡ 0 → ⊥) → a .world ≡ l
 
-  of-world : (a : Left) → Leaves a → Leaves (ofWorld l a)
+  of-world : (a : LeftWorld) → Leaves a → Leaves (ofWorld l a)
   of-world a h = by-test Leaves (has worldCount l) (λ e. h) (λ e z. refl)
 
   at-seat : (id : ℤ) (next : ℕ → List ℤ) → Leaves (atSeat l id next)

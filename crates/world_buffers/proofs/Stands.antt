@@ -42,7 +42,7 @@ use Rattle.world_numbers.proofs.Encoded.{Kept}
 use Rattle.world_numbers.proofs.Parts.{input-put}
 use Rattle.world_numbers.proofs.Seats.{seat-is}
 use Rattle.world_numbers.proofs.Written.{rowAt, row-long, tuning-set, put-written, written-decoding}
-use Rattle.world_buffers.specs.Buffers.{Left, refusedIn, acceptedIn, tuneIn, isThere, atSeat, inputIn, leaveIn, joinAtIn, joinIn}
+use Rattle.world_buffers.specs.Buffers.{LeftWorld, refusedIn, acceptedIn, tuneIn, isThere, atSeat, inputIn, leaveIn, joinAtIn, joinIn}
 use Rattle.world_buffers.specs.Leaving.{vacateIn, removeIn}
 use Rattle.world_buffers.specs.Stepping.{StepBuffers, toldIn, stepSeats, leftByStep, stepIn}
 use Rattle.world_buffers.specs.Following.{leftOf, Stands, CallsStand}
@@ -52,7 +52,7 @@ use Rattle.world_buffers.proofs.SeatTurns.{seat-written}
 use Rattle.world_buffers.proofs.StepSeats.{step-decoding}
 
 -- a call on numbers answers as one by value
-record Agrees (a : Left) (b : Answer) : Type 0 where
+record Agrees (a : LeftWorld) (b : Answer) : Type 0 where
   number : a .number ≡ b .number
   world : decoding seats (a .world) ≡ b .world
 
@@ -67,8 +67,8 @@ module _ (l : List ℤ) (long : length l ≡ worldCount) where
   pub there : (k : ℕ) → k < seats → slotAt (w .slots) k .present ≡ isThere l k
   there k h = ap (λ (x : Slot). x .present) (seat-is seats k l h) ∙ present-is (rowAt l k) (isThere l k) (ap isSet (sym (first-in l k)))
 
-  of-world : (a : Left) (b : Answer) → Agrees a b → Agrees (cond (eqb (length l) worldCount) a (refusedIn l 17)) b
-  of-world a b h = subst (λ (x : Left). Agrees x b) (sym (a-world l a long)) h
+  of-world : (a : LeftWorld) (b : Answer) → Agrees a b → Agrees (cond (eqb (length l) worldCount) a (refusedIn l 17)) b
+  of-world a b h = subst (λ (x : LeftWorld). Agrees x b) (sym (a-world l a long)) h
 
   -- ---- tune
   tune-agrees : (index z : ℤ) → Agrees (tuneIn l index z) (tune w index z)

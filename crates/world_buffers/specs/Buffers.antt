@@ -8,7 +8,7 @@ use lib.IntN.{ℤ}
 use lib.ListN.{length, set}
 use Rattle.base_rows.specs.Put.{put}
 use Rattle.num_vec2.specs.declared.vec2.{vec2}
-use Rattle.game_refusals.specs.Refusals.{badMap, badId, badTuning, outOfReach, notClear, isPresent, isAbsent, badHold, badLength}
+use Rattle.game_refusals.specs.Refusals.{badMap, badId, badTuning, outOfReach, notClear, alreadyPresent, notPresent, badHold, badLength}
 use Rattle.map_tiles.specs.Map.{isMap}
 use Rattle.map_tiles.specs.declared.tiles.Sides.{Sides}
 use Rattle.map_tiles.specs.Box.{checkBox, characterBox}
@@ -28,26 +28,26 @@ abbrev pub has : ℕ → List ℤ → Bool
 has n l = eqb (length l) n
 
 -- a call's number, and the numbers of the world that it leaves
-pub record Left : Type 0 where
+pub record LeftWorld : Type 0 where
   pub number : ℕ
   pub world : List ℤ
 
 -- a refusal's number, and the numbers as they were
-abbrev pub refusedIn : List ℤ → ℕ → Left
+abbrev pub refusedIn : List ℤ → ℕ → LeftWorld
 refusedIn l k = record { number = k; world = l }
 
-abbrev pub acceptedIn : List ℤ → Left
+abbrev pub acceptedIn : List ℤ → LeftWorld
 acceptedIn l = record { number = 0; world = l }
 
 -- a call on the numbers of a world: 17 where they are not as many
-abbrev pub ofWorld : List ℤ → Left → Left
+abbrev pub ofWorld : List ℤ → LeftWorld → LeftWorld
 ofWorld l a = cond (has worldCount l) a (refusedIn l badLength)
 
-unfoldable pub freshIn : List ℤ → Left
+unfoldable pub freshIn : List ℤ → LeftWorld
 freshIn l = ofWorld l (acceptedIn (encoding (fresh seats)))
 
 -- one number; 3 where the index has no tuning, 16 where a hold is none
-unfoldable pub tuneIn : List ℤ → ℤ → ℤ → Left
+unfoldable pub tuneIn : List ℤ → ℤ → ℤ → LeftWorld
 tuneIn l index z =
     let k = placeOf tuningCount index in
     ofWorld l (cond (ltb k tuningCount) (cond (mayTune k z) (acceptedIn (set l k z)) (refusedIn l badHold)) (refusedIn l badTuning))
@@ -57,24 +57,24 @@ abbrev pub isThere : List ℤ → ℕ → Bool
 isThere l k = isSet (numberAt l (seatPlace k))
 
 -- what leave and input do at a seat: 2 where there is none, 8 where nobody is there
-abbrev pub atSeat : List ℤ → ℤ → (ℕ → List ℤ) → Left
-atSeat l id next = let k = placeOf seats id in ofWorld l (cond (ltb k seats) (cond (isThere l k) (acceptedIn (next k)) (refusedIn l isAbsent)) (refusedIn l badId))
+abbrev pub atSeat : List ℤ → ℤ → (ℕ → List ℤ) → LeftWorld
+atSeat l id next = let k = placeOf seats id in ofWorld l (cond (ltb k seats) (cond (isThere l k) (acceptedIn (next k)) (refusedIn l notPresent)) (refusedIn l badId))
 
 -- the five numbers of the input
-unfoldable pub inputIn : List ℤ → ℤ → PlayerInput → Left
+unfoldable pub inputIn : List ℤ → ℤ → PlayerInput → LeftWorld
 inputIn l id i = atSeat l id (λ k. put l (seatPlace k + recordCount) (inputNumbers i))
 
 -- the seat, and the hooks that it releases
-unfoldable pub leaveIn : List ℤ → ℤ → Left
+unfoldable pub leaveIn : List ℤ → ℤ → LeftWorld
 leaveIn l id = atSeat l id (vacateIn l)
 
 -- a join at the seat k: 5 where the box isn't clear, 7 where somebody is there
-unfoldable pub joinAtIn : Sides → List ℕ → List ℤ → ℕ → vec2 → Left
+unfoldable pub joinAtIn : Sides → List ℕ → List ℤ → ℕ → vec2 → LeftWorld
 joinAtIn s ts l k p =
-    cond (checkBox s ts p characterBox) (refusedIn l notClear) (cond (isThere l k) (refusedIn l isPresent) (acceptedIn (put l (seatPlace k) (presentNumbers (joinedSlot p)))))
+    cond (checkBox s ts p characterBox) (refusedIn l notClear) (cond (isThere l k) (refusedIn l alreadyPresent) (acceptedIn (put l (seatPlace k) (presentNumbers (joinedSlot p)))))
 
 -- 1 where the map is none, 2 where the id has no seat, 4 where x or y is out of reach
-unfoldable pub joinIn : Sides → List ℕ → List ℤ → ℤ → ℤ → ℤ → Left
+unfoldable pub joinIn : Sides → List ℕ → List ℤ → ℤ → ℤ → ℤ → LeftWorld
 joinIn s ts l id x y =
     let k = placeOf seats id in
     ofWorld l (

@@ -14,15 +14,15 @@ use Rattle.world.specs.World.{fresh}
 use Rattle.world.specs.Run.{inputOf, ran, after}
 use Rattle.world_numbers.specs.Encoding.{worldCount, recordsCount, encoding}
 use Rattle.world_numbers.specs.Decoding.{decoding}
-use Rattle.world_buffers.specs.Buffers.{Left, joinIn, leaveIn, inputIn, tuneIn}
+use Rattle.world_buffers.specs.Buffers.{LeftWorld, joinIn, leaveIn, inputIn, tuneIn}
 use Rattle.world_buffers.specs.Stepping.{StepBuffers, LeftByStep, stepIn}
 
 -- a step's number, and the numbers of the world that it leaves
-abbrev pub leftOf : LeftByStep → Left
+abbrev pub leftOf : LeftByStep → LeftWorld
 leftOf r = record { number = r .number; world = r .world }
 
 -- a call's; b is what a step is lent to tell
-abbrev pub leftBy : Sides → List ℕ → StepBuffers → List ℤ → Call → Left
+abbrev pub leftBy : Sides → List ℕ → StepBuffers → List ℤ → Call → LeftWorld
 leftBy s ts b l (Join id x y) = joinIn s ts l id x y
 leftBy s ts b l (Leave id) = leaveIn l id
 leftBy s ts b l (Input id d x y j h) = inputIn l id (inputOf d x y j h)
@@ -41,16 +41,16 @@ abbrev pub CallsStand : Type 0
 CallsStand = (s : Sides) (ts : List ℕ) (b : StepBuffers) (l : List ℤ) (c : Call) → length l ≡ worldCount → length (b .records) ≡ recordsCount → length (b .removed) ≡ seats → ((k : ℕ) → IsI32 (numberAt l k)) → Stands s ts b l c
 
 -- what a step tells; any other call tells nothing in b
-abbrev pub toldBy : Sides → List ℕ → StepBuffers → List ℤ → Call → StepBuffers
-toldBy s ts b l (Join id x y) = b
-toldBy s ts b l (Leave id) = b
-toldBy s ts b l (Input id d x y j h) = b
-toldBy s ts b l (Tune index z) = b
-toldBy s ts b l Step = stepIn s ts l b .told
+abbrev pub toldInto : Sides → List ℕ → StepBuffers → List ℤ → Call → StepBuffers
+toldInto s ts b l (Join id x y) = b
+toldInto s ts b l (Leave id) = b
+toldInto s ts b l (Input id d x y j h) = b
+toldInto s ts b l (Tune index z) = b
+toldInto s ts b l Step = stepIn s ts l b .told
 
 -- a refused call leaves every number of every buffer as it was, whatever their lengths
 abbrev pub RefusalsLeave : Type 0
-RefusalsLeave = (s : Sides) (ts : List ℕ) (b : StepBuffers) (l : List ℤ) (c : Call) → (leftBy s ts b l c .number ≡ 0 → ⊥) → (leftBy s ts b l c .world ≡ l) × (toldBy s ts b l c ≡ b)
+RefusalsLeave = (s : Sides) (ts : List ℕ) (b : StepBuffers) (l : List ℤ) (c : Call) → (leftBy s ts b l c .number ≡ 0 → ⊥) → (leftBy s ts b l c .world ≡ l) × (toldInto s ts b l c ≡ b)
 
 -- ---- every list of calls on a fresh world
 

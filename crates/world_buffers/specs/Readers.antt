@@ -23,20 +23,20 @@ queryCount (query.PlayerInput id) = inputCount
 queryCount (query.Tuning index) = 1
 
 -- a reader's number, and what it leaves in the reader's buffer
-pub record Told : Type 0 where
+pub record ReadTold : Type 0 where
   pub number : ℕ
   pub numbers : List ℤ
 
 -- a refusal's number, and the numbers as they were
-abbrev pub untold : List ℤ → ℕ → Told
+abbrev pub untold : List ℤ → ℕ → ReadTold
 untold out k = record { number = k; numbers = out }
 
 -- what was read, in place of the numbers that the buffer had
-abbrev pub toldAs : List ℤ → Told
+abbrev pub toldAs : List ℤ → ReadTold
 toldAs new = record { number = 0; numbers = new }
 
 -- a reading as numbers
-abbrev pub readingTold : List ℤ → Reading → Told
+abbrev pub readingTold : List ℤ → Reading → ReadTold
 readingTold out (reading.Refused k) = untold out k
 readingTold out (reading.Record c) = toldAs (coreNumbers c)
 readingTold out (reading.FloorMark g) = toldAs (flag g ∷ [])
@@ -44,5 +44,5 @@ readingTold out (reading.PlayerInput i) = toldAs (inputNumbers i)
 readingTold out (reading.Tuning z) = toldAs (z ∷ [])
 
 -- a reading of the world that the numbers l stand for
-unfoldable pub readIn : Query → List ℤ → List ℤ → Told
+unfoldable pub readIn : Query → List ℤ → List ℤ → ReadTold
 readIn q l out = cond (has worldCount l && has (queryCount q) out) (readingTold out (readOf seats (decoding seats l) q)) (untold out badLength)

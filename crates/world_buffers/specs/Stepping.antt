@@ -72,8 +72,8 @@ abbrev pub OfStep : List ℤ → List Bool → (Stepped → Type 0) → Type 0
 OfStep rows marks P = (a : Stepped) → RowsOf a rows marks → P a
 
 -- an accepted step who removes r: from the first numbers and buffers to the second
-abbrev pub Told : Removed → List ℤ → StepBuffers → List ℤ → StepBuffers → Stepped → Type 0
-Told r l b m d a = a .number ≡ 0 → a .removed ≡ r → leftByStep l b a ≡ record { number = 0; world = m; told = d }
+abbrev pub StepWritten : Removed → List ℤ → StepBuffers → List ℤ → StepBuffers → Stepped → Type 0
+StepWritten r l b m d a = a .number ≡ 0 → a .removed ≡ r → leftByStep l b a ≡ record { number = 0; world = m; told = d }
 
 -- these are the floor marks of the slots ss
 abbrev pub MarksOf : List Slot → List Bool → Type 0

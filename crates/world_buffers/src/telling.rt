@@ -19,7 +19,7 @@ ghost use Rattle.game_records.specs.Numbers.{coreCount};
 ghost use Rattle.character.specs.Tick.{seats};
 ghost use Rattle.world_numbers.specs.Encoding.{worldCount, recordsCount};
 ghost use Rattle.world_buffers.specs.Leaving.{ListsSeats};
-ghost use Rattle.world_buffers.specs.Stepping.{seatWritten, stepSeats, leftByStep, OfStep, Told, MarksOf};
+ghost use Rattle.world_buffers.specs.Stepping.{seatWritten, stepSeats, leftByStep, OfStep, StepWritten, MarksOf};
 
 // Where somebody is at a seat, it takes the numbers of a record and a floor mark.
 fn write_seat(world: &mut [i32], seat: usize, core: &[i32], grounded: bool)
@@ -55,7 +55,7 @@ pub fn tell_step(
     count: &mut usize,
 )
     requires { ⌜ (length (now rows) ≡ recordsCount) × (length (now world) ≡ worldCount) × (length (now records) ≡ recordsCount) × (length (now removed) ≡ seats) × ListsSeats gone ⌝ }
-    ensures { λ _. ⌜ OfStep (now (rows .entry)) (now (marks .entry)) (Told gone (now (world .entry)) (record { records = now (records .entry); removed = now (removed .entry); count = now (count .entry) }) (now (world .exit)) (record { records = now (records .exit); removed = now (removed .exit); count = now (count .exit) })) ⌝ }
+    ensures { λ _. ⌜ OfStep (now (rows .entry)) (now (marks .entry)) (StepWritten gone (now (world .entry)) (record { records = now (records .entry); removed = now (removed .entry); count = now (count .entry) }) (now (world .exit)) (record { records = now (records .exit); removed = now (removed .exit); count = now (count .exit) })) ⌝ }
 {
     let ids = gone.ids;
     write_seats(world, rows, marks);

@@ -23,7 +23,7 @@ use Rattle.world.specs.Calls.{placeOf, inReach, pointOf}
 use Rattle.world.specs.Run.{inputOf}
 use Rattle.world.proofs.Seats.{by-test}
 use Rattle.world_numbers.specs.Encoding.{recordCount, worldCount, seatPlace, presentNumbers}
-use Rattle.world_buffers.specs.Buffers.{Left, refusedIn, acceptedIn, has, ofWorld, tuneIn, isThere, atSeat, inputIn, leaveIn, joinAtIn, joinIn}
+use Rattle.world_buffers.specs.Buffers.{LeftWorld, refusedIn, acceptedIn, has, ofWorld, tuneIn, isThere, atSeat, inputIn, leaveIn, joinAtIn, joinIn}
 use Rattle.world_buffers.specs.Leaving.{vacateIn}
 use Rattle.world_buffers.specs.Stepping.{StepBuffers}
 use Rattle.world_buffers.specs.Following.{leftBy}
@@ -38,7 +38,7 @@ abbrev pub storedIn : List ℤ → PlayerInput → ℕ → List ℤ
 storedIn l i k = put l (seatPlace k + recordCount) (inputNumbers i)
 
 -- ---- what becomes of a call on l: refused, or under what was tested the numbers m
-pub record Decided (l m : List ℤ) (F : Type 0) (a : Left) : Type 0 where
+pub record Decided (l m : List ℤ) (F : Type 0) (a : LeftWorld) : Type 0 where
   pub world : a .world ≡ cond (eqb (a .number) 0) m l
   pub facts : a .number ≡ 0 → F
 
@@ -49,14 +49,14 @@ module _ (l m : List ℤ) (F : Type 0) where
   yes-in : F → Decided l m F (acceptedIn m)
   yes-in f = record { world = refl; facts = λ z. f }
 
-  of-world : (a : Left) → (length l ≡ worldCount → Decided l m F a) → Decided l m F (ofWorld l a)
+  of-world : (a : LeftWorld) → (length l ≡ worldCount → Decided l m F a) → Decided l m F (ofWorld l a)
   of-world a f = by-test (Decided l m F) (has worldCount l) (λ e. f (eqb-true (length l) worldCount e)) (λ e. record { world = refl; facts = λ z. absurd (omega arith) })
 
 module _ (l : List ℤ) where
   seat-decided : (id : ℤ) (next : ℕ → List ℤ) → let k = placeOf seats id in Decided l (next k) (Within l k seats) (atSeat l id next)
   seat-decided id next =
       let k = placeOf seats id in
-      let D : Left → Type 0 = Decided l (next k) (Within l k seats) in
+      let D : LeftWorld → Type 0 = Decided l (next k) (Within l k seats) in
       of-world l (next k) (Within l k seats) _ (λ h. by-test D (ltb k seats) (λ e. by-test D (isThere l k) (λ f. yes-in l (next k) _ (h, ltb-true k seats e)) (λ f. record { world = refl; facts = λ z. absurd (omega arith) })) (λ e. record { world = refl; facts = λ z. absurd (omega arith) }))
 
   pub leave-decided : (id : ℤ) → let k = placeOf seats id in Decided l (vacateIn l k) (Within l k seats) (leaveIn l id)
@@ -71,7 +71,7 @@ module _ (l : List ℤ) where
   unfolding tuneIn
   tune-decided index z =
       let k = placeOf tuningCount index in
-      let D : Left → Type 0 = Decided l (set l k z) (Within l k tuningCount) in
+      let D : LeftWorld → Type 0 = Decided l (set l k z) (Within l k tuningCount) in
       of-world l (set l k z) (Within l k tuningCount) _ (λ h. by-test D (ltb k tuningCount) (λ e. by-test D (mayTune k z) (λ f. yes-in l (set l k z) _ (h, ltb-true k tuningCount e)) (λ f. record { world = refl; facts = λ q. absurd (omega arith) })) (λ e. record { world = refl; facts = λ q. absurd (omega arith) }))
 
   pub join-decided : (s : Sides) (ts : List ℕ) (id x y : ℤ) → let k = placeOf seats id in Decided l (put l (seatPlace k) (presentNumbers (joinedSlot (pointOf x y)))) (Within l k seats) (joinIn s ts l id x y)
@@ -80,7 +80,7 @@ module _ (l : List ℤ) where
       let k = placeOf seats id in
       let p = pointOf x y in
       let m = put l (seatPlace k) (presentNumbers (joinedSlot p)) in
-      let D : Left → Type 0 = Decided l m (Within l k seats) in
+      let D : LeftWorld → Type 0 = Decided l m (Within l k seats) in
       of-world l m (Within l k seats) _ (λ h.
       by-test D (isMap s ts)
       (λ a. by-test D (ltb k seats)
@@ -92,7 +92,7 @@ module _ (l : List ℤ) where
 
 -- ---- in which number a call ends, by how many numbers there are and who is at the seat that it names
 module _ (l m : List ℤ) (size : length l ≡ length m) where
-  world-number : (a c : Left) → a .number ≡ c .number → ofWorld l a .number ≡ ofWorld m c .number
+  world-number : (a c : LeftWorld) → a .number ≡ c .number → ofWorld l a .number ≡ ofWorld m c .number
   world-number a c e = ap (λ (i : ℕ). cond (eqb i worldCount) a (refusedIn l 17) .number) size ∙ go (has worldCount m)
     where
       go : (b : Bool) → cond b a (refusedIn l 17) .number ≡ cond b c (refusedIn m 17) .number
@@ -100,14 +100,14 @@ module _ (l m : List ℤ) (size : length l ≡ length m) where
       go false = refl
 
   -- two tests with one outcome
-  both : (a b : Bool) (t u x y : Left) → a ≡ b → t .number ≡ u .number → x .number ≡ y .number → cond a t x .number ≡ cond b u y .number
+  both : (a b : Bool) (t u x y : LeftWorld) → a ≡ b → t .number ≡ u .number → x .number ≡ y .number → cond a t x .number ≡ cond b u y .number
   both true true t u x y e p q = p
   both false false t u x y e p q = q
   both true false t u x y e p q = absurd (true≢false e)
   both false true t u x y e p q = absurd (true≢false (sym e))
 
   -- a test that is one for both
-  same-test : (b : Bool) (t u x y : Left) → (b ≡ true → t .number ≡ u .number) → x .number ≡ y .number → cond b t x .number ≡ cond b u y .number
+  same-test : (b : Bool) (t u x y : LeftWorld) → (b ≡ true → t .number ≡ u .number) → x .number ≡ y .number → cond b t x .number ≡ cond b u y .number
   same-test true t u x y p q = p refl
   same-test false t u x y p q = q
 

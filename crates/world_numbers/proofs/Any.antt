@@ -14,7 +14,7 @@ use Rattle.character.specs.Tick.{slotAt}
 use Rattle.character.specs.Records.{fromNet}
 use Rattle.character_laws.specs.Representable.{Representable}
 use Rattle.character_laws.proofs.FromNet.{from-net-representable}
-use Rattle.game_records.specs.Numbers.{numberAt, coreIn, inputIn}
+use Rattle.game_records.specs.Numbers.{numberAt, coreIn, inputOfNumbers}
 use Rattle.game_tuning.specs.Tuning.{tuningCount}
 use Rattle.world.specs.Settled.{Settled}
 use Rattle.world_numbers.specs.Encoding.{recordCount, markPlace, seatCount}
@@ -51,7 +51,7 @@ seat-kept : (l : List ℤ) → AllI32 l → Kept (seatOf l)
 unfolding seatOf
 seat-kept l h = go (isSet (numberAt l 0))
   where
-    go : (b : Bool) → Kept (cond b (withGrounded (withInput (withCharacter (joinedSlot (fromNet (readable (coreIn (drop 1 l))) .pos)) (fromNet (readable (coreIn (drop 1 l))))) (inputIn (drop recordCount l))) (isSet (numberAt l markPlace))) emptySlot)
+    go : (b : Bool) → Kept (cond b (withGrounded (withInput (withCharacter (joinedSlot (fromNet (readable (coreIn (drop 1 l))) .pos)) (fromNet (readable (coreIn (drop 1 l))))) (inputOfNumbers (drop recordCount l))) (isSet (numberAt l markPlace))) emptySlot)
     go true = record { somebody = λ e. seat-representable (drop 1 l) (drop-i32 1 l h); nobody = λ e. absurd (true≢false e) }
     go false = record { somebody = λ e. absurd (true≢false (sym e)); nobody = λ e. refl }
 

@@ -9,7 +9,7 @@ use lib.IntN.{ℤ}
 use lib.ListN.{length}
 use lib.Seq.{take-at, drop-at}
 use borrow.Author.Tests.{leb-true}
-use Rattle.game_records.specs.Numbers.{coreNumbers, inputNumbers, coreIn, inputIn}
+use Rattle.game_records.specs.Numbers.{coreNumbers, inputNumbers, coreIn, inputOfNumbers}
 use Rattle.character.specs.Slot.{emptySlot, joinedSlot, withCharacter, withInput, withGrounded}
 use Rattle.character.specs.Tick.{slotAt, nowhere}
 use Rattle.character.specs.declared.Character.{Character}
@@ -60,7 +60,7 @@ flag-back false = refl
 
 -- a seat, whatever stands after it
 pub seat-back : (s : Slot) (l : List ℤ) → Kept s → seatOf (seatNumbers s ++ l) ≡ s
-unfolding seatOf seatNumbers presentNumbers recordNumbers coreNumbers inputNumbers isSet coreIn inputIn
+unfolding seatOf seatNumbers presentNumbers recordNumbers coreNumbers inputNumbers isSet coreIn inputOfNumbers
 seat-back s l k = go (s .present) refl
   where
     go : (b : Bool) → s .present ≡ b → seatOf (seatNumbers s ++ l) ≡ s

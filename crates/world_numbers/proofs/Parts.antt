@@ -11,7 +11,7 @@ use lib.ListN.{length, take, drop, length-drop}
 use lib.Seq.{getD-take, getD-drop}
 use Rattle.base_rows.specs.Put.{put}
 use Rattle.base_rows.proofs.Puts.{drop-put, drop-put-add, part-else, put-else}
-use Rattle.game_records.specs.Numbers.{coreCount, inputCount, numberAt, coreNumbers, inputNumbers, coreIn, inputIn}
+use Rattle.game_records.specs.Numbers.{coreCount, inputCount, numberAt, coreNumbers, inputNumbers, coreIn, inputOfNumbers}
 use Rattle.game_records.specs.declared.CharacterCore.{CharacterCore}
 use Rattle.game_records.specs.declared.PlayerInput.{PlayerInput}
 use Rattle.game_records.proofs.Back.{core-long, input-long, core-back, input-back}
@@ -42,15 +42,15 @@ unfolding coreIn
 core-same l m h =
     rw (h 0 (lit< tt), h 1 (lit< tt), h 2 (lit< tt), h 3 (lit< tt), h 4 (lit< tt), h 5 (lit< tt), h 6 (lit< tt), h 7 (lit< tt), h 8 (lit< tt), h 9 (lit< tt), h 10 (lit< tt), h 11 (lit< tt), h 12 (lit< tt), h 13 (lit< tt), h 14 (lit< tt))
 
-input-same : (l m : List ℤ) → Alike inputCount l m → inputIn l ≡ inputIn m
-unfolding inputIn
+input-same : (l m : List ℤ) → Alike inputCount l m → inputOfNumbers l ≡ inputOfNumbers m
+unfolding inputOfNumbers
 input-same l m h = rw (h 0 (lit< tt), h 1 (lit< tt), h 2 (lit< tt), h 3 (lit< tt), h 4 (lit< tt))
 
 -- ---- a seat by its parts
 abbrev slotFrom : Bool → CharacterCore → PlayerInput → Bool → Slot
 slotFrom b n i g = let c = fromNet (readable n) in cond b (withGrounded (withInput (withCharacter (joinedSlot (c .pos)) c) i) g) emptySlot
 
-parts : (l : List ℤ) (b : Bool) (n : CharacterCore) (i : PlayerInput) (g : Bool) → isSet (numberAt l 0) ≡ b → coreIn (drop 1 l) ≡ n → inputIn (drop recordCount l) ≡ i → isSet (numberAt l markPlace) ≡ g → seatOf l ≡ slotFrom b n i g
+parts : (l : List ℤ) (b : Bool) (n : CharacterCore) (i : PlayerInput) (g : Bool) → isSet (numberAt l 0) ≡ b → coreIn (drop 1 l) ≡ n → inputOfNumbers (drop recordCount l) ≡ i → isSet (numberAt l markPlace) ≡ g → seatOf l ≡ slotFrom b n i g
 unfolding seatOf
 parts l b n i g p q r s = rw (p, q, r, s)
 
@@ -112,7 +112,7 @@ module _ (m : List ℤ) (long : seatCount ≤ length m) where
       parts (put m recordCount w) true (coreIn (drop 1 m)) i (isSet (numberAt m markPlace))
       (ap isSet (put-else m recordCount w 0 (pos 0) (omega arith) (inl (omega arith))) ∙ e)
       (core-same _ _ (untouched m recordCount w 1 coreCount (omega arith) (inl (omega arith))))
-      (ap inputIn (drop-put m recordCount w (omega arith)) ∙ input-back i (drop (recordCount + length w) m))
+      (ap inputOfNumbers (drop-put m recordCount w (omega arith)) ∙ input-back i (drop (recordCount + length w) m))
       (ap isSet (put-else m recordCount w markPlace (pos 0) (omega arith) (inr (omega arith))))
       ∙ rw e refl
 
@@ -126,7 +126,7 @@ module _ (m : List ℤ) (long : seatCount ≤ length m) where
   core-put n e =
       let w = coreNumbers n in
       let k = core-long n in
-      parts (put m 1 w) true n (inputIn (drop recordCount m)) (isSet (numberAt m markPlace))
+      parts (put m 1 w) true n (inputOfNumbers (drop recordCount m)) (isSet (numberAt m markPlace))
       (ap isSet (put-else m 1 w 0 (pos 0) (omega arith) (inl (omega arith))) ∙ e)
       (ap coreIn (drop-put m 1 w (omega arith)) ∙ core-back n (drop (1 + length w) m))
       (input-same _ _ (untouched m 1 w recordCount inputCount (omega arith) (inr (omega arith))))
@@ -138,7 +138,7 @@ module _ (m : List ℤ) (long : seatCount ≤ length m) where
   unfolding seatOf
   mark-put g e =
       let w = flag g ∷ [] in
-      parts (put m markPlace w) true (coreIn (drop 1 m)) (inputIn (drop recordCount m)) g
+      parts (put m markPlace w) true (coreIn (drop 1 m)) (inputOfNumbers (drop recordCount m)) g
       (ap isSet (put-else m markPlace w 0 (pos 0) (omega arith) (inl (omega arith))) ∙ e)
       (core-same _ _ (untouched m markPlace w 1 coreCount (omega arith) (inl (omega arith))))
       (input-same _ _ (untouched m markPlace w recordCount inputCount (omega arith) (inl (omega arith))))
@@ -152,9 +152,9 @@ module _ (m : List ℤ) (long : seatCount ≤ length m) where
       let w = retractedNumbers in
       let d = drop 1 m in
       let z = length-drop 1 m in
-      parts (put m hookPlace w) true (retractedCore d) (inputIn (drop recordCount m)) (isSet (numberAt m markPlace))
+      parts (put m hookPlace w) true (retractedCore d) (inputOfNumbers (drop recordCount m)) (isSet (numberAt m markPlace))
       (ap isSet (put-else m hookPlace w 0 (pos 0) (omega arith) (inl (omega arith))) ∙ e)
       (ap coreIn (drop-put-add m 1 8 w (omega arith)) ∙ retracted-in d (omega arith))
       (input-same _ _ (untouched m hookPlace w recordCount inputCount (omega arith) (inr (omega arith))))
       (ap isSet (put-else m hookPlace w markPlace (pos 0) (omega arith) (inr (omega arith))))
-      ∙ (rw e (ap (λ (c : Character). withGrounded (withInput (withCharacter (joinedSlot (c .pos)) c) (inputIn (drop recordCount m))) (isSet (numberAt m markPlace))) (retracted-read d)))
+      ∙ (rw e (ap (λ (c : Character). withGrounded (withInput (withCharacter (joinedSlot (c .pos)) c) (inputOfNumbers (drop recordCount m))) (isSet (numberAt m markPlace))) (retracted-read d)))

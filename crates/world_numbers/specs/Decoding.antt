@@ -9,7 +9,7 @@ use Rattle.num_convert.specs.Casts.{IsI32}
 use Rattle.map_tiles.specs.declared.tiles.Sides.{Sides}
 use Rattle.world.specs.declared.call.Call.{Call}
 use Rattle.game_records.specs.declared.CharacterCore.{CharacterCore}
-use Rattle.game_records.specs.Numbers.{numberAt, coreIn, inputIn}
+use Rattle.game_records.specs.Numbers.{numberAt, coreIn, inputOfNumbers}
 use Rattle.character.specs.Slot.{emptySlot, joinedSlot, withCharacter, withInput, withGrounded}
 use Rattle.character.specs.declared.Slot.{Slot}
 use Rattle.character.specs.Records.{fromNet}
@@ -40,7 +40,7 @@ readable n = withTicks n (fromZero (n .«hook_tick» .0))
 
 -- the seat whose numbers l starts with; where nobody is there the rest of them says nothing
 unfoldable pub seatOf : List ℤ → Slot
-seatOf l = let c = fromNet (readable (coreIn (drop 1 l))) in cond (isSet (numberAt l 0)) (withGrounded (withInput (withCharacter (joinedSlot (c .pos)) c) (inputIn (drop recordCount l))) (isSet (numberAt l markPlace))) emptySlot
+seatOf l = let c = fromNet (readable (coreIn (drop 1 l))) in cond (isSet (numberAt l 0)) (withGrounded (withInput (withCharacter (joinedSlot (c .pos)) c) (inputOfNumbers (drop recordCount l))) (isSet (numberAt l markPlace))) emptySlot
 
 -- n rows of k numbers, one after the other, each read by f
 unfoldable pub eachIn : {A : Type 0} → (List ℤ → A) → ℕ → ℕ → List ℤ → List A

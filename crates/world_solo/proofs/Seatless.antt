@@ -25,7 +25,7 @@ use Rattle.world.specs.declared.Stepped.{Stepped}
 use Rattle.world.specs.declared.World.{World}
 use Rattle.world.proofs.Seats.{by-test}
 use Rattle.world.proofs.Settled.{answer-settled}
-use Rattle.world_solo.specs.Solo.{forOther, struckOut, Seen, seenBy, seen}
+use Rattle.world_solo.specs.Solo.{forOther, withoutOther, Seen, seenBy, seen}
 use Rattle.base_turns.proofs.Own.{On}
 
 -- ---- a step has one record for each slot
@@ -97,14 +97,14 @@ other-shows n k (Input id d x y j h) e = refl
 other-shows n k (Tune index z) e = refl
 other-shows n k Step e = absurd (true≢false (sym e))
 
-struck-nobody : (n k : ℕ) (cs : List Call) → nobody cs ≡ nobody (struckOut n k cs)
+struck-nobody : (n k : ℕ) (cs : List Call) → nobody cs ≡ nobody (withoutOther n k cs)
 struck-nobody n k [] = refl
 struck-nobody n k (c ∷ cs) = ap (λ (b : List Seen). nobodyBy c ++ b) (struck-nobody n k cs) ∙ go (forOther n k c) refl
   where
-    go : (b : Bool) → forOther n k c ≡ b → nobodyBy c ++ nobody (struckOut n k cs) ≡ nobody (cond b (struckOut n k cs) (c ∷ struckOut n k cs))
-    go true e = ap (λ (a : List Seen). a ++ nobody (struckOut n k cs)) (other-shows n k c e)
+    go : (b : Bool) → forOther n k c ≡ b → nobodyBy c ++ nobody (withoutOther n k cs) ≡ nobody (cond b (withoutOther n k cs) (c ∷ withoutOther n k cs))
+    go true e = ap (λ (a : List Seen). a ++ nobody (withoutOther n k cs)) (other-shows n k c e)
     go false e = refl
 
 -- what is seen depends on the calls that are not struck out alone
-pub seen-seatless : (n : ℕ) (s : Sides) (ts : List ℕ) (k : ℕ) → n ≤ k → (cs : List Call) (w : World) → Settled n w → seen n s ts k w cs ≡ nobody (struckOut n k cs)
+pub seen-seatless : (n : ℕ) (s : Sides) (ts : List ℕ) (k : ℕ) → n ≤ k → (cs : List Call) (w : World) → Settled n w → seen n s ts k w cs ≡ nobody (withoutOther n k cs)
 seen-seatless n s ts k l cs w g = seen-nobody n s ts k l cs w g ∙ struck-nobody n k cs

@@ -17,7 +17,7 @@ use Rattle.world.specs.Run.{ran}
 use Rattle.world.specs.Settled.{Settled}
 use Rattle.world.specs.declared.World.{World}
 use Rattle.world.proofs.Settled.{answer-settled, after-settled}
-use Rattle.world_solo.specs.Solo.{forOther, struckOut, SoloHeat, Seen, seen, Solo}
+use Rattle.world_solo.specs.Solo.{forOther, withoutOther, SoloHeat, Seen, seen, Solo}
 use Rattle.world_solo.proofs.Calls.{Left, leftBy, other-call, alone, own-call, free-next}
 use Rattle.world_solo.proofs.Free.{Free, empty-free}
 use Rattle.world_solo.proofs.Seatless.{nobody, seen-seatless}
@@ -32,16 +32,16 @@ module _ (n : ℕ) (s : Sides) (ts : List ℕ) (k : ℕ) (l : k < n) where
   abbrev then : Left → List Call → List Seen
   then a cs = a .shown ++ seenAlone (a .slot) (a .tunings) cs
 
-  seen-alone : (cs : List Call) (w : World) → Settled n w → Free (slotAt (w .slots) k) → SoloHeat n s ts w cs → seen n s ts k w cs ≡ seenAlone (slotAt (w .slots) k) (w .tunings) (struckOut n k cs)
+  seen-alone : (cs : List Call) (w : World) → Settled n w → Free (slotAt (w .slots) k) → SoloHeat n s ts w cs → seen n s ts k w cs ≡ seenAlone (slotAt (w .slots) k) (w .tunings) (withoutOther n k cs)
   seen-alone [] w g f h = refl
   seen-alone (c ∷ cs) w g f h = ap (λ (ys : List Seen). a .shown ++ ys) (seen-alone cs (ran n s ts w c .world) (answer-settled n s ts w c g) (free-next n s ts k l w c g f (h .0)) (h .1)) ∙ go (forOther n k c) refl
     where
       a : Left
       a = leftBy k (ran n s ts w c) c
 
-      go : (b : Bool) → forOther n k c ≡ b → then a (struckOut n k cs) ≡ seenAlone (slotAt (w .slots) k) (w .tunings) (cond b (struckOut n k cs) (c ∷ struckOut n k cs))
-      go true e = ap (λ (a : Left). then a (struckOut n k cs)) (other-call n s ts k l w c g f e)
-      go false e = ap (λ (a : Left). then a (struckOut n k cs)) (own-call n s ts k l w g c f e (h .0))
+      go : (b : Bool) → forOther n k c ≡ b → then a (withoutOther n k cs) ≡ seenAlone (slotAt (w .slots) k) (w .tunings) (cond b (withoutOther n k cs) (c ∷ withoutOther n k cs))
+      go true e = ap (λ (a : Left). then a (withoutOther n k cs)) (other-call n s ts k l w c g f e)
+      go false e = ap (λ (a : Left). then a (withoutOther n k cs)) (own-call n s ts k l w g c f e (h .0))
 
 fresh-free : (n k : ℕ) → k < n → Free (slotAt (fresh n .slots) k)
 unfolding fresh

@@ -32,9 +32,9 @@ forOther n k (Tune index z) = false
 forOther n k Step = false
 
 -- what is left of a list without them, in the same order
-abbrev pub struckOut : ℕ → ℕ → List Call → List Call
-struckOut n k [] = []
-struckOut n k (c ∷ cs) = cond (forOther n k c) (struckOut n k cs) (c ∷ struckOut n k cs)
+abbrev pub withoutOther : ℕ → ℕ → List Call → List Call
+withoutOther n k [] = []
+withoutOther n k (c ∷ cs) = cond (forOther n k c) (withoutOther n k cs) (c ∷ withoutOther n k cs)
 
 -- ---- a solo heat
 
@@ -77,5 +77,5 @@ seen n s ts k w (c ∷ cs) = seenBy k (ran n s ts w c) c ++ seen n s ts k (ran n
 
 -- every map, every id, and every two lists of calls from a fresh world of n slots that are solo heats and the same once the calls for other ids are struck out
 abbrev pub Solo : ℕ → Type 0
-Solo n = (s : Sides) (ts : List ℕ) (k : ℕ) (cs ds : List Call) → struckOut n k cs ≡ struckOut n k ds
+Solo n = (s : Sides) (ts : List ℕ) (k : ℕ) (cs ds : List Call) → withoutOther n k cs ≡ withoutOther n k ds
     → SoloHeat n s ts (fresh n) cs → SoloHeat n s ts (fresh n) ds → seen n s ts k (fresh n) cs ≡ seen n s ts k (fresh n) ds

@@ -7,7 +7,7 @@ use Rattle.map_tiles.specs.declared.tiles.Sides.{Sides}
 use Rattle.world.specs.declared.call.Call.{Call}
 use Rattle.world.specs.declared.call.Call.the-variants.{Join, Input, Step, Tune}
 use Rattle.world.specs.World.{fresh}
-use Rattle.world_solo.specs.Solo.{struckOut, SoloHeat, Seen, seen}
+use Rattle.world_solo.specs.Solo.{withoutOther, SoloHeat, Seen, seen}
 
 -- one open tile
 abbrev pub sides : Sides
@@ -50,7 +50,7 @@ pub record Worked : Type 0 where
   -- both are solo heats, and the same once the calls for id 1 are struck out
   pub solo-a : SoloHeat 2 sides tiles (fresh 2) heatA
   pub solo-b : SoloHeat 2 sides tiles (fresh 2) heatB
-  pub same : struckOut 2 0 heatA ≡ struckOut 2 0 heatB
+  pub same : withoutOther 2 0 heatA ≡ withoutOther 2 0 heatB
   -- id 0 moves, and is at the same places in both
   pub moves-a : places 0 heatA ≡ pos 2 ∷ pos 5 ∷ []
   pub moves-b : places 0 heatB ≡ pos 2 ∷ pos 5 ∷ []

@@ -1,5 +1,5 @@
 -- `game_records::input_of` meets its contract. Assumes nothing.
-use Rattle.game_records.specs.Numbers.{inputIn}
+use Rattle.game_records.specs.Numbers.{inputOfNumbers}
 use borrow.Author.Needs.{needs}
 use Rattle.game_records.proofs.input_of.Statement.{statement}
 use Rattle.game_records.proofs.input_of.Tie as tie
@@ -20,7 +20,7 @@ shared-slice-copy-out-t11 : tie.Need-shared-slice-copy-out-t11
 shared-slice-copy-out-t11 c = search needs
 
 returns : tie.Need-returns
-unfolding inputIn
+unfolding inputOfNumbers
 returns c = search needs
 
 pub input-of-spec : {M : Type 1} → statement M

@@ -12,14 +12,14 @@ use Rattle.world.specs.Calls.{placeOf}
 use Rattle.world_numbers.specs.Encoding.{worldCount, seatPlace}
 use Rattle.world_numbers.specs.Decoding.{isSet}
 use Rattle.world_buffers.specs.Buffers.{inputIn}
-use Rattle.search_rule.specs.Search.{inputWith}
+use Rattle.search_rule.specs.Search.{inputOfWay}
 use Rattle.search_calls.specs.Steps.{recordIsAt}
 use Rattle.search_calls.proofs.Steps.{took, not-took}
 use Rattle.search_calls.proofs.stepping.step_with.Statement.{statement}
 use Rattle.search_calls.proofs.stepping.step_with.Tie as tie
 
 -- the input is stored
-stored : (s : tie.After-step-in) → let a = s .before .before .before .before .before .before .before .before .before .before .before .args in inputIn (a .world .now) (a .goal .id) (inputWith (a .goal) (a .buttons)) ≡ record { number = s .before .before .before .before .before .before .input-in .result; world = s .before .before .before .before .before .before .input-in .last .0 }
+stored : (s : tie.After-step-in) → let a = s .before .before .before .before .before .before .before .before .before .before .before .args in inputIn (a .world .now) (a .goal .id) (inputOfWay (a .goal) (a .buttons)) ≡ record { number = s .before .before .before .before .before .before .input-in .result; world = s .before .before .before .before .before .before .input-in .last .0 }
 stored s = let a = s .before .before .before .before .before .before .before .before .before .before .before .args in ap₂ (inputIn (a .world .now)) (sym (read (a .goal .id) (s .before .before .before .before .before .before .before .struct-told .given .0 .1))) (sym (s .before .before .before .before .before .before .before .before .input-with .ensures)) ∙ s .before .before .before .before .before .before .input-in .ensures
 
 -- the world is as long as before

@@ -5,7 +5,7 @@ use native.Mathlib.Omega.{arith}
 use lib.ListN.{drop}
 use borrow.Author.Needs.{needs}
 use Rattle.num_convert.specs.Casts.{castUnsigned}
-use Rattle.game_records.specs.Numbers.{numberAt, coreIn, inputIn}
+use Rattle.game_records.specs.Numbers.{numberAt, coreIn, inputOfNumbers}
 use Rattle.game_records.proofs.Bits.{again}
 use Rattle.world_numbers.specs.Decoding.{isSet}
 use Rattle.world_numbers.specs.Encoding.{recordCount}
@@ -71,7 +71,7 @@ returns c =
     let room = d .before .before .pre in
     let k : d .is-set .result ≡ isSet (numberAt s 0) = d .is-set .ensures ∙ ap isSet (again (d .before .is-set-arg .given)) in
     let n : b .before .before .core-of .result ≡ coreIn (drop 1 s) = b .before .before .core-of .ensures ∙ ap coreIn (to-end 1 s (omega arith)) in
-    let i : b .input-of .result ≡ inputIn (drop recordCount s) = b .input-of .ensures ∙ ap inputIn (to-end recordCount s (omega arith)) in
+    let i : b .input-of .result ≡ inputOfNumbers (drop recordCount s) = b .input-of .ensures ∙ ap inputOfNumbers (to-end recordCount s (omega arith)) in
     let r : c .before .before .before .before .is-set2 .result ≡ isSet (numberAt s marksPlace) = c .before .before .before .before .is-set2 .ensures ∙ ap isSet (again (c .before .before .before .before .before .is-set-arg2 .given)) in
     let f : c .before .before .is-set3 .result ≡ isSet (numberAt s (marksPlace + 1)) = c .before .before .is-set3 .ensures ∙ ap isSet (again (c .before .before .before .is-set-arg3 .given)) in
     let t : c .cast-unsigned .result ≡ castUnsigned (numberAt s (marksPlace + 2)) = c .cast-unsigned .ensures ∙ ap castUnsigned (again (c .before .cast-unsigned-arg .given)) in

@@ -5,7 +5,7 @@ use native.Mathlib.Omega.{arith}
 use borrow.Author.Needs.{needs}
 use Rattle.game_records.specs.declared.PlayerInput.{PlayerInput}
 use Rattle.game_records.specs.declared.CharacterCore.{CharacterCore}
-use Rattle.game_records.specs.Numbers.{coreCount, numberAt, coreIn, inputIn}
+use Rattle.game_records.specs.Numbers.{coreCount, numberAt, coreIn, inputOfNumbers}
 use Rattle.game_records.proofs.Bits.{again}
 use Rattle.character.specs.Tick.{seats}
 use Rattle.world.specs.Calls.{placeOf}
@@ -70,7 +70,7 @@ returns-2 c =
     let b = c .before .before .before .before .before in
     let l = b .before .before .before .args .numbers .now in
     let h = b .before .before .if1 .left in
-    ap₂ (λ (n : CharacterCore) (i : PlayerInput). Of (passed.Message (b .place-of .result) n i) messageCount) (c .before .before .core-of .ensures ∙ ap coreIn (to-end 2 l (omega arith))) (c .input-of .ensures ∙ ap inputIn (to-end (2 + coreCount) l (omega arith)))
+    ap₂ (λ (n : CharacterCore) (i : PlayerInput). Of (passed.Message (b .place-of .result) n i) messageCount) (c .before .before .core-of .ensures ∙ ap coreIn (to-end 2 l (omega arith))) (c .input-of .ensures ∙ ap inputOfNumbers (to-end (2 + coreCount) l (omega arith)))
     ∙ sym (place-read messageCount seats 2 (messageIn l) l (b .place-of .result) h (place-is b) (c .before .before .before .before .if2 .taken))
 
 returns-3 : tie.Need-returns-3

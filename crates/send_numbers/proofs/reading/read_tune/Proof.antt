@@ -8,7 +8,7 @@ use Rattle.game_tuning.specs.Tuning.{tuningCount}
 use Rattle.world.specs.Calls.{placeOf}
 use Rattle.send_rule.specs.declared.Passed.the-variants as passed
 use Rattle.send_numbers.specs.declared.reading.PassedRead.the-variants.{Of}
-use Rattle.send_numbers.specs.Reading.{tuneIn, readTune}
+use Rattle.send_numbers.specs.Reading.{tuneRead, readTune}
 use Rattle.send_numbers.proofs.Readings.{too-short, no-place, place-read}
 use Rattle.send_numbers.proofs.reading.read_tune.Statement.{statement}
 use Rattle.send_numbers.proofs.reading.read_tune.Tie as tie
@@ -18,7 +18,7 @@ place-is c = c .place-of .ensures ∙ ap (placeOf tuningCount) (again (c .before
 
 returns : tie.Need-returns
 unfolding readTune
-returns c = sym (too-short 3 tuningCount 3 (tuneIn (c .before .args .numbers .now)) (c .before .args .numbers .now) (c .if1 .taken))
+returns c = sym (too-short 3 tuningCount 3 (tuneRead (c .before .args .numbers .now)) (c .before .args .numbers .now) (c .if1 .taken))
 
 shared-slice-copy-out-place-of : tie.Need-shared-slice-copy-out-place-of
 shared-slice-copy-out-place-of c = search needs
@@ -37,11 +37,11 @@ unfolding readTune
 returns-2 c =
     let b = c .before .before in
     let l = b .before .before .before .args .numbers .now in
-    ap (λ (z : ℤ). Of (passed.Tune (b .place-of .result) z) 3) (again (c .value .given)) ∙ sym (place-read 3 tuningCount 3 (tuneIn l) l (b .place-of .result) (b .before .before .if1 .left) (place-is b) (c .before .if2 .taken))
+    ap (λ (z : ℤ). Of (passed.Tune (b .place-of .result) z) 3) (again (c .value .given)) ∙ sym (place-read 3 tuningCount 3 (tuneRead l) l (b .place-of .result) (b .before .before .if1 .left) (place-is b) (c .before .if2 .taken))
 
 returns-3 : tie.Need-returns-3
 unfolding readTune
-returns-3 c = sym (no-place 3 tuningCount 3 (tuneIn (c .before .before .before .before .args .numbers .now)) (c .before .before .before .before .args .numbers .now) (c .before .place-of .result) (c .before .before .before .if1 .left) (place-is (c .before)) (c .if2 .left))
+returns-3 c = sym (no-place 3 tuningCount 3 (tuneRead (c .before .before .before .before .args .numbers .now)) (c .before .before .before .before .args .numbers .now) (c .before .place-of .result) (c .before .before .before .if1 .left) (place-is (c .before)) (c .if2 .left))
 
 pub read-tune-spec : {M : Type 1} → statement M
 read-tune-spec =

@@ -8,7 +8,7 @@ use Rattle.game_records.proofs.Bits.{again}
 use Rattle.world_step.proofs.Listed.{as-i32}
 use Rattle.world_numbers.specs.Encoding.{seatPlace}
 use Rattle.world_numbers.specs.Decoding.{isSet}
-use Rattle.world_buffers.specs.Buffers.{Left, inputIn}
+use Rattle.world_buffers.specs.Buffers.{LeftWorld, inputIn}
 use Rattle.trial_runs.specs.InPlace.{xPlace, trialInput, steeredAt}
 use Rattle.trial_runs.proofs.Steering.{stays}
 use borrow.Author.Needs.{needs}
@@ -56,7 +56,7 @@ returns c =
     let l = a .world .now in
     let q = c .before .before .before .before .before .before .before .before .seat-place .ensures in
     let i : c .before .before .trial-input .result ≡ trialInput (a .sides) (a .player) (numberAt l (seatPlace (a .seat) + xPlace)) = c .before .before .trial-input .ensures ∙ ap (trialInput (a .sides) (a .player)) (again (c .before .before .before .before .x .given) ∙ ap (λ (k : ℕ). numberAt l (k + xPlace)) q) in
-    sym (ap (λ (x : Left). x .world) (c .before .input-in .ensures)) ∙ ap₂ (λ (id : ℤ) (v : PlayerInput). inputIn l id v .world) (as-i32 (a .seat) (s .pre .1)) i
+    sym (ap (λ (x : LeftWorld). x .world) (c .before .input-in .ensures)) ∙ ap₂ (λ (id : ℤ) (v : PlayerInput). inputIn l id v .world) (as-i32 (a .seat) (s .pre .1)) i
 
 returns-2 : tie.Need-returns-2
 returns-2 c =

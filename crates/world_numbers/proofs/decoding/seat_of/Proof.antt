@@ -2,7 +2,7 @@
 use mathlib.Core.Bool.{true, false}
 use mathlib.Core.Path.{_≡_, sym, ap, _∙_}
 use native.Mathlib.Omega.{arith}
-use Rattle.game_records.specs.Numbers.{numberAt, coreIn, inputIn}
+use Rattle.game_records.specs.Numbers.{numberAt, coreIn, inputOfNumbers}
 use Rattle.game_records.proofs.Bits.{again}
 use Rattle.world_numbers.specs.Encoding.{recordCount, markPlace}
 use Rattle.world_numbers.specs.Decoding.{isSet, seatOf}
@@ -76,7 +76,7 @@ returns c =
     let z = c .before .before .before .before .before .before .before .before .before .before .before .before .before .is-set in
     let e : isSet (numberAt s 0) ≡ true = sym (z .ensures ∙ ap isSet (again (c .before .before .before .before .before .before .before .before .before .before .before .before .before .before .is-set-arg .given))) ∙ c .before .before .before .before .before .before .before .before .before .before .before .before .if1 .taken in
     let n = c .before .before .before .before .before .before .before .before .before .before .core-of .ensures ∙ ap coreIn (to-end 1 s (omega arith)) in
-    let i = c .before .before .before .before .input-of .ensures ∙ ap inputIn (to-end recordCount s (omega arith)) in
+    let i = c .before .before .before .before .input-of .ensures ∙ ap inputOfNumbers (to-end recordCount s (omega arith)) in
     let g : c .before .is-set2 .result ≡ isSet (numberAt s markPlace) = c .before .is-set2 .ensures ∙ ap isSet (again (c .before .before .is-set-arg2 .given)) in
     simp (e, ← n, ← c .before .before .before .before .before .before .before .before .before .readable .ensures, ← c .before .before .before .before .before .before .before .before .from-net .ensures, ← i, ← g, c .with-grounded .ensures, c .before .before .before .with-input .ensures, c .before .before .before .before .before .before .with-character .ensures, c .before .before .before .before .before .before .before .joined .ensures)
 
