@@ -8,7 +8,8 @@ use crate::ffi;
 pub const LAYOUT: u32 = ffi::LAYOUT;
 
 /// Stops where the library that was linked has another layout than these declarations: nothing
-/// that it does could be trusted. What begins a world, a sender, a screen or a trial asks it.
+/// that it does could be trusted. What makes a world, a sender or a screen asks it, also of numbers
+/// that were kept.
 #[inline]
 pub(crate) fn assert_layout() {
     let linked = ffi::ponguriena_layout();

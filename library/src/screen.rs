@@ -30,7 +30,12 @@ impl Screen {
     }
 
     /// A screen that was kept as numbers; [`send_buffers`] says what any numbers mean.
+    ///
+    /// # Panics
+    ///
+    /// As [`World::fresh`](crate::World::fresh).
     pub fn from_numbers(numbers: [i32; SCREEN_NUMBERS]) -> Screen {
+        assert_layout();
         Screen { numbers }
     }
 

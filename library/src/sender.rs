@@ -60,7 +60,12 @@ impl Sender {
     }
 
     /// A sender that was kept as numbers; [`send_buffers`] says what any numbers mean.
+    ///
+    /// # Panics
+    ///
+    /// As [`World::fresh`].
     pub fn from_numbers(numbers: [i32; SENDER_NUMBERS]) -> Sender {
+        assert_layout();
         Sender { numbers }
     }
 

@@ -69,7 +69,12 @@ impl World {
     }
 
     /// A world that was kept as numbers; [`buffers`] says what any numbers mean.
+    ///
+    /// # Panics
+    ///
+    /// As [`World::fresh`].
     pub fn from_numbers(numbers: [i32; WORLD_NUMBERS]) -> World {
+        assert_layout();
         World { numbers }
     }
 
