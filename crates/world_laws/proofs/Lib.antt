@@ -1,0 +1,3 @@
+pub mod Spikes
+pub mod Walks
+pub mod Steps

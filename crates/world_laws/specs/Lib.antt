@@ -1,0 +1,2 @@
+pub mod Spikes
+pub mod Walks
