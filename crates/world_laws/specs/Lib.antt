@@ -1,2 +1,4 @@
 pub mod Spikes
 pub mod Walks
+pub mod Holding
+pub mod Records
