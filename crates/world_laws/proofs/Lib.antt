@@ -6,3 +6,7 @@ pub mod Ticks
 pub mod Holding
 pub mod Records
 pub mod Shape
+pub mod Start
+pub mod Reading
+pub mod Order
+pub mod Flight
