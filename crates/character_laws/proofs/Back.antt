@@ -1,12 +1,12 @@
 -- Into a record and back: a representable character is unchanged, and only such. Assumes nothing.
 use mathlib.Core.Bool.{Bool, true, false, cond}
 use mathlib.Core.Path.{_≡_, refl, sym, ap, _∙_}
-use Prim.Native.Nat.{_+_, _≤_, zero-le}
+use Prim.Native.Nat.{ℕ, _+_, _≤_, zero-le}
 use native.Mathlib.Omega.{arith}
-use lib.Dec.{lit<}
+use lib.Dec.{leb, lit<}
 use lib.Ieee.{Float, binary32, mul}
 use lib.IntN.{pos}
-use borrow.Author.Tests.{le-leb}
+use borrow.Author.Tests.{leb-true, le-leb}
 use Rattle.num_convert.proofs.Back.{cast-back}
 use Rattle.num_convert.specs.Casts.{castUnsigned}
 use Rattle.character.specs.declared.Character.{Character}
@@ -22,6 +22,7 @@ use Rattle.character_hook.specs.declared.hook.Hook.{Hook}
 use Rattle.character_hook.specs.declared.hook.Hook.the-variants.{Retracted, Idle, Flying, Grabbed, Attached, Retracting0, Retracting1, Retracting2}
 use Rattle.character.specs.Records.{netJumped, usedAirjumpFromNet, jumpedAlreadyFromNet, coreOf, mostTick, toNet, fromNet, back, quantize}
 use Rattle.character_laws.specs.Representable.{OfI32, Pair, RepresentableHook, Representable}
+use Rattle.game_records.specs.declared.CharacterCore.{CharacterCore}
 use Rattle.num_vec2.specs.Vec2.{vnew}
 use Rattle.num_vec2.specs.declared.vec2.{vec2}
 use Rattle.num_convert.specs.Whole.{roundToI32, truncToI32}
@@ -108,6 +109,15 @@ from-core c w = rw (wholes-back (c .pos) (w .pos), 256ths-pair-back (c .vel) (w 
 pub to-core : (c : Character) → tickOf (c .hook) ≤ mostTick → toNet c ≡ net.Core (coreOf c)
 unfolding toNet
 to-core c h = rw (le-leb (tickOf (c .hook)) mostTick h)
+
+-- the record of a character is its own, and its tick fits
+pub record-of : (c : Character) (core : CharacterCore) → toNet c ≡ net.Core core → (core ≡ coreOf c) × (tickOf (c .hook) ≤ mostTick)
+unfolding toNet
+record-of c core = go (leb (tickOf (c .hook)) mostTick) refl
+  where
+    go : (b : Bool) → leb (tickOf (c .hook)) mostTick ≡ b → cond b (net.Core (coreOf c)) net.TickTooLarge ≡ net.Core core → (core ≡ coreOf c) × (tickOf (c .hook) ≤ mostTick)
+    go true l q = (cc, leb-true (tickOf (c .hook)) mostTick l)
+    go false l q = let z : _≡_ {A = ℕ} 0 1 = cc in absurd (omega arith)
 
 pub representable-back : (c : Character) → Representable c → quantize c ≡ quantized.To c
 unfolding quantize

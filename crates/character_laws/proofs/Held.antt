@@ -3,7 +3,7 @@ use Prim.Native.Nat.{ℕ, suc, _+_, _-_, _^_}
 use native.Mathlib.Omega.{arith}
 use mathlib.Core.Bool.{Bool, true, false, cond, true≢false}
 use mathlib.Core.List.{List}
-use mathlib.Core.Path.{_≡_, refl, sym, subst}
+use mathlib.Core.Path.{_≡_, refl, sym, ap, subst}
 use lib.Dec.{eqb, ltb}
 use lib.Ieee.{Float, lt, ne}
 use lib.IntN.{ℤ, pos, negsuc}
@@ -41,7 +41,7 @@ use Rattle.character_hook.specs.declared.flying.Way.{Way}
 use Rattle.character_hook.specs.declared.flying.Way.the-variants as way
 use Rattle.character.specs.Records.{coreOf, fromNet}
 use Rattle.character.specs.Tick.{slotAt, steer, nearestTurn, nearest, caught, flight, hooked, ticked, tickAt}
-use Rattle.character.specs.Walk.{playerWalk, rested, afterBox, moveAt}
+use Rattle.character.specs.Walk.{movedTo, playerWalk, rested, afterBox, moveAt}
 use Rattle.character.specs.declared.Character.{Character}
 use Rattle.character.specs.declared.Slot.{Slot}
 use Rattle.character.specs.declared.tick.HookFlight.{HookFlight}
@@ -218,19 +218,26 @@ module _ (P : ℕ → Type 0) where
   unfolding fromNet coreOf
   record-only c k = net-only (c .hook) _ _ _ k
 
--- ---- a move leaves the hook
+-- ---- a move changes position and velocity alone
 abbrev pub Rests : (Character → Type 0) → MovedAt → Type 0
 Rests P moved.TooFar = Unit {0}
 Rests P (moved.To c) = P c
 
-pub move-hook : (n : ℕ) (c : Character) (id : ℕ) (ss : List Slot) (s : Sides) (ts : List ℕ) (t : Tuning) → Rests (λ d. d .hook ≡ c .hook) (moveAt n c id ss s ts t)
+pub move-rest : (n : ℕ) (c : Character) (id : ℕ) (ss : List Slot) (s : Sides) (ts : List ℕ) (t : Tuning) → Rests (λ d. d ≡ movedTo c (d .pos) (d .vel)) (moveAt n c id ss s ts t)
 unfolding moveAt
-move-hook n c id ss s ts t = go (rampedMove s ts (c .pos) (c .vel) t)
+move-rest n c id ss s ts t = go (rampedMove s ts (c .pos) (c .vel) t)
   where
-    on : (v : vec2) (w : PlayerWalk) → Rests (λ d. d .hook ≡ c .hook) (rested c v w)
+    on : (v : vec2) (w : PlayerWalk) → Rests (λ d. d ≡ movedTo c (d .pos) (d .vel)) (rested c v w)
     on v among.TooFar = tt
     on v (among.At p) = refl
 
-    go : (b : BoxWalk) → Rests (λ d. d .hook ≡ c .hook) (afterBox n c id ss t b)
+    go : (b : BoxWalk) → Rests (λ d. d ≡ movedTo c (d .pos) (d .vel)) (afterBox n c id ss t b)
     go box.TooFar = tt
     go (box.To b) = on (b .vel) (playerWalk n ss id (c .pos) (b .pos) (t .«player_collision»))
+
+rests-map : (P Q : Character → Type 0) → ((d : Character) → P d → Q d) → (o : MovedAt) → Rests P o → Rests Q o
+rests-map P Q f moved.TooFar h = tt
+rests-map P Q f (moved.To d) h = f d h
+
+pub move-hook : (n : ℕ) (c : Character) (id : ℕ) (ss : List Slot) (s : Sides) (ts : List ℕ) (t : Tuning) → Rests (λ d. d .hook ≡ c .hook) (moveAt n c id ss s ts t)
+move-hook n c id ss s ts t = rests-map (λ d. d ≡ movedTo c (d .pos) (d .vel)) (λ d. d .hook ≡ c .hook) (λ d e. ap (λ (x : Character). x .hook) e) (moveAt n c id ss s ts t) (move-rest n c id ss s ts t)

@@ -2,7 +2,7 @@
 use Prim.Native.Nat.{ℕ, _≤_}
 use native.Mathlib.Omega.{arith}
 use native.Mathlib.Nat.{le-trans}
-use mathlib.Core.Bool.{Bool, true, false, cond, _&&_, true≢false}
+use mathlib.Core.Bool.{Bool, true, false, _&&_, true≢false}
 use mathlib.Core.List.{List, [], _∷_}
 use mathlib.Core.Path.{_≡_, refl, sym, ap, _∙_, subst}
 use denote.Floats.{passes, is-true}
@@ -20,11 +20,12 @@ use Rattle.game_tuning.proofs.Hold.{hold-is, hold-most}
 use Rattle.map_tiles.specs.declared.tiles.Sides.{Sides}
 use Rattle.character_hook.specs.Hook.{tickOf}
 use Rattle.character.specs.Character.{spawn}
-use Rattle.character.specs.Records.{coreOf, mostTick, toNet}
+use Rattle.character.specs.Records.{toNet}
 use Rattle.character.specs.Slot.{emptySlot, joinedSlot, withInput}
 use Rattle.character.specs.Tick.{slotAt, nowhere}
 use Rattle.character.specs.declared.Character.{Character}
 use Rattle.character.specs.declared.records.Net.the-variants as net
+use Rattle.character_laws.proofs.Back.{record-of}
 use Rattle.character_laws.proofs.Slots.{set-every, replicate-every}
 use Rattle.world.specs.Calls.{placeOf, pointOf, tune}
 use Rattle.world.specs.Hold.{TicksWithin, HookHold}
@@ -78,12 +79,7 @@ fresh-short n = replicate-every (λ x. x .present ≡ true → tickOf (x .charac
 -- ---- what is read
 -- the record of whoever has held for so long
 record-within : (x : Character) (m : ℕ) → tickOf (x .hook) ≤ m → (c : CharacterCore) → toNet x ≡ net.Core c → TicksWithin m c
-unfolding toNet
-record-within x m l c = go (leb (tickOf (x .hook)) mostTick)
-  where
-    go : (b : Bool) → cond b (net.Core (coreOf x)) net.TickTooLarge ≡ net.Core c → TicksWithin m c
-    go true e = let q : c ≡ coreOf x = cc in subst (TicksWithin m) (sym q) (core-within x m l)
-    go false e = let z : _≡_ {A = ℕ} 0 1 = cc in absurd (omega arith)
+record-within x m l c e = subst (TicksWithin m) (sym (record-of x c e .0)) (core-within x m l)
 
 read-within : (n : ℕ) (w : World) → ShortIn w → (id : ℤ) (c : CharacterCore) → readOf n w (query.Record id) ≡ reading.Record c → TicksWithin maxHookGrabTime c
 read-within n w h id c e = let r = record-read n w id c e in record-within (slotAt (w .slots) (placeOf n id) .character) maxHookGrabTime (h (placeOf n id) (r .there)) c (r .net)

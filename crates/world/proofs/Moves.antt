@@ -5,7 +5,7 @@ use mathlib.Core.Logic.{⊎-elim}
 use mathlib.Core.Bool.{Bool, true, false, cond, true≢false}
 use mathlib.Core.List.{List}
 use mathlib.Core.Path.{_≡_, refl, sym, ap, _∙_, subst}
-use lib.Dec.{T, leb}
+use lib.Dec.{T}
 use lib.Ieee.{ne}
 use lib.ListN.{length, set, length-set, length-replicate}
 use Rattle.base_turns.specs.Turns.{Turn, more, stop, next, run}
@@ -18,7 +18,6 @@ use Rattle.map_tiles.specs.declared.tiles.Sides.{Sides}
 use Rattle.game_tuning.specs.declared.Tuning.{Tuning}
 use Rattle.map_tiles.specs.Box.{Clear, characterBox, onDeadly}
 use Rattle.game_records.specs.declared.CharacterCore.{CharacterCore}
-use Rattle.character_hook.specs.Hook.{tickOf}
 use Rattle.character.specs.Slot.{withCharacter}
 use Rattle.character.specs.declared.Character.{Character}
 use Rattle.character.specs.declared.Slot.{Slot}
@@ -26,7 +25,7 @@ use Rattle.character.specs.declared.walk.MovedAt.{MovedAt}
 use Rattle.character.specs.declared.walk.MovedAt.the-variants as moved
 use Rattle.character.specs.Tick.{slotAt, nowhere}
 use Rattle.character_laws.specs.Faithful.{Faithful}
-use Rattle.character.specs.Records.{coreOf, toNet, fromNet, mostTick}
+use Rattle.character.specs.Records.{toNet, fromNet}
 use Rattle.character_laws.specs.Representable.{Representable}
 use Rattle.character.specs.declared.records.Net.{Net}
 use Rattle.character.specs.declared.records.Net.the-variants as net
@@ -37,20 +36,11 @@ use Rattle.character_laws.proofs.FitsMove.{move-fits}
 use Rattle.world.specs.Step.{Moving, unpublished, ofNet, recordOf, publish, moveIn, moveTurn, movingFrom, moveAll}
 use Rattle.world.specs.Demand3.{leftIn, FaithfulTo, recordAt, leftOnDeadly}
 use Rattle.world.specs.declared.Published.{Published}
+use Rattle.character_laws.proofs.Back.{record-of}
 use Rattle.world.proofs.Seats.{last-or-below, present-within, net-representable, Settling, move-turn, nobody-moved}
 use Rattle.world.proofs.Standing.{representable-fits, Standing, Stands}
 
 -- ---- the record of a character
-
--- only the tick can be in the way of a record
-net-core : (c : Character) (core : CharacterCore) → toNet c ≡ net.Core core → core ≡ coreOf c
-unfolding toNet
-net-core c core e = go (leb (tickOf (c .hook)) mostTick) e
-  where
-    go : (b : Bool) → cond b (net.Core (coreOf c)) net.TickTooLarge ≡ net.Core core → core ≡ coreOf c
-    go true q = cc
-    go false q = let z : _≡_ {A = ℕ} 0 1 = cc in absurd (omega arith)
-
 module _ (s : Sides) (ts : List ℕ) where
   -- what is read back of a record of c
   record Read (c : Character) (core : CharacterCore) : Type 0 where
@@ -61,7 +51,7 @@ module _ (s : Sides) (ts : List ℕ) where
 
   read : (c : Character) (core : CharacterCore) → T (isMap s ts) → FitsPair (c .pos) → FitsPair (c .vel) → Clear s ts (c .pos) characterBox → toNet c ≡ net.Core core → Read c core
   read c core m p v h e =
-      let i = net-core c core e in
+      let i = record-of c core e .0 in
       record {
         faithful = subst (λ (k : CharacterCore). Faithful k (c .pos) (c .vel)) (sym i) (core-faithful c (v .0) (v .1));
         representable = net-representable c core e;

@@ -1,17 +1,17 @@
 -- What an accepted step records: whoever is there becomes what its record reads as, with the input that it had, and that record is the record of it. Assumes nothing.
 use Prim.Native.Nat.{ℕ, zero, suc, _+_, _^_, _≤_, _<_}
 use native.Mathlib.Omega.{arith}
-use mathlib.Core.Bool.{Bool, true, false, cond, true≢false}
+use mathlib.Core.Bool.{Bool, true, false, true≢false}
 use mathlib.Core.List.{List, [], _∷_}
 use mathlib.Core.Logic.{⊎-elim}
 use mathlib.Core.Path.{_≡_, refl, sym, ap, _∙_, subst}
-use lib.Dec.{leb, ltb}
+use lib.Dec.{ltb}
 use lib.Ieee.{binary32}
 use lib.Ieee.Bits.{ofBits-fits}
 use lib.Ieee.Fits.{nan-fits}
 use lib.ListN.{length, set, length-set, length-replicate}
 use lib.Seq.{getD-set-same}
-use borrow.Author.Tests.{leb-true, ltb-true, ltb-false}
+use borrow.Author.Tests.{ltb-true, ltb-false}
 use Rattle.base_turns.specs.Turns.{Turn, more, stop, next, run}
 use Rattle.base_turns.proofs.Kept.{Ends, run-kept}
 use Rattle.num_convert.specs.Convert.{i32ToF32}
@@ -21,13 +21,12 @@ use Rattle.game_tuning.specs.Tuning.{tuningOf}
 use Rattle.game_tuning.specs.declared.Tuning.{Tuning}
 use Rattle.game_records.specs.declared.CharacterCore.{CharacterCore}
 use Rattle.num_vec2.specs.declared.vec2.{vec2}
-use Rattle.character_hook.specs.Hook.{tickOf}
 use Rattle.character_hook.specs.declared.hook.Hook.{Hook}
 use Rattle.character_hook.specs.declared.hook.Hook.the-variants.{Retracted, Idle, Flying, Grabbed, Attached, Retracting0, Retracting1, Retracting2}
 use Rattle.character.specs.Character.{spawn}
 use Rattle.character.specs.Slot.{emptySlot, withCharacter}
 use Rattle.character.specs.Tick.{slotAt, nowhere, afterPull, tickAt, tickedSlot}
-use Rattle.character.specs.Records.{coreOf, mostTick, toNet, fromNet}
+use Rattle.character.specs.Records.{coreOf, toNet, fromNet}
 use Rattle.character.specs.declared.Character.{Character}
 use Rattle.character.specs.declared.Slot.{Slot}
 use Rattle.character.specs.declared.records.Net.{Net}
@@ -51,6 +50,7 @@ use Rattle.world.specs.Step.{Moving, unpublished, afterTick, tickTurn, t
 use Rattle.world.specs.declared.Stepped.{Stepped}
 use Rattle.world.specs.declared.World.{World}
 use Rattle.world.proofs.Removal.{dying-within}
+use Rattle.character_laws.proofs.Back.{record-of}
 use Rattle.world.proofs.Seats.{last-or-below, present-within, by-test, Same, same-on, ticks-same, Settling, moves-settle}
 use Rattle.world.proofs.Standing.{i32-fits, pair-fits}
 
@@ -105,15 +105,6 @@ pub record Taken (core : CharacterCore) (y : Slot) : Type 0 where
   pub is : core ≡ coreOf made
   pub read : y .character ≡ fromNet core
   pub again : toNet (fromNet core) ≡ net.Core core
-
--- only the tick can be in the way of a record
-record-of : (c : Character) (core : CharacterCore) → toNet c ≡ net.Core core → (core ≡ coreOf c) × (tickOf (c .hook) ≤ mostTick)
-unfolding toNet
-record-of c core = go (leb (tickOf (c .hook)) mostTick) refl
-  where
-    go : (b : Bool) → leb (tickOf (c .hook)) mostTick ≡ b → cond b (net.Core (coreOf c)) net.TickTooLarge ≡ net.Core core → (core ≡ coreOf c) × (tickOf (c .hook) ≤ mostTick)
-    go true l q = (cc, leb-true (tickOf (c .hook)) mostTick l)
-    go false l q = let z : _≡_ {A = ℕ} 0 1 = cc in absurd (omega arith)
 
 module _ (n : ℕ) (s : Sides) (ts : List ℕ) (t : Tuning) where
   -- ---- ticks

@@ -3,8 +3,7 @@ use Prim.Native.Nat.{ℕ, _<_}
 use native.Mathlib.Omega.{arith}
 use mathlib.Core.Bool.{Bool, true, false, cond}
 use mathlib.Core.List.{List}
-use mathlib.Core.Path.{_≡_, refl, sym, ap, _∙_, subst}
-use lib.Dec.{ltb}
+use mathlib.Core.Path.{_≡_, refl, sym, ap, _∙_}
 use lib.Ieee.{ne}
 use lib.IntN.{ℤ}
 use borrow.Author.Tests.{lt-ltb}
@@ -23,19 +22,18 @@ use Rattle.map_lines.specs.declared.lines.LineHit.{LineHit}
 use Rattle.map_lines.specs.declared.lines.LineHit.the-variants.{Nothing, At}
 use Rattle.map_lines.specs.declared.lines.LineWalk.{LineWalk}
 use Rattle.map_lines.specs.declared.lines.LineWalk.the-variants as line
-use Rattle.character_hook.specs.Flying.{struckOn, flown}
+use Rattle.character_hook.specs.Flying.{flown}
 use Rattle.character_hook.specs.Hooking.{fly, strike, hold}
 use Rattle.character_hook.specs.declared.hooking.Flight.{Flight}
 use Rattle.character_hook.specs.declared.hook.CharacterId.{CharacterId}
 use Rattle.character_hook.specs.declared.hook.Hook.{Hook}
 use Rattle.character_hook.specs.declared.hook.Hook.the-variants.{Flying, Attached, Retracting0}
-use Rattle.character_motion.specs.Controls.{grounded}
 use Rattle.character.specs.Tick.{steer, caught, flight, hooked, tickAt, tick}
 use Rattle.character.specs.declared.Character.{Character}
 use Rattle.character.specs.declared.Slot.{Slot}
 use Rattle.character.specs.declared.tick.HookFlight.the-variants.{To}
 use Rattle.character_cases.specs.Holding.{HookAfter}
-use Rattle.world_laws.specs.Flight.{flownTo, tooLong, lineEnd, FlightEnds, HooksEnd}
+use Rattle.world_laws.specs.Flight.{flownTo, tooLong, lineEnd, HooksEnd}
 use Rattle.world_laws.specs.Walks.{hookFired}
 
 -- the end of the line

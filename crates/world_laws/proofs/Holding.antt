@@ -1,21 +1,18 @@
 -- A hook that holds somebody is counted in its own tick, and nothing else in a step changes it. Assumes nothing.
 use Prim.Native.Nat.{ℕ, zero, suc, _+_, _^_, _≤_, _<_}
 use native.Mathlib.Omega.{arith}
-use mathlib.Core.Bool.{Bool, true, false, cond, true≢false}
+use mathlib.Core.Bool.{Bool, true, false, cond}
 use mathlib.Core.List.{List}
 use mathlib.Core.Path.{_≡_, refl, sym, ap, _∙_, subst}
-use lib.Dec.{eqb, ltb}
 use lib.IntN.{ℤ, pos, negsuc, natAbs}
-use lib.ListN.{length, getD, set}
-use lib.Seq.{getD-set-same, getD-set-other}
-use borrow.Author.Tests.{eqb-true, eqb-false, ne-eqb, ltb-true, ltb-false, lt-ltb, le-ltb, le-leb}
-use Rattle.base_turns.specs.Turns.{Turn, more, stop, next, run}
-use Rattle.base_turns.proofs.Kept.{Ends, run-kept}
+use lib.ListN.{length, getD}
+use borrow.Author.Tests.{ne-eqb, lt-ltb, le-leb}
+use Rattle.base_turns.proofs.Kept.{Ends}
 use Rattle.num_convert.specs.Casts.{castSigned}
 use Rattle.num_vec2.specs.declared.vec2.{vec2}
 use Rattle.game_input.specs.Inputs.{targetDir, pressed, hooks}
 use Rattle.game_records.specs.declared.PlayerInput.{PlayerInput}
-use Rattle.game_tuning.specs.Tuning.{tuningCount, hookHold, isHold, holdOf, mayTune, tuningOf}
+use Rattle.game_tuning.specs.Tuning.{tuningCount, hookHold, isHold, tuningOf}
 use Rattle.game_tuning.specs.declared.Tuning.{Tuning}
 use Rattle.map_tiles.specs.declared.tiles.Sides.{Sides}
 use Rattle.character_hook.specs.Flying.{flown}
@@ -25,28 +22,23 @@ use Rattle.character_hook.specs.declared.hook.CharacterId.{CharacterId}
 use Rattle.character_hook.specs.declared.hook.Hook.{Hook}
 use Rattle.character_hook.specs.declared.hook.Hook.the-variants.{Retracted, Idle, Grabbed}
 use Rattle.character_hook.proofs.Hold.{held-past, held-on}
-use Rattle.character_motion.specs.Controls.{grounded}
 use Rattle.character.specs.Records.{coreOf}
 use Rattle.character.specs.declared.tick.HookFlight.the-variants.{To}
-use Rattle.character.specs.Tick.{slotAt, nowhere, steer, caught, flight, hooked, afterPull, tickAt, tickedSlot}
+use Rattle.character.specs.Tick.{slotAt, steer, caught, flight, hooked, tickAt, tickedSlot}
 use Rattle.character.specs.declared.Character.{Character}
 use Rattle.character.specs.declared.Slot.{Slot}
 use Rattle.character.specs.declared.tick.TickedAt.{TickedAt}
 use Rattle.character.specs.declared.tick.TickedAt.the-variants as ticked
-use Rattle.character_laws.proofs.Others.{Then, SameButVel, pulled-others, pulled-length}
-use Rattle.character_laws.proofs.Slots.{set-others}
-use Rattle.world.specs.Calls.{placeOf, accepted, tune}
+use Rattle.character_laws.proofs.Others.{Then, SameButVel}
+use Rattle.world.specs.Calls.{tune}
 use Rattle.world.specs.Demand3.{recordAt}
 use Rattle.world.specs.Hold.{holdIn}
-use Rattle.world.specs.Run.{ran}
-use Rattle.world.specs.Step.{afterTick, tickTurn, tickAll, step}
+use Rattle.world.specs.Step.{tickAll, step}
 use Rattle.world.specs.World.{withTuning}
 use Rattle.world.specs.declared.Answer.{Answer}
 use Rattle.world.specs.declared.Published.{Published}
 use Rattle.world.specs.declared.World.{World}
-use Rattle.world.specs.declared.call.Call.the-variants.{Step, Tune}
 use Rattle.world.proofs.Hold.{hook-hold}
-use Rattle.world.proofs.Seats.{by-test, last-or-below, present-within}
 use Rattle.world_laws.specs.Holding.{HookTold, HoldTold, Holder, StepHolds}
 use Rattle.world_laws.proofs.Left.{step-taken}
 use Rattle.world_laws.proofs.Ticks.{ticks-own}

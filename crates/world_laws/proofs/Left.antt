@@ -5,7 +5,6 @@ use mathlib.Core.Bool.{Bool, true, false, cond, true≢false}
 use mathlib.Core.List.{List}
 use mathlib.Core.Logic.{⊎-elim}
 use mathlib.Core.Path.{_≡_, refl, sym, ap, _∙_, subst}
-use lib.Dec.{leb}
 use lib.ListN.{length, set, length-set, length-replicate}
 use lib.Seq.{getD-set-same, getD-set-other}
 use Rattle.base_turns.specs.Turns.{Turn, more, stop, next, run}
@@ -14,55 +13,27 @@ use Rattle.base_turns.proofs.Last.{run-last}
 use Rattle.game_records.specs.declared.CharacterCore.{CharacterCore}
 use Rattle.game_tuning.specs.Tuning.{tuningOf}
 use Rattle.game_tuning.specs.declared.Tuning.{Tuning}
-use Rattle.num_vec2.specs.declared.vec2.{vec2}
-use Rattle.map_walks.specs.declared.moves.BoxWalk.{BoxWalk}
-use Rattle.map_walks.specs.declared.moves.BoxWalk.the-variants as box
-use Rattle.character_walk.specs.Walking.{rampedMove}
 use Rattle.map_tiles.specs.Map.{isMap}
 use Rattle.map_tiles.specs.declared.tiles.Sides.{Sides}
-use Rattle.character_hook.specs.Hook.{tickOf}
-use Rattle.character.specs.Records.{coreOf, mostTick, toNet, fromNet}
+use Rattle.character.specs.Records.{coreOf, toNet, fromNet}
 use Rattle.character.specs.Slot.{withCharacter}
 use Rattle.character.specs.Tick.{slotAt, nowhere}
-use Rattle.character.specs.Walk.{movedTo, playerWalk, rested, afterBox, moveAt}
+use Rattle.character.specs.Walk.{movedTo}
 use Rattle.character.specs.declared.Character.{Character}
 use Rattle.character.specs.declared.Slot.{Slot}
 use Rattle.character.specs.declared.records.Net.{Net}
 use Rattle.character.specs.declared.records.Net.the-variants as net
-use Rattle.character.specs.declared.walk.PlayerWalk.{PlayerWalk}
-use Rattle.character.specs.declared.walk.PlayerWalk.the-variants as among
 use Rattle.character.specs.declared.walk.MovedAt.{MovedAt}
 use Rattle.character.specs.declared.walk.MovedAt.the-variants as moved
-use Rattle.character_laws.proofs.Held.{Rests}
-use Rattle.character_laws.proofs.Slots.{set-others}
+use Rattle.character_laws.proofs.Back.{record-of}
+use Rattle.character_laws.proofs.Held.{Rests, move-rest}
 use Rattle.world.specs.Demand3.{leftIn, left, recordAt}
 use Rattle.world.specs.Step.{Moving, unpublished, tickAll, ofNet, recordOf, publish, moveIn, moveTurn, movingFrom, moveAll, stepAnswer, stepOn, step}
 use Rattle.world.specs.declared.Published.{Published}
 use Rattle.world.specs.declared.Stepped.{Stepped}
 use Rattle.world.specs.declared.World.{World}
 use Rattle.world.proofs.Moves.{leftFrom}
-use Rattle.world.proofs.Seats.{by-test, last-or-below, present-within, ticks-same, Same, Settling, moves-settle}
-
-pub core-is : (c : Character) (core : CharacterCore) → toNet c ≡ net.Core core → core ≡ coreOf c
-unfolding toNet
-core-is c core = go (leb (tickOf (c .hook)) mostTick)
-  where
-    go : (b : Bool) → cond b (net.Core (coreOf c)) net.TickTooLarge ≡ net.Core core → core ≡ coreOf c
-    go true e = cc
-    go false e = let z : _≡_ {A = ℕ} 0 1 = cc in absurd (omega arith)
-
--- a move changes position and velocity alone
-move-rest : (n : ℕ) (c : Character) (id : ℕ) (ss : List Slot) (s : Sides) (ts : List ℕ) (t : Tuning) → Rests (λ d. d ≡ movedTo c (d .pos) (d .vel)) (moveAt n c id ss s ts t)
-unfolding moveAt
-move-rest n c id ss s ts t = go (rampedMove s ts (c .pos) (c .vel) t)
-  where
-    on : (v : vec2) (w : PlayerWalk) → Rests (λ d. d ≡ movedTo c (d .pos) (d .vel)) (rested c v w)
-    on v among.TooFar = tt
-    on v (among.At p) = refl
-
-    go : (b : BoxWalk) → Rests (λ d. d ≡ movedTo c (d .pos) (d .vel)) (afterBox n c id ss t b)
-    go box.TooFar = tt
-    go (box.To b) = on (b .vel) (playerWalk n ss id (c .pos) (b .pos) (t .«player_collision»))
+use Rattle.world.proofs.Seats.{by-test, last-or-below, ticks-same, Same, Settling, moves-settle}
 
 module _ (n : ℕ) (s : Sides) (ts : List ℕ) (t : Tuning) (ss : List Slot) where
   -- p is the record of what the move left of k, where the moves begin with ss
@@ -120,7 +91,7 @@ module _ (n : ℕ) (s : Sides) (ts : List ℕ) (t : Tuning) (ss : List Slot) whe
       where
         nets : slotAt (m .slots) i .present ≡ true → (c : Character) → moveIn n s ts t (m .slots) i ≡ moved.To c → (o : Net) → toNet c ≡ o → moveTurn n s ts t i m ≡ publish m i (ofNet o) → Ends (Sofar (suc i)) (λ r. Unit {0}) (publish m i (ofNet o))
         nets p c q net.TickTooLarge w e = tt
-        nets p c q (net.Core core) w e = publishes p c q core (core-is c core w) e
+        nets p c q (net.Core core) w e = publishes p c q core (record-of c core w .0) e
 
         moves : slotAt (m .slots) i .present ≡ true → (o : MovedAt) → moveIn n s ts t (m .slots) i ≡ o → moveTurn n s ts t i m ≡ publish m i (recordOf o) → Ends (Sofar (suc i)) (λ r. Unit {0}) (publish m i (recordOf o))
         moves p moved.TooFar q e = tt

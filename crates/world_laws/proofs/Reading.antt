@@ -1,11 +1,11 @@
 -- A record reads as document 01 says. Assumes nothing.
 use Prim.Native.Nat.{ℕ, zero, suc, _≤_, _<_}
 use native.Mathlib.Omega.{arith}
-use mathlib.Core.Bool.{Bool, true, false, cond}
-use mathlib.Core.Logic.{_⊎_, inl, inr, ⊎-elim}
-use mathlib.Core.Path.{_≡_, refl, sym, ap, _∙_}
+use mathlib.Core.Bool.{Bool, false, cond}
+use mathlib.Core.Logic.{_⊎_, ⊎-elim}
+use mathlib.Core.Path.{_≡_, refl, ap, _∙_}
 use denote.Floats.{is-true}
-use lib.Dec.{T, eqb, leb}
+use lib.Dec.{eqb, leb}
 use lib.IntN.{ℤ, pos, negsuc}
 use lib.Signed.{_≤ℤ_}
 use borrow.Author.Tests.{ne-eqb, leb-true}
@@ -18,9 +18,9 @@ use Rattle.game_records.specs.declared.CharacterCore.{CharacterCore}
 use Rattle.game_records.specs.declared.Tick.{Tick}
 use Rattle.character_hook.specs.Hook.{idOf, nobody, attachedOrGrabbed, hookFromNet}
 use Rattle.character_hook.specs.declared.hook.Hook.{Hook}
-use Rattle.character_hook.specs.declared.hook.Hook.the-variants.{Retracted, Idle, Flying, Grabbed, Attached, Retracting0, Retracting1, Retracting2}
+use Rattle.character_hook.specs.declared.hook.Hook.the-variants.{Retracted, Grabbed, Attached}
 use Rattle.character.specs.Records.{usedAirjumpFromNet, jumpedAlreadyFromNet, fromNet}
-use Rattle.world_laws.specs.Reading.{hookPlace, hookDir, HookReads, ReadsAs, RecordsRead}
+use Rattle.world_laws.specs.Reading.{hookPlace, hookDir, HookReads, RecordsRead}
 
 -- ---- the direction
 goes-left : (z : ℤ) → z ≤ℤ negsuc 0 → fromInt z ≡ Left

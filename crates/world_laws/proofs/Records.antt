@@ -1,18 +1,17 @@
 -- What each number of a record is made of. Assumes nothing.
-use Prim.Native.Nat.{ℕ, zero, suc, _+_, _^_, _≤_, _<_}
+use Prim.Native.Nat.{ℕ, zero, suc, _+_, _≤_, _<_}
 use native.Mathlib.Omega.{arith}
 use mathlib.Core.Bool.{Bool, true, false, cond}
 use mathlib.Core.List.{List}
 use mathlib.Core.Path.{_≡_, refl, sym, ap, _∙_, subst}
 use denote.Floats.{passes}
 use lib.Dec.{T, leb}
-use lib.Ieee.{Float, binary32, mul}
 use lib.IntN.{ℤ, pos, negsuc, natAbs}
-use lib.Signed.{_≤ℤ_, leZ-yes, ≤ℤ-refl}
+use lib.Signed.{leZ-yes}
 use borrow.Author.Tests.{le-leb}
 use Rattle.base_turns.proofs.Kept.{Ends}
-use Rattle.num_convert.specs.Convert.{c256, to256ths, from256ths}
-use Rattle.num_convert.specs.Whole.{roundToI32, truncToI32}
+use Rattle.num_convert.specs.Convert.{to256ths}
+use Rattle.num_convert.specs.Whole.{roundToI32}
 use Rattle.num_convert.proofs.Scaled.{from256ths-back}
 use Rattle.num_convert.proofs.Wholes.{few-digits}
 use Rattle.aim_rule.specs.Angle.{netAngle, upperAngle}
@@ -32,7 +31,7 @@ use Rattle.character_hook.specs.Hook.{netState, netPos, netDir, tickOf, netHook
 use Rattle.character_hook.specs.declared.hook.Hook.{Hook}
 use Rattle.character_hook.specs.declared.hook.Hook.the-variants.{Retracted, Idle, Flying, Grabbed, Attached, Retracting0, Retracting1, Retracting2}
 use Rattle.character_motion.specs.Controls.{grounded}
-use Rattle.character.specs.Records.{netJumped, coreOf, toNet}
+use Rattle.character.specs.Records.{netJumped, coreOf}
 use Rattle.character.specs.Tick.{slotAt, steer, flight, hooked, ticked, tickAt, tickedSlot}
 use Rattle.character.specs.declared.Character.{Character}
 use Rattle.character.specs.declared.Slot.{Slot}
@@ -40,6 +39,7 @@ use Rattle.character.specs.declared.tick.HookFlight.{HookFlight}
 use Rattle.character.specs.declared.tick.HookFlight.the-variants.{TooFar, To}
 use Rattle.character.specs.declared.tick.TickedAt.{TickedAt}
 use Rattle.character.specs.declared.tick.TickedAt.the-variants as at
+use Rattle.character_laws.proofs.Back.{record-of}
 use Rattle.character_laws.proofs.Others.{Then, SameButVel}
 use Rattle.world.specs.Calls.{placeOf}
 use Rattle.world.specs.Demand3.{recordAt}
@@ -52,7 +52,7 @@ use Rattle.world.specs.declared.reading.Reading.the-variants as reading
 use Rattle.world.proofs.Answers.{place-is}
 use Rattle.world.proofs.Readings.{record-read}
 use Rattle.world_laws.specs.Records.{directionNumber, jumpNumber, HookNumbers, HookMadeOf, MadeOf, Points, TakenFrom, RecordsMade}
-use Rattle.world_laws.proofs.Left.{core-is, step-taken}
+use Rattle.world_laws.proofs.Left.{step-taken}
 use Rattle.world_laws.proofs.Ticks.{ticks-own}
 
 -- ---- the record of a character
@@ -196,7 +196,7 @@ read-made : (n : ℕ) (w : World) (k : ℕ) (r : CharacterCore) → readOf n w (
 read-made n w k r e =
     let h = record-read n w (pos k) r e in
     let q : placeOf n (pos k) ≡ k = ap natAbs (sym (place-is n (pos k) (h .inside))) in
-    let is : r ≡ coreOf (slotAt (w .slots) k .character) = core-is _ r (h .net) ∙ ap (λ (j : ℕ). coreOf (slotAt (w .slots) j .character)) q in
+    let is : r ≡ coreOf (slotAt (w .slots) k .character) = record-of _ r (h .net) .0 ∙ ap (λ (j : ℕ). coreOf (slotAt (w .slots) j .character)) q in
     rw is (made-of (slotAt (w .slots) k .character))
 
 pub records-made : (n : ℕ) → RecordsMade n

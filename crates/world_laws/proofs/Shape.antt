@@ -1,24 +1,22 @@
 -- The range of each number of a record that a step takes, a reader tells or a sender sends. Assumes nothing.
-use Prim.Native.Nat.{ℕ, zero, suc, _+_, _^_, _≤_, _<_}
+use Prim.Native.Nat.{ℕ, _+_, _^_, _≤_, _<_}
 use native.Mathlib.Omega.{arith}
-use mathlib.Core.Bool.{Bool, true, false, cond, _&&_, true≢false}
+use mathlib.Core.Bool.{Bool, true, false, cond}
 use mathlib.Core.List.{List, [], _∷_, _++_}
 use mathlib.Core.Logic.{_⊎_, inl, inr, ⊎-elim}
 use mathlib.Core.Path.{_≡_, refl, sym, ap, _∙_, subst}
 use denote.Floats.{passes}
-use lib.Dec.{T, eqb, leb}
+use lib.Dec.{eqb, leb}
 use lib.Ieee.{span, climb, size, odd, units, round, mul, ofFields, ofBits}
 use lib.IntN.{ℤ, pos, negsuc, natAbs}
-use lib.ListN.{length, set, length-set}
-use lib.Signed.{_≤ℤ_, leZ-yes, ≤ℤ-refl}
+use lib.ListN.{length, length-set}
+use lib.Signed.{leZ-yes}
 use borrow.Author.Tests.{le-leb, lt-ltb, eq-eqb, eqb-true, eqb-false}
-use Rattle.base_turns.specs.Turns.{run}
 use Rattle.base_turns.proofs.Kept.{Ends, run-kept}
 use Rattle.base_turns.proofs.Tests.{both}
 use Rattle.num_convert.specs.Casts.{castSigned}
 use Rattle.num_convert.specs.Convert.{to256ths}
 use Rattle.num_convert.specs.Whole.{wholeOf, roundToI32}
-use Rattle.num_vec2.specs.declared.vec2.{vec2}
 use Rattle.game_input.specs.Direction.{asInt}
 use Rattle.game_input.specs.declared.direction.MoveDirection.{MoveDirection}
 use Rattle.game_input.specs.declared.direction.MoveDirection.the-variants.{Left, None, Right}
@@ -36,6 +34,7 @@ use Rattle.character.specs.declared.Character.{Character}
 use Rattle.character.specs.declared.Slot.{Slot}
 use Rattle.character.specs.declared.tick.TickedAt.{TickedAt}
 use Rattle.character.specs.declared.tick.TickedAt.the-variants as ticked
+use Rattle.character_laws.proofs.Back.{record-of}
 use Rattle.character_laws.proofs.Held.{Only, tick-only}
 use Rattle.character_laws.proofs.Others.{Then, pulled-others, pulled-length}
 use Rattle.character_laws.proofs.Slots.{set-every}
@@ -67,7 +66,7 @@ use Rattle.send_rule.proofs.Along.{step-messages, call-along}
 use Rattle.send_rule.proofs.Linked.{Linked, linked-first, linked-next}
 use Rattle.send_rule.proofs.Messages.{itsCopy, hasMessage, messageOf}
 use Rattle.world_laws.specs.Records.{Within, Shape, MessageShaped, RecordShapes}
-use Rattle.world_laws.proofs.Left.{core-is, step-taken}
+use Rattle.world_laws.proofs.Left.{step-taken}
 
 -- ---- whole numbers
 between : (k m : ℕ) → k ≤ m → Within (pos 0) (pos m) (pos k)
@@ -214,7 +213,7 @@ module _ (n : ℕ) (s : Sides) (ts : List ℕ) where
       let w = after n s ts (fresh n) cs in
       let h = record-read n w id r e in
       let c = slotAt (w .slots) (placeOf n id) .character in
-      let is : r ≡ coreOf c = core-is c r (h .net) in
+      let is : r ≡ coreOf c = record-of c r (h .net) .0 in
       let ticks : tickOf (c .hook) ≤ 60 = ticks-told c 60 (subst (TicksWithin 60) is (hook-hold n .ever-within s ts cs id r e)) in
       rw is (shape-of n 60 few c (reached-seated cs .1 (placeOf n id)) ticks)
 

@@ -1,12 +1,11 @@
 -- A deadly tile counts as an open one wherever a tile is asked for, but for removals. Assumes nothing.
-use Prim.Native.Nat.{ℕ, zero, suc, _*_, _+_, _<_}
-use native.Mathlib.Omega.{arith}
-use mathlib.Core.Bool.{Bool, true, false, cond, _||_, _&&_, true≢false}
-use mathlib.Core.List.{List, [], map}
-use mathlib.Core.Path.{_≡_, refl, sym, ap, _∙_, subst, fun-ext}
+use Prim.Native.Nat.{ℕ, zero, suc, _*_, _+_}
+use mathlib.Core.Bool.{Bool, true, false, cond, _&&_, true≢false}
+use mathlib.Core.List.{List, []}
+use mathlib.Core.Path.{_≡_, refl, sym, ap, _∙_, fun-ext}
 use lib.Dec.{eqb}
 use lib.IntN.{ℤ, pos}
-use lib.ListN.{length, getD, length-map, List·getD-map}
+use lib.ListN.{getD, length-map, List·getD-map}
 use lib.Ieee.{Float, binary32, div}
 use borrow.Author.Tests.{eqb-true}
 use Rattle.base_turns.specs.Turns.{Turn, more, stop, next, run, fold}
@@ -15,7 +14,7 @@ use Rattle.num_vec2.specs.Vec2.{vmix}
 use Rattle.num_vec2.specs.declared.vec2.{vec2}
 use Rattle.map_corners.specs.Tile.{tileAt}
 use Rattle.map_tiles.specs.Box.{checkBox, onDeadly}
-use Rattle.map_tiles.specs.Map.{isMap, isSide, tileOfByte, tileIn, checkPoint, solid, deadly}
+use Rattle.map_tiles.specs.Map.{isMap, tileOfByte, tileIn, checkPoint, solid, deadly}
 use Rattle.map_tiles.specs.declared.tiles.Sides.{Sides}
 use Rattle.map_tiles.specs.declared.point.Tile.{Tile}
 use Rattle.map_tiles.specs.declared.point.Tile.the-variants.{Open, Normal, Deadly, Unhookable}
@@ -36,12 +35,11 @@ use Rattle.character.specs.Walk.{moveAt}
 use Rattle.character.specs.declared.Character.{Character}
 use Rattle.character.specs.declared.Slot.{Slot}
 use Rattle.world.specs.Calls.{joinAt, join}
-use Rattle.world.specs.Removal.{idsOf, dies, dying, removeAll, listed, idsIn}
-use Rattle.world.specs.Run.{ran, withoutRecords}
-use Rattle.world.specs.Step.{Moving, tickTurn, tickAll, moveTurn, movingFrom, moveAll, stepRefused, stepAnswer, stepOn, step}
+use Rattle.world.specs.Removal.{idsOf, dies, dying, idsIn}
+use Rattle.world.specs.Run.{withoutRecords}
+use Rattle.world.specs.Step.{Moving, tickAll, movingFrom, moveAll, stepRefused, stepAnswer, stepOn, step}
 use Rattle.world.specs.declared.Stepped.{Stepped}
 use Rattle.world.specs.declared.World.{World}
-use Rattle.world.specs.declared.call.Call.the-variants.{Join, Step}
 use Rattle.world.proofs.Removal.{removed-every, listed-ids}
 use Rattle.world_laws.specs.Spikes.{withoutSpikes, SpikesStopNothing}
 

@@ -1,20 +1,18 @@
 -- A fresh world, a join and the tunings are as document 01 has them. Assumes nothing.
-use Prim.Native.Nat.{ℕ, _+_, _^_, _≤_, _<_}
+use Prim.Native.Nat.{ℕ}
 use native.Mathlib.Omega.{arith}
-use mathlib.Core.Bool.{Bool, true, false, cond}
+use mathlib.Core.Bool.{true}
 use mathlib.Core.List.{List}
-use mathlib.Core.Path.{_≡_, refl, sym, ap, _∙_, subst}
-use lib.Dec.{ltb}
+use mathlib.Core.Path.{_≡_, refl, _∙_}
 use lib.Ieee.{span, climb, size, odd, units, round, mul, ofFields, ofBits}
-use lib.IntN.{ℤ, pos, negsuc, natAbs}
-use lib.ListN.{length, set, length-set, length-replicate}
+use lib.IntN.{ℤ, natAbs}
+use lib.ListN.{length, length-set, length-replicate}
 use lib.Seq.{getD-set-same, getD-set-other}
 use borrow.Author.Tests.{eq-eqb, lt-ltb, leb-true}
 use Rattle.num_convert.specs.Convert.{i32ToF32, hundredthsToF32, to256ths}
 use Rattle.num_convert.specs.Whole.{wholeOf, roundToI32}
 use Rattle.num_convert.proofs.Wholes.{i32-back}
 use Rattle.game_input.specs.Direction.{asInt, angleToNet}
-use Rattle.game_records.specs.declared.CharacterCore.{CharacterCore}
 use Rattle.game_tuning.specs.Tuning.{freshTunings, tuningAt, tuningOf}
 use Rattle.map_tiles.specs.declared.tiles.Sides.{Sides}
 use Rattle.character_hook.specs.Hook.{netState, netPos, netDir, tickOf, netHookedPlayer}
@@ -23,9 +21,8 @@ use Rattle.character.specs.Records.{netJumped, coreOf, toNet}
 use Rattle.character.specs.Slot.{joinedSlot}
 use Rattle.character.specs.Tick.{slotAt, nowhere}
 use Rattle.character.specs.declared.Slot.{Slot}
-use Rattle.character.specs.declared.records.Net.the-variants as net
 use Rattle.world.specs.Calls.{placeOf, inReach, pointOf, join}
-use Rattle.world.specs.Readers.{ofSeated, recordNow, inputNow, markNow, seated, readOf}
+use Rattle.world.specs.Readers.{ofSeated, recordNow, inputNow, markNow, seated}
 use Rattle.world.specs.World.{fresh, withSlot}
 use Rattle.world.specs.declared.World.{World}
 use Rattle.world.specs.declared.reading.Reading.{Reading}

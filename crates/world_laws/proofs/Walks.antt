@@ -1,17 +1,17 @@
 -- A walk's count, and the numbers of the answers that it decides. Assumes nothing.
-use Prim.Native.Nat.{ℕ, zero, suc, _+_, _≤_, _<_}
+use Prim.Native.Nat.{ℕ, zero, suc, _+_, _<_}
 use native.Mathlib.Omega.{arith}
 use mathlib.Core.Bool.{Bool, true, false, cond, true≢false}
 use mathlib.Core.List.{List}
 use mathlib.Core.Logic.{_↔_}
 use mathlib.Core.Path.{_≡_, refl, sym, ap, _∙_, subst}
 use denote.Floats.{passes, is-true}
-use lib.Dec.{T, leb, ltb}
-use lib.Ieee.{Float, binary32, add, mul, lt, ne}
+use lib.Dec.{leb, ltb}
+use lib.Ieee.{Float, binary32, mul, lt, ne}
 use lib.IntN.{ℤ, pos, negsuc, _+ℤ_}
-use lib.Signed.{_≤ℤ_, leZ-yes}
+use lib.Signed.{leZ-yes}
 use borrow.Author.Tests.{leb-true, leb-false, ltb-true, ltb-false, le-leb, lt-ltb}
-use Rattle.num_convert.specs.Number.{c0, c1}
+use Rattle.num_convert.specs.Number.{c0}
 use Rattle.num_convert.specs.Whole.{roundToI32, truncToI32}
 use Rattle.num_ramp.specs.Ramp.{velocityRamp}
 use Rattle.num_vec2.specs.Vec2.{vlength, vdistance}
@@ -54,7 +54,7 @@ use Rattle.character.specs.declared.walk.PlayerWalk.{PlayerWalk}
 use Rattle.character.specs.declared.walk.PlayerWalk.the-variants as among
 use Rattle.world.specs.Answers.{LowestFirst}
 use Rattle.world.proofs.Answers.{none-fits, lowest-fits}
-use Rattle.world_laws.specs.Walks.{lineCount, boxCount, playerCount, TooMany, BoxTooFar, WalkTooFar, LineFits, BoxFits, FliesTooFar, hookFired, TickFits, MoveFits, rampedVel, WalksRefused}
+use Rattle.world_laws.specs.Walks.{lineCount, TooMany, BoxTooFar, WalkTooFar, LineFits, BoxFits, FliesTooFar, hookFired, TickFits, MoveFits, rampedVel, WalksRefused}
 use Rattle.world_laws.specs.Walks as fits
 
 -- ---- counts

@@ -5,7 +5,6 @@ use mathlib.Core.List.{List}
 use mathlib.Core.Path.{_≡_}
 use lib.IntN.{ℤ, pos, negsuc}
 use lib.ListN.{length}
-use Rattle.game_records.specs.declared.CharacterCore.{CharacterCore}
 use Rattle.game_records.specs.declared.PlayerInput.{PlayerInput}
 use Rattle.game_tuning.specs.Tuning.{tuningCount}
 use Rattle.map_tiles.specs.declared.tiles.Sides.{Sides}

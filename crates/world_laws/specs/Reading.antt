@@ -1,5 +1,5 @@
 -- A record as a character: what each of its numbers says, and which say nothing. Definitions only; proofs/Reading.antt proves it.
-use Prim.Native.Nat.{ℕ, _/_, _%_}
+use Prim.Native.Nat.{_/_, _%_}
 use mathlib.Core.Logic.{_⊎_}
 use mathlib.Core.Path.{_≡_}
 use lib.Dec.{eqb}

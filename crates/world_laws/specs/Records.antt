@@ -1,5 +1,5 @@
 -- The numbers of a record: what each is made of, and its range. Definitions only; proofs/Records.antt and proofs/Shape.antt prove it.
-use Prim.Native.Nat.{ℕ, _^_, _≤_, _<_}
+use Prim.Native.Nat.{ℕ, _≤_, _<_}
 use mathlib.Core.Bool.{Bool, true, false}
 use mathlib.Core.List.{List, [], _∷_}
 use mathlib.Core.Logic.{_⊎_}
