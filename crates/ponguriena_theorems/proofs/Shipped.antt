@@ -1,5 +1,6 @@
 -- Every theorem holds for any number of seats, so for those that there are. Assumes nothing.
 use Prim.Native.Nat.{ℕ}
+use native.Mathlib.Omega.{arith}
 use mathlib.Core.Path.{refl}
 use Rattle.aim_rule.proofs.Quarters.{reads-a-quarter}
 use Rattle.game_packed.proofs.Back.{round-trip}
@@ -29,6 +30,16 @@ use Rattle.world_late.proofs.Late.{what-may-be-exchanged, calls-commute, later-
 use Rattle.send_rule.proofs.Shown.{screen-shows}
 use Rattle.send_rule.proofs.Sparing.{sender-spares}
 use Rattle.send_rule.proofs.Along.{sender-passes}
+use Rattle.world_laws.proofs.Spikes.{spikes-stop-nothing}
+use Rattle.world_laws.proofs.Walks.{walks-refused}
+use Rattle.world_laws.proofs.Steps.{step-numbers}
+use Rattle.world_laws.proofs.Holding.{step-holds}
+use Rattle.world_laws.proofs.Records.{records-made}
+use Rattle.world_laws.proofs.Shape.{record-shapes}
+use Rattle.world_laws.proofs.Start.{fresh-world, join-starts, tunings-by-index}
+use Rattle.world_laws.proofs.Reading.{records-read}
+use Rattle.world_laws.proofs.Flight.{hooks-end}
+use Rattle.world_laws.proofs.Order.{rising-ids}
 use Rattle.send_rule.proofs.Foreseen.{copy-foresees, copy-stays}
 use Rattle.send_rule.proofs.Quiet.{message-renews, alone-quiet}
 use Rattle.send_rule.proofs.QuietAmong.{as-alone-quiet}
@@ -59,7 +70,11 @@ pub all-theorems : (n : ℕ) → Theorems n
 all-theorems n = record {
   demand1 = demand1 n;
   answers = answers n;
+  freshWorld = fresh-world n;
+  joins = join-starts n;
+  stepNumbers = step-numbers n;
   demand3 = demand3 n;
+  made = records-made n;
   output = whole-output n;
   ends = play-ends n;
   back = comes-back n;
@@ -68,6 +83,7 @@ all-theorems n = record {
   releases = leave-releases n;
   held = held-present n;
   spikes = step-spikes n;
+  stopNothing = spikes-stop-nothing n;
   shown = screen-shows n;
   sparing = sender-spares n;
   along = sender-passes n;
@@ -90,6 +106,7 @@ all-theorems n = record {
   inputs = inputs-stored n;
   ways = search-reaches n;
   hold = hook-hold n;
+  stepHolds = step-holds n;
   commute = calls-commute n;
   replace = later-replaces n;
   late = late-lists n;
@@ -101,6 +118,12 @@ shipped = record {
   theorems = all-theorems seats;
   howMany = refl;
   cases = proved-cases;
+  walks = walks-refused;
+  rising = rising-ids;
+  hooksEnd = hooks-end;
+  tuningIndex = tunings-by-index;
+  shapes = record-shapes seats (omega arith);
+  recordsRead = records-read;
   stand = calls-stand;
   refusals = refusals-leave;
   buffers = buffer-follows;

@@ -1,6 +1,8 @@
 -- The theorems that customers were given, for any number of seats, and what is shipped. Definitions only; proofs/Shipped.antt cites their proofs.
 use Prim.Native.Nat.{ℕ}
+use mathlib.Core.List.{List}
 use mathlib.Core.Path.{_≡_}
+use lib.IntN.{ℤ}
 use Rattle.aim_rule.specs.Scan.{ReadsAQuarter}
 use Rattle.game_packed.specs.Laws.{RoundTrip, ReadAsWritten, SizesHold, NoneBegins, ToldEnds, WorkedBytes}
 use Rattle.character.specs.Tick.{seats}
@@ -20,6 +22,14 @@ use Rattle.trial_rule.specs.Laws.{RowsTell, Independent, CountsSteps, TellsSmal
 use Rattle.trial_rule.specs.Limits.{TrialLimits}
 use Rattle.world_late.specs.Arrival.{AnyArrival}
 use Rattle.world_late.specs.Late.{WhatMayBeExchanged, CallsCommute, LaterReplaces, LateLists, StruckLists}
+use Rattle.world_laws.specs.Spikes.{SpikesStopNothing}
+use Rattle.world_laws.specs.Walks.{WalksRefused, StepNumbers}
+use Rattle.world_laws.specs.Holding.{StepHolds}
+use Rattle.world_laws.specs.Records.{RecordsMade, RecordShapes}
+use Rattle.world_laws.specs.Start.{FreshWorld, JoinStarts, TuningsByIndex}
+use Rattle.world_laws.specs.Reading.{RecordsRead}
+use Rattle.world_laws.specs.Flight.{HooksEnd}
+use Rattle.world_laws.specs.Order.{RisingIds}
 use Rattle.send_rule.specs.Shown.{Shown}
 use Rattle.send_rule.specs.Sparing.{Sparing}
 use Rattle.send_rule.specs.Along.{Along}
@@ -47,8 +57,15 @@ pub record Theorems (n : ℕ) : Type 0 where
   pub demand1 : Demand1 n
   -- which calls are refused, with the lowest number that fits, and that a refused call tells its number alone
   pub answers : Answers n
+  -- a fresh world, and a joined character
+  pub freshWorld : FreshWorld n
+  pub joins : JoinStarts n
+  -- a step answers 0, 1 or 9, and 9 exactly when a tick or a move in it does
+  pub stepNumbers : StepNumbers n
   -- clear boxes, records that come back, records that are near
   pub demand3 : Demand3 n
+  -- the character that a record is made of, number by number
+  pub made : RecordsMade n
   -- all that the session program writes for a text, and that it ends
   pub output : WholeOutput n
   pub ends : PlayEnds n
@@ -60,8 +77,9 @@ pub record Theorems (n : ℕ) : Type 0 where
   -- request 4: hooks on who left
   pub releases : LeaveReleases n
   pub held : HeldPresent n
-  -- request 5: deadly tiles
+  -- request 5: deadly tiles remove, and stop nothing
   pub spikes : StepSpikes n
+  pub stopNothing : SpikesStopNothing n
   -- request 6: screens that are sent surprises alone
   pub shown : Shown n
   pub sparing : Sparing n
@@ -89,8 +107,9 @@ pub record Theorems (n : ℕ) : Type 0 where
   pub inputs : InputsStored n
   -- request 12: the first way to a place
   pub ways : Reaches n
-  -- request 13: the hook's hold
+  -- request 13: the hook's hold, and what a step makes of a hook that holds somebody
   pub hold : HookHold n
+  pub stepHolds : StepHolds n
   -- request 14: calls that arrive late, two of them and in lists
   pub commute : CallsCommute n
   pub replace : LaterReplaces n
@@ -104,6 +123,14 @@ pub record Shipped : Type 0 where
   pub howMany : seats ≡ 64
   -- the cases that the customer wants proved
   pub cases : ProvedCases
+  -- a walk is refused exactly from 65,537 turns on; ticks and moves by rising id; where a flying hook ends; the tunings by their index
+  pub walks : WalksRefused
+  pub rising : RisingIds
+  pub hooksEnd : HooksEnd
+  pub tuningIndex : (ts : List ℤ) → TuningsByIndex ts
+  -- the range of each number of a record that is taken, told or sent; a record as a character
+  pub shapes : RecordShapes seats
+  pub recordsRead : RecordsRead
   -- on any numbers a call is the one by value on the world that they stand for, and a refused one leaves every number
   pub stand : CallsStand
   pub refusals : RefusalsLeave
