@@ -26,7 +26,7 @@ use Rattle.trial_rule.proofs.Runs.{state-full, ended}
 use Rattle.trial_rule.proofs.Joins.{refusal-counts, all-sized}
 
 -- one of rows that are all of one length
-row-at : {A : Type 0} (f : A → List ℤ) (c : ℕ) (x : A) (xs : List A) → ((k : ℕ) → k < length xs → length (f (getD xs k x)) ≡ c) → (k : ℕ) → k < length xs → rowOf c k (each f xs) ≡ f (getD xs k x)
+pub row-at : {A : Type 0} (f : A → List ℤ) (c : ℕ) (x : A) (xs : List A) → ((k : ℕ) → k < length xs → length (f (getD xs k x)) ≡ c) → (k : ℕ) → k < length xs → rowOf c k (each f xs) ≡ f (getD xs k x)
 unfolding each
 row-at f c x [] long k h = absurd (omega arith)
 row-at f c x (y ∷ ys) long zero h = let e : c * 0 ≡ 0 = omega arith in ap (λ (i : ℕ). take c (drop i (f y ++ each f ys))) e ∙ take-at (f y) (each f ys) c (long 0 (omega arith))
@@ -40,7 +40,7 @@ module _ (n : ℕ) (s : Sides) (ts : List ℕ) (joins targets tunings : List ℤ
   abbrev runOf : Trying → List ℤ → Tried
   runOf t zs = tried n s ts (count steps) (tunedTo zs t)
 
-  run-full : (t : Trying) → enterAll n s ts (entrants joins targets) (nobodyYet n) ≡ more t → (zs : List ℤ) → length (runOf t zs .players) ≡ n
+  pub run-full : (t : Trying) → enterAll n s ts (entrants joins targets) (nobodyYet n) ≡ more t → (zs : List ℤ) → length (runOf t zs .players) ≡ n
   run-full t q zs = ap length (ended n s ts (tunedTo zs t) (count steps) .players) ∙ state-full n s ts (tunedTo zs t) (all-sized n s ts (entrants joins targets) t q .players) (runOf t zs .steps)
 
   rows : (t : Trying) → enterAll n s ts (entrants joins targets) (nobodyYet n) ≡ more t → (i : ℕ) → i < tuningsIn tunings → rowOf (rowCount n) i (each triedNumbers (map (runOf t) (tuningRows tunings))) ≡ triedNumbers (runOf t (rowOf tuningCount i tunings))
@@ -69,6 +69,10 @@ rows-tell n s ts joins targets tunings steps result = go (areWhole n (length joi
     go true false c e z = absurd (omega (arith, z))
     go false b c e z = absurd (omega (arith, z))
 
+-- joins that are accepted reach one state
+pub same-start : {x y : Trying} → _≡_ {A = Turn Trying ℕ} (more x) (more y) → x ≡ y
+same-start r = cc
+
 pub independent : (n : ℕ) → Independent n
 independent n s ts joins targets steps tunings result otherTunings otherResult i j p q h k e =
     let a = rows-tell n s ts joins targets tunings steps result p in
@@ -76,6 +80,3 @@ independent n s ts joins targets steps tunings result otherTunings otherResult i
     let m : more (a .start) ≡ more (b .start) = sym (a .accepted) ∙ b .accepted in
     let t : a .start ≡ b .start = same-start m in
     a .rows i h ∙ ap₂ (λ (zs : List ℤ) (u : Trying). triedNumbers (tried n s ts (count steps) (tunedTo zs u))) e t ∙ sym (b .rows j k)
-  where
-    same-start : {x y : Trying} → _≡_ {A = Turn Trying ℕ} (more x) (more y) → x ≡ y
-    same-start r = cc

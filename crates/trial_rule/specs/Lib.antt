@@ -3,3 +3,5 @@ pub mod Calls
 pub mod Laws
 pub mod Worked
 pub mod Limits
+pub mod Answers
+pub mod Numbers
