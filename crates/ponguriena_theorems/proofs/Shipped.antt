@@ -25,6 +25,8 @@ use Rattle.trial_rule.proofs.Told.{tells-smallest, tells-nobody, jumps-after-st
 use Rattle.trial_rule.proofs.ByCalls.{runs-by-calls}
 use Rattle.trial_rule.proofs.Inputs.{goes-towards, inputs-stored}
 use Rattle.trial_rule.proofs.Limits.{trial-limits}
+use Rattle.trial_rule.proofs.Answers.{answers-of-trials}
+use Rattle.trial_rule.proofs.Numbers.{entrants-lent, targets-clamped, distance-tiles, rows-give-back}
 use Rattle.world_late.proofs.Arrival.{any-arrival}
 use Rattle.world_late.proofs.Late.{what-may-be-exchanged, calls-commute, later-replaces, late-lists, struck-lists}
 use Rattle.send_rule.proofs.Shown.{screen-shows}
@@ -59,6 +61,7 @@ use Rattle.told_numbers.proofs.Refused.{readers-leave}
 use Rattle.role_rule.proofs.Requests.{roles-hold}
 use Rattle.search_rule.proofs.Laws.{search-reaches}
 use Rattle.ponguriena.proofs.Standing.{roles-stand}
+use Rattle.refusal_laws.proofs.Stays.{everything-stays}
 use Rattle.map_totals.proofs.Numbers.{area-numbers}
 use Rattle.map_totals.proofs.Counts.{counts-solid, clear-area}
 use Rattle.map_totals.proofs.Changes.{change-writes, change-follows, change-reaches}
@@ -104,6 +107,8 @@ all-theorems n = record {
   jumps = jumps-after-stay n;
   trialCalls = runs-by-calls n;
   inputs = inputs-stored n;
+  trialAnswers = answers-of-trials n;
+  rowsBack = rows-give-back n;
   ways = search-reaches n;
   hold = hook-hold n;
   stepHolds = step-holds n;
@@ -139,6 +144,7 @@ shipped = record {
   absentTold = absent-told;
   readingsTold = readings-told;
   readersLeave = readers-leave;
+  everythingStays = everything-stays;
   byRole = roles-stand;
   roundTrip = round-trip;
   accepted = accepted;
@@ -155,6 +161,9 @@ shipped = record {
   reaches = change-reaches;
   towards = goes-towards;
   limits = trial-limits;
+  entrants = entrants-lent;
+  targets = targets-clamped;
+  distances = distance-tiles;
   holding = holding;
   exchange = what-may-be-exchanged;
   arrival = any-arrival;

@@ -20,6 +20,8 @@ use Rattle.world.specs.Readings.{Readings}
 use Rattle.world_solo.specs.Solo.{Solo}
 use Rattle.trial_rule.specs.Laws.{RowsTell, Independent, CountsSteps, TellsSmallest, TellsNobody, JumpsAfterStay, RunsByCalls, GoesTowards, InputsStored}
 use Rattle.trial_rule.specs.Limits.{TrialLimits}
+use Rattle.trial_rule.specs.Answers.{AnswersOfTrials}
+use Rattle.trial_rule.specs.Numbers.{EntrantsLent, TargetsClamped, DistanceTiles, RowsGiveBack}
 use Rattle.world_late.specs.Arrival.{AnyArrival}
 use Rattle.world_late.specs.Late.{WhatMayBeExchanged, CallsCommute, LaterReplaces, LateLists, StruckLists}
 use Rattle.world_laws.specs.Spikes.{SpikesStopNothing}
@@ -48,6 +50,7 @@ use Rattle.told_numbers.specs.Refused.{ReadersLeave}
 use Rattle.role_rule.specs.Requests.{Roles}
 use Rattle.search_rule.specs.Laws.{Reaches}
 use Rattle.ponguriena.specs.Standing.{RolesStand}
+use Rattle.refusal_laws.specs.Stays.{EverythingStays}
 use Rattle.map_totals.specs.Laws.{AreaNumbers, CountsSolid, ClearArea, ChangeWrites, ChangeFollows, ChangeReaches}
 use Rattle.session_laws.specs.Played.{WholeOutput, PlayEnds}
 
@@ -105,6 +108,8 @@ pub record Theorems (n : ℕ) : Type 0 where
   pub jumps : JumpsAfterStay n
   pub trialCalls : RunsByCalls n
   pub inputs : InputsStored n
+  pub trialAnswers : AnswersOfTrials n
+  pub rowsBack : RowsGiveBack n
   -- request 12: the first way to a place
   pub ways : Reaches n
   -- request 13: the hook's hold, and what a step makes of a hook that holds somebody
@@ -149,6 +154,8 @@ pub record Shipped : Type 0 where
   pub absentTold : AbsentTold
   pub readingsTold : ReadingsTold
   pub readersLeave : ReadersLeave
+  -- a refused function of the C interface leaves everything that it was lent
+  pub everythingStays : EverythingStays
   -- calls and reads by the number of a role are those by the role
   pub byRole : RolesStand
   -- request 1: packed records come back, nothing else is read, and what is told where none is
@@ -167,9 +174,12 @@ pub record Shipped : Type 0 where
   pub writes : ChangeWrites
   pub follows : ChangeFollows
   pub reaches : ChangeReaches
-  -- request 11: which way a player goes, and how many tunings and steps a trial has
+  -- request 11: which way a player goes, how many tunings and steps a trial has, who is lent, its target on the map, and its distance
   pub towards : GoesTowards
   pub limits : TrialLimits
+  pub entrants : EntrantsLent
+  pub targets : TargetsClamped
+  pub distances : DistanceTiles
   -- request 13: what a tick makes of a hook that holds somebody, whatever the hold
   pub holding : Holding
   -- request 14: which calls may be exchanged, the orders in which calls may arrive, and late calls on any numbers
