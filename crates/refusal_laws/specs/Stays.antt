@@ -1,5 +1,5 @@
--- A refused function of the C interface leaves every buffer and count that it was lent as it was, whatever their lengths and whoever calls: each is the
--- definition that the function's contract cites. Definitions only; proofs/Stays.antt proves it.
+-- A refused function of the C interface leaves every buffer and count that it was lent as it was, whatever their lengths and the role. Each line speaks of
+-- the definition that the function's contract cites. Definitions only; proofs/Stays.antt proves it.
 use Prim.Native.Nat.{ℕ}
 use mathlib.Core.List.{List}
 use mathlib.Core.Path.{_≡_}
@@ -26,9 +26,9 @@ use Rattle.ponguriena.specs.ByRole.{callAs, stepAs, readInAs, searchAs, sendAs,
 abbrev pub Refuses : ℕ → Type 0
 Refuses k = k ≡ 0 → ⊥
 
--- all that are lent something to write: twenty-four, the four reads in one line
+-- the twenty-four functions that are lent something to write; the four readers are one line
 pub record EverythingStays : Type 0 where
-  -- a world
+  -- functions on a world
   pub fresh : (l : List ℤ) → let a = freshIn l in Refuses (a .number) → a .world ≡ l
   pub join : (role : ℤ) (s : Sides) (ts : List ℕ) (l : List ℤ) (id x y : ℤ) → let a = callAs role (Join id x y) l (joinIn s ts l id x y) in Refuses (a .number) → a .world ≡ l
   pub leave : (role : ℤ) (l : List ℤ) (id : ℤ) → let a = callAs role (Leave id) l (leaveIn l id) in Refuses (a .number) → a .world ≡ l
@@ -37,7 +37,7 @@ pub record EverythingStays : Type 0 where
   pub step : (role : ℤ) (s : Sides) (ts : List ℕ) (l : List ℤ) (t : StepBuffers) → let a = stepAs role l t (stepIn s ts l t) in Refuses (a .number) → (a .world ≡ l) × (a .told ≡ t)
   pub reads : (role : ℤ) (q : Query) (l out : List ℤ) → let a = readInAs role q out (readIn q l out) in Refuses (a .number) → a .numbers ≡ out
   pub search : (role : ℤ) (s : Sides) (ts : List ℕ) (l : List ℤ) (id x y : ℤ) (out : List ℤ) → let a = searchAs role out (searchIn s ts l id x y out) in Refuses (a .number) → a .numbers ≡ out
-  -- a sender and a screen
+  -- functions on a sender or a screen
   pub senderFresh : (l : List ℤ) → let a = freshBuffer senderCount (copiesEncoding (noCopies seats)) l in Refuses (a .number) → a .numbers ≡ l
   pub screenFresh : (l : List ℤ) → let a = freshBuffer screenCount (screenEncoding (freshScreen seats)) l in Refuses (a .number) → a .numbers ≡ l
   pub sendLeave : (role : ℤ) (l : List ℤ) (id : ℤ) (b : SenderBuffers) → let a = sendAs role (Leave id) l b (sendIn (Leave id) (leaveIn l id) l b) in Refuses (a .left .number) → (a .left .world ≡ l) × (a .sent ≡ b)
@@ -45,7 +45,7 @@ pub record EverythingStays : Type 0 where
   pub sendStep : (role : ℤ) (s : Sides) (ts : List ℕ) (l : List ℤ) (t : StepBuffers) (b : SenderBuffers) → let a = sendStepAs role l t b (sendStepIn s ts l t b) in Refuses (a .left .number) → (a .left .world ≡ l) × (a .left .told ≡ t) × (a .sent ≡ b)
   pub receive : (s : Sides) (ts : List ℕ) (l passed : List ℤ) (used : ℕ) → let a = receiveIn s ts l passed used in Refuses (a .number) → (a .screen ≡ l) × (a .used ≡ used)
   pub shown : (l : List ℤ) (id : ℤ) (out : List ℤ) → let a = shownIn l id out in Refuses (a .number) → a .numbers ≡ out
-  -- no world
+  -- functions without a world
   pub pack : (l : List ℤ) (bytes : List ℕ) (k : ℕ) → let a = packIn l bytes k in Refuses (a .number) → (a .bytes ≡ bytes) × (a .count ≡ k)
   pub unpack : (bytes : List ℕ) (l : List ℤ) (used : ℕ) → let a = unpackIn bytes l used in Refuses (a .number) → (a .numbers ≡ l) × (a .used ≡ used)
   pub areaBuild : (s : Sides) (ts totals : List ℕ) → let a = buildIn s ts totals in Refuses (a .number) → a .totals ≡ totals

@@ -39,20 +39,20 @@ Holds tuned tunings = (i : ℕ) → i < tuned → let z = numberAt tunings (19 *
 
 -- ---- the joins
 
--- the k-th: id, x and y
+-- the k-th join: id, x and y
 abbrev pub joinOf : List ℤ → ℕ → Call
 joinOf joins k = Join (numberAt joins (3 * k)) (numberAt joins (3 * k + 1)) (numberAt joins (3 * k + 2))
 
--- those before the k-th
+-- the joins before the k-th
 abbrev pub joinsBefore : List ℤ → ℕ → List Call
 joinsBefore joins zero = []
 joinsBefore joins (suc k) = joinsBefore joins k ++ (joinOf joins k ∷ [])
 
--- the number that the k-th answers after those before it, from a fresh world
+-- the number that the k-th join answers after the joins before it, from a fresh world
 abbrev pub joinNumber : ℕ → Sides → List ℕ → List ℤ → ℕ → ℕ
 joinNumber n s ts joins k = ran n s ts (after n s ts (fresh n) (joinsBefore joins k)) (joinOf joins k) .number
 
--- the first of these numbers that is not 0, a refused join's, is k
+-- k is the number of the first refused join, by the numbers of all
 pub record FirstRefused (numbers : ℕ → ℕ) (players k : ℕ) : Type 0 where
   pub at : ℕ
   pub within : at < players
@@ -62,15 +62,20 @@ pub record FirstRefused (numbers : ℕ → ℕ) (players k : ℕ) : Type 0 where
 
 -- ---- the claim
 
--- which number a trial answers: 17, 1, 15, 16, the first refused join's own, or 0
-pub data TrialAnswers (n : ℕ) (s : Sides) (ts : List ℕ) (joins targets tunings : List ℤ) (steps : ℤ) (result : List ℤ) (k : ℕ) : Type 0 where
-  not-whole : k ≡ 17 → (Whole n joins targets tunings result → ⊥) → TrialAnswers n s ts joins targets tunings steps result k
-  no-map : k ≡ 1 → Whole n joins targets tunings result → (IsMap s ts → ⊥) → TrialAnswers n s ts joins targets tunings steps result k
-  no-trial : k ≡ 15 → (f : Whole n joins targets tunings result) → IsMap s ts → (Within (f .tuned) steps → ⊥) → TrialAnswers n s ts joins targets tunings steps result k
-  no-hold : k ≡ 16 → (f : Whole n joins targets tunings result) → IsMap s ts → Within (f .tuned) steps → (Holds (f .tuned) tunings → ⊥) → TrialAnswers n s ts joins targets tunings steps result k
-  refused : (f : Whole n joins targets tunings result) → IsMap s ts → Within (f .tuned) steps → Holds (f .tuned) tunings → FirstRefused (joinNumber n s ts joins) (f .players) k → TrialAnswers n s ts joins targets tunings steps result k
-  accepted : k ≡ 0 → (f : Whole n joins targets tunings result) → IsMap s ts → Within (f .tuned) steps → Holds (f .tuned) tunings → ((i : ℕ) → i < f .players → joinNumber n s ts joins i ≡ 0) → TrialAnswers n s ts joins targets tunings steps result k
+module _ (n : ℕ) (s : Sides) (ts : List ℕ) (joins targets tunings : List ℤ) (steps : ℤ) (result : List ℤ) where
+  -- the lengths of what is lent fit each other
+  abbrev pub Lengths : Type 0
+  Lengths = Whole n joins targets tunings result
 
--- every trial, whatever it is lent
+  -- why a trial answers k, in the order of its tests: 17, 1, 15, 16, the first refused join's own number, or 0
+  pub data TrialAnswers (k : ℕ) : Type 0 where
+    not-whole : k ≡ 17 → (Lengths → ⊥) → TrialAnswers k
+    no-map : k ≡ 1 → Lengths → (IsMap s ts → ⊥) → TrialAnswers k
+    no-trial : k ≡ 15 → (f : Lengths) → IsMap s ts → (Within (f .tuned) steps → ⊥) → TrialAnswers k
+    no-hold : k ≡ 16 → (f : Lengths) → IsMap s ts → Within (f .tuned) steps → (Holds (f .tuned) tunings → ⊥) → TrialAnswers k
+    refused : (f : Lengths) → IsMap s ts → Within (f .tuned) steps → Holds (f .tuned) tunings → FirstRefused (joinNumber n s ts joins) (f .players) k → TrialAnswers k
+    accepted : k ≡ 0 → (f : Lengths) → IsMap s ts → Within (f .tuned) steps → Holds (f .tuned) tunings → ((i : ℕ) → i < f .players → joinNumber n s ts joins i ≡ 0) → TrialAnswers k
+
+-- a trial answers k exactly when there is a reason for k, whatever it is lent
 abbrev pub AnswersOfTrials : ℕ → Type 0
 AnswersOfTrials n = (s : Sides) (ts : List ℕ) (joins targets tunings : List ℤ) (steps : ℤ) (result : List ℤ) (k : ℕ) → (trialIn n s ts joins targets tunings steps result .number ≡ k) ↔ TrialAnswers n s ts joins targets tunings steps result k

@@ -23,7 +23,7 @@ use Rattle.trial_rule.specs.declared.Tried.{Tried}
 abbrev pub entrantOf : List ℤ → List ℤ → ℕ → Entrant
 entrantOf joins targets k = record { id = numberAt joins (3 * k); x = numberAt joins (3 * k + 1); y = numberAt joins (3 * k + 2); column = numberAt targets (2 * k); row = numberAt targets (2 * k + 1) }
 
--- as many as are lent, each by its numbers
+-- es are as many players as are lent, each by its own numbers
 pub record Lent (joins targets : List ℤ) (players : ℕ) (es : List Entrant) : Type 0 where
   pub count : length es ≡ players
   pub each : (k : ℕ) → k < players → (past : Entrant) → getD es k past ≡ entrantOf joins targets k
@@ -33,7 +33,7 @@ EntrantsLent = (joins targets : List ℤ) (players : ℕ) → length joins ≡ 3
 
 -- ---- targets and distances
 
--- z clamped to 0 to side - 1
+-- k is z clamped to 0 to side - 1
 pub record Clamped (side : ℕ) (z : ℤ) (k : ℕ) : Type 0 where
   pub below : (i : ℕ) → z ≡ negsuc i → k ≡ 0
   pub inside : (i : ℕ) → z ≡ pos i → i < side → k ≡ i
@@ -47,7 +47,7 @@ TargetsClamped = (s : Sides) (e : Entrant) → Clamped (s .width) (e .column) (t
 abbrev pub Apart : ℕ → ℕ → ℕ → Type 0
 Apart a b d = (a + d ≡ b) ⊎ (b + d ≡ a)
 
--- columns plus rows, by the point rule
+-- the distance of a point from a tile: columns plus rows, by the point rule
 abbrev pub DistanceTiles : Type 0
 DistanceTiles = (s : Sides) (column row : ℕ) (p : vec2) (columns rows : ℕ) → Apart (tileAt (s .width) (p .x)) column columns → Apart (tileAt (s .height) (p .y)) row rows → distanceTo s column row p ≡ columns + rows
 
