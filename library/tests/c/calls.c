@@ -113,15 +113,94 @@ static void receive_all(Map map) {
 /* This header is for this library. */
 static void layout(void) { same("layout", ponguriena_layout(), PONGURIENA_LAYOUT); }
 
-/* As libtw2 has them. */
-static void hook_states(void) {
-    same("retracted", PONGURIENA_HOOK_RETRACTED, -1);
-    same("idle", PONGURIENA_HOOK_IDLE, 0);
-    same("retracting 0", PONGURIENA_HOOK_RETRACTING0, 1);
-    same("retracting 1", PONGURIENA_HOOK_RETRACTING1, 2);
-    same("retracting 2", PONGURIENA_HOOK_RETRACTING2, 3);
-    same("flying", PONGURIENA_HOOK_FLYING, 4);
-    same("attached or grabbed", PONGURIENA_HOOK_ATTACHED_GRABBED, 5);
+/* The header's names with their numbers, which compiled programs contain. */
+#define NUMBER(name, number) same(#name, PONGURIENA_##name, number)
+
+static void numbered_answers(void) {
+    NUMBER(ACCEPTED, 0);
+    NUMBER(BAD_MAP, 1);
+    NUMBER(BAD_ID, 2);
+    NUMBER(BAD_TUNING, 3);
+    NUMBER(OUT_OF_REACH, 4);
+    NUMBER(NOT_CLEAR, 5);
+    NUMBER(PRESENT, 7);
+    NUMBER(ABSENT, 8);
+    NUMBER(TOO_FAR, 9);
+    NUMBER(BYTES_END, 11);
+    NUMBER(BAD_BYTES, 12);
+    NUMBER(NOT_ALLOWED, 13);
+    NUMBER(BAD_AREA, 14);
+    NUMBER(BAD_TRIAL, 15);
+    NUMBER(BAD_HOLD, 16);
+    NUMBER(BAD_LENGTH, 17);
+}
+
+static void numbered_tunings(void) {
+    NUMBER(TUNING_GROUND_CONTROL_SPEED, 0);
+    NUMBER(TUNING_GROUND_CONTROL_ACCEL, 1);
+    NUMBER(TUNING_GROUND_FRICTION, 2);
+    NUMBER(TUNING_GROUND_JUMP_IMPULSE, 3);
+    NUMBER(TUNING_AIR_JUMP_IMPULSE, 4);
+    NUMBER(TUNING_AIR_CONTROL_SPEED, 5);
+    NUMBER(TUNING_AIR_CONTROL_ACCEL, 6);
+    NUMBER(TUNING_AIR_FRICTION, 7);
+    NUMBER(TUNING_HOOK_LENGTH, 8);
+    NUMBER(TUNING_HOOK_FIRE_SPEED, 9);
+    NUMBER(TUNING_HOOK_DRAG_ACCEL, 10);
+    NUMBER(TUNING_HOOK_DRAG_SPEED, 11);
+    NUMBER(TUNING_GRAVITY, 12);
+    NUMBER(TUNING_VELRAMP_START, 13);
+    NUMBER(TUNING_VELRAMP_RANGE, 14);
+    NUMBER(TUNING_VELRAMP_CURVATURE, 15);
+    NUMBER(TUNING_PLAYER_COLLISION, 16);
+    NUMBER(TUNING_PLAYER_HOOKING, 17);
+    NUMBER(TUNING_HOOK_HOLD, 18);
+}
+
+static void numbered_lengths(void) {
+    NUMBER(SEATS, 64);
+    NUMBER(TUNINGS, 19);
+    NUMBER(RECORD, 15);
+    NUMBER(INPUT, 5);
+    NUMBER(SEAT, 22);
+    NUMBER(WORLD, 1427);
+    NUMBER(PUBLISHED, 16);
+    NUMBER(RECORDS, 1024);
+    NUMBER(PACKED, 75);
+    NUMBER(SEARCH_STEPS, 3);
+    NUMBER(WAY, 7);
+    NUMBER(COPY, 24);
+    NUMBER(SENDER, 1536);
+    NUMBER(SCREEN, 1555);
+    NUMBER(MESSAGE, 22);
+    NUMBER(PASSED, 2838);
+    NUMBER(TRIAL_TUNINGS, 8);
+    NUMBER(TRIAL_STEPS, 3000);
+    NUMBER(TRIAL_JOIN, 3);
+    NUMBER(TRIAL_TARGET, 2);
+    NUMBER(TRIAL_NEAREST, 3);
+    NUMBER(TRIAL_ROW, 193);
+}
+
+/* The layout, roles, holds, kinds of what is passed along, and hook states as libtw2 has them. */
+static void other_numbers(void) {
+    NUMBER(LAYOUT, 1);
+    NUMBER(REFEREE, -1);
+    NUMBER(BOARD, -2);
+    NUMBER(SHORTEST_HOLD, 1);
+    NUMBER(LONGEST_HOLD, 60);
+    NUMBER(PASSED_MARK, 0);
+    NUMBER(PASSED_MESSAGE, 1);
+    NUMBER(PASSED_REMOVAL, 2);
+    NUMBER(PASSED_LEAVE, 3);
+    NUMBER(PASSED_TUNE, 4);
+    NUMBER(HOOK_RETRACTED, -1);
+    NUMBER(HOOK_IDLE, 0);
+    NUMBER(HOOK_RETRACTING0, 1);
+    NUMBER(HOOK_RETRACTING1, 2);
+    NUMBER(HOOK_RETRACTING2, 3);
+    NUMBER(HOOK_FLYING, 4);
+    NUMBER(HOOK_ATTACHED_GRABBED, 5);
 }
 
 /* One player falls by half a unit in a step. */
@@ -610,7 +689,10 @@ static void searches(void) {
 
 int main(void) {
     layout();
-    hook_states();
+    numbered_answers();
+    numbered_tunings();
+    numbered_lengths();
+    other_numbers();
     a_fall();
     an_input();
     tunings();
