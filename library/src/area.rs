@@ -136,14 +136,18 @@ pub struct Totals<'a> {
 }
 
 impl<'a> Totals<'a> {
-    /// Of a map, row by row. Refused: a map at fault.
+    /// Of a map, row by row. Refused: a map at fault, before anything is allocated.
     pub fn build(width: u32, height: u32, tiles: &'a mut [u8]) -> Result<Totals<'a>, Refusal> {
-        let mut totals = vec![0; tiles.len()];
         let map = Map {
             width,
             height,
             tiles,
         };
+        // A valid map has 1 to 1,048,576 tiles; lent no totals, the call writes nothing.
+        if build(&map, &mut []) == Err(Refusal::BadMap) {
+            return Err(Refusal::BadMap);
+        }
+        let mut totals = vec![0; tiles.len()];
         build(&map, &mut totals)?;
         Ok(Totals {
             width,

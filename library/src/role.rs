@@ -31,7 +31,8 @@ pub enum Role {
 }
 
 impl Role {
-    /// As the C interface and [`buffers`](crate::buffers) take it.
+    /// As the C interface and [`buffers`](crate::buffers) take it. Every id beyond i32 has the
+    /// largest number there, which no seat has.
     ///
     /// ```
     /// use ponguriena::{CharacterId, Role};

@@ -143,8 +143,11 @@ impl Trial {
     /// [`Refusal::BadTrial`], then [`Refusal::BadHold`], then the first join that [`World::join`]
     /// would refuse.
     pub fn run(&self, map: &Map<'_>, steps: i32) -> Result<Vec<Run>, Refusal> {
-        let mut result = vec![0; self.tunings.len() / TUNINGS * ROW_NUMBERS];
-        let (joins, targets, tunings) = (&self.joins, &self.targets, &self.tunings);
+        // Nine tunings are refused as any larger number of them is, so no more are lent.
+        let tried = (self.tunings.len() / TUNINGS).min(MOST_TUNINGS + 1);
+        let mut result = vec![0; tried * ROW_NUMBERS];
+        let (joins, targets) = (&self.joins, &self.targets);
+        let tunings = &self.tunings[..tried * TUNINGS];
         run(map, joins, targets, tunings, steps, &mut result)?;
         Ok(result.chunks_exact(ROW_NUMBERS).map(Run::of_row).collect())
     }

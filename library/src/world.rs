@@ -113,6 +113,12 @@ impl World {
         id: CharacterId,
         input: PlayerInput,
     ) -> Result<(), Refusal> {
+        // All ids beyond i32 have one number, so a seat's id is compared before.
+        if let Role::Seat(own) = role
+            && own != id
+        {
+            return Err(Refusal::NotAllowed);
+        }
         buffers::input(role.number(), &mut self.numbers, id.number(), input)
     }
 

@@ -112,6 +112,22 @@ fn a_seat_gives_its_own_input_alone() -> Result<(), Refusal> {
     Ok(())
 }
 
+/// For any two ids, also where both are beyond i32.
+#[test]
+fn a_seat_gives_no_other_input() -> Result<(), Refusal> {
+    let mut world = holding()?;
+    let before = world.clone();
+    let ids = IDS.into_iter().chain(LARGE_IDS).chain([3_000_000_000]);
+    for own in ids.clone().map(CharacterId) {
+        for id in ids.clone().map(CharacterId).filter(|&id| id != own) {
+            let answer = world.input(Role::Seat(own), id, HOOK);
+            assert_eq!(answer, Err(Refusal::NotAllowed), "{own} for {id}");
+        }
+    }
+    assert_eq!(world, before);
+    Ok(())
+}
+
 /// As the referee reads them.
 #[test]
 fn a_board_reads_records_and_floor_marks() -> Result<(), Refusal> {
