@@ -6,3 +6,4 @@ pub mod Back
 pub mod Sound
 pub mod Laws
 pub mod Ends
+pub mod Writing
