@@ -1,24 +1,22 @@
 -- The writer's bytes, by value and in lent buffers, and the worked record. Assumes nothing.
-use Prim.Native.Nat.{ℕ, _+_, _-_, _≤_}
+use Prim.Native.Nat.{ℕ, _+_, _-_}
 use mathlib.Core.Bool.{Bool, true, false, cond, _&&_}
-use mathlib.Core.List.{List, [], _∷_, _++_, append-nil}
+use mathlib.Core.List.{List, [], _++_, append-nil}
 use mathlib.Core.Logic.{⊎-elim, _≢_}
 use mathlib.Core.Path.{_≡_, refl, sym, ap, ap₂, _∙_, subst}
-use native.Mathlib.Omega.{arith}
 use lib.Dec.{eqb}
 use lib.IntN.{ℤ}
-use lib.ListN.{length, take, drop, replicate}
+use lib.ListN.{length, take, replicate}
 use lib.Seq.{take-append-seam, drop-append-seam}
 use borrow.Author.Tests.{eq-eqb, ne-eqb}
-use Rattle.game_records.specs.Numbers.{coreCount, coreNumbers, coreIn}
+use Rattle.game_records.specs.Numbers.{coreNumbers, coreIn}
 use Rattle.game_records.specs.declared.CharacterCore.{CharacterCore}
 use Rattle.game_records.proofs.Back.{core-numbers-back}
 use Rattle.game_packed.specs.Packed.{laterBytes, intBytes, intsBytes, coreBytes, mostPacked, packed}
 use Rattle.game_packed.specs.Unpacked.{signed, laterRead, intRead, intsRead, unpacked}
-use Rattle.game_packed.specs.Lent.{LeftPacked, leftPacked, packIn, LeftUnpacked, leftUnpacked, unpackIn}
+use Rattle.game_packed.specs.Lent.{LeftPacked, leftPacked, packIn, unpackIn}
 use Rattle.game_packed.specs.Laws.{AllI32}
-use Rattle.game_packed.specs.Writing.{Written, WritesRecords, LentRoundTrip, LentReturn, LentLengths, sample, sampleBytes, WorkedRecord}
-use Rattle.game_packed.specs.declared.Unpacked.the-variants as answer
+use Rattle.game_packed.specs.Writing.{Written, WritesRecords, LentReturn, LentLengths, WorkedRecord}
 use Rattle.game_packed.proofs.Sizes.{packed-long}
 use Rattle.game_packed.proofs.Back.{round-trip}
 

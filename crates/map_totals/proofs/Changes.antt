@@ -108,7 +108,7 @@ module _ (s : Sides) (ts : List ℕ) (column row byte : ℕ) (narrow : column < 
 -- ---- the call
 
 module _ (s : Sides) (ts t : List ℕ) (column row : ℤ) (byte : ℕ) (m : T (isMap s ts)) (l : isTotals s t ≡ true) (a : T (isArea s column row (pos 1) (pos 1))) where
-  taken : changeIn s ts t column row byte ≡ changed s ts t (count column) (count row) byte
+  pub taken : changeIn s ts t column row byte ≡ changed s ts t (count column) (count row) byte
   unfolding changeIn
   taken = simp (is-true (isMap s ts) m, l, is-true (isArea s column row (pos 1) (pos 1)) a)
 

@@ -4,3 +4,4 @@ pub mod Areas
 pub mod Numbers
 pub mod Counts
 pub mod Changes
+pub mod Integers

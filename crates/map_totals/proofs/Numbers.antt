@@ -30,7 +30,7 @@ side-within (pos first) (negsuc n) side w = absurd (w .some .le)
 side-within (negsuc first) n side w = absurd (w .starts .le)
 
 module _ (s : Sides) (t : List ℕ) where
-  totals-are : length t ≡ s .width * s .height → T (isTotals s t)
+  pub totals-are : length t ≡ s .width * s .height → T (isTotals s t)
   unfolding isTotals
   totals-are e = passes (eqb (length t) (s .width * s .height)) (eq-eqb (length t) (s .width * s .height) e)
 
@@ -49,7 +49,7 @@ module _ (s : Sides) (t : List ℕ) where
           within-side top rows (s .height) (and-r across down area),
         )
 
-    so-fits : Fits → T (isTotals s t && isArea s left top columns rows)
+    pub so-fits : Fits → T (isTotals s t && isArea s left top columns rows)
     unfolding isArea
     so-fits h = and-i (isTotals s t) (isArea s left top columns rows) (totals-are (h .0)) (and-i (isSpan left columns (s .width)) (isSpan top rows (s .height)) (side-within left columns (s .width) (h .1)) (side-within top rows (s .height) (h .2)))
 

@@ -1,3 +1,4 @@
 pub mod Area
 pub mod Calls
 pub mod Laws
+pub mod Integers
