@@ -131,6 +131,13 @@ uint32_t ponguriena_pack(const int32_t *record, size_t record_length, uint8_t *b
 uint32_t ponguriena_unpack(const uint8_t *bytes, size_t bytes_length, int32_t *record,
                            size_t record_length, size_t *used);
 
+/* The aim angle of a target, in 256ths of a radian: the angle that a step writes into the record of
+ * a player whose input has this target. It is 0 for (0, 0), and has the sign of target_y. A scan of
+ * the angle tables finds it, and entries_read gets how many entries it read: 0 for (0, 0), else 403
+ * or, if target_x is not above 0, 805 less the size of the angle; so 403 at most. The answer is the
+ * angle itself: nothing is refused. */
+int32_t ponguriena_aim(int32_t target_x, int32_t target_y, uint32_t *entries_read);
+
 /* The world: PONGURIENA_WORLD numbers that the caller keeps. Any numbers are taken for a world;
  * a call writes those that it changes and no other. A hold outside its limits, which no call
  * writes, stays where it is and counts as the nearest one.

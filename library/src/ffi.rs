@@ -76,6 +76,7 @@ pub const HOOK_ATTACHED_GRABBED: i32 = 5;
 // Each pointer is followed by the length of what it points to, in elements. What a call may
 // write must not overlap what else it is lent. Any numbers may stand there.
 unsafe extern "C" {
+    pub safe fn ponguriena_aim(target_x: i32, target_y: i32, entries_read: &mut u32) -> i32;
     pub fn ponguriena_area_build(
         width: u32,
         height: u32,

@@ -6,7 +6,7 @@
 //! Beside it: what goes from there to the screens ([`Sender`] and [`Screen`]), the same calls on
 //! lent numbers ([`buffers`] and [`send_buffers`]), records as packed bytes ([`packed`]), how many
 //! tiles of an [`Area`] are solid ([`Totals`]), how near players come to a tile under a tuning
-//! ([`Trial`]), and a [`Way`] to a place.
+//! ([`Trial`]), a [`Way`] to a place, and the [`aim`] angle of a target.
 //!
 //! ```
 //! use ponguriena::{CharacterId, Map, PlayerInput, Refusal, Role, World};
@@ -44,6 +44,7 @@
 
 extern crate alloc;
 
+mod aim;
 pub mod area;
 pub mod buffers;
 mod character_id;
@@ -66,6 +67,7 @@ pub mod trial;
 mod tuning;
 mod world;
 
+pub use aim::{Aim, aim};
 pub use area::{Area, Totals};
 pub use buffers::SEATS;
 pub use character_id::CharacterId;

@@ -17,6 +17,8 @@ fn net_angle_on_many_targets() {
         let scan = parts::scan_angle(x, y);
         let expected = reference::quarter_scan(x, y);
         assert_eq!((scan.angle, scan.read), expected, "scan_angle({x}, {y})");
+        let aim = ponguriena::aim(x, y);
+        assert_eq!((aim.angle, aim.entries_read), expected, "aim({x}, {y})");
     }
 }
 

@@ -36,7 +36,8 @@ fn upright_angle(x: i64, y: i64) -> usize
     if x == 0 {
         return 402;
     }
-    settled(x, y, n)
+    let found = settled(x, y, n);
+    found.n
 }
 
 // The angle of a target at no height.

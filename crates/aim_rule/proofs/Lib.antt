@@ -3,3 +3,4 @@ pub mod Largest
 pub mod Search
 pub mod Cases
 pub mod Quarters
+pub mod Entries

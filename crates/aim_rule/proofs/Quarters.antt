@@ -15,7 +15,7 @@ use Rattle.aim_tables.specs.Rules.{cosAt, sinAt}
 use Rattle.aim_tables.proofs.Parts.{up, down, up-left, down-left, up-right, down-right, parts-le, le-parts}
 use Rattle.aim_tables.proofs.Whole.{natAbs-neg}
 use Rattle.aim_rule.specs.Angle.{side, fitting, largest, upperAngle, netAngle, Largest}
-use Rattle.aim_rule.specs.Scan.{isZero, uprightAngle, withSignOf, firstEntry, entriesRead, ReadsAQuarter}
+use Rattle.aim_rule.specs.Scan.{isZero, uprightAngle, withSignOf, firstEntry}
 use Rattle.aim_rule.proofs.Stretch.{fitting-stretch, zero-fits}
 use Rattle.aim_rule.proofs.Largest.{largest-is, stretch-end}
 use Rattle.aim_rule.proofs.Search.{angle-largest}
@@ -111,7 +111,7 @@ quarter (negsuc x) y = refl
 quarter (pos (suc x)) y = rw (first-right x) (from-below (pos (suc x)) y 402 (lit≤ tt) (right-of-402 x y))
 
 -- ---- where x is not above 0 the angle is 402 or more
-not-less : (x : ℤ) (y : ℕ) → up x ≡ 0 → 402 ≤ upperAngle x (pos y)
+pub not-less : (x : ℤ) (y : ℕ) → up x ≡ 0 → 402 ≤ upperAngle x (pos y)
 not-less x y e = go (angle-largest x y) (leb 402 (upperAngle x (pos y))) refl
   where
     go : Largest (fitting x (pos y)) 804 (upperAngle x (pos y)) → (b : Bool) → leb 402 (upperAngle x (pos y)) ≡ b → 402 ≤ upperAngle x (pos y)
@@ -151,20 +151,3 @@ sign-size (negsuc y) n = natAbs-neg (pos n)
 
 pub net-size : (x y : ℤ) → natAbs (netAngle x y) ≡ uprightAngle x (natAbs y)
 net-size x y = ap natAbs (net-parts x y) ∙ sign-size y (uprightAngle x (natAbs y))
-
--- ---- never more than a quarter is read
-pub reads-a-quarter : ReadsAQuarter
-unfolding entriesRead uprightAngle
-reads-a-quarter x y = rw (net-size x y) (go (isZero x (natAbs y)))
-  where
-    count : (z : ℤ) → up z ≡ 0 → firstEntry z ≡ 804 → firstEntry z + 1 - upperAngle z (pos (natAbs y)) ≤ 403
-    count z e f = let l = not-less z (natAbs y) e in rw f (omega (arith, l))
-
-    side-of : (z : ℤ) → firstEntry z + 1 - upperAngle z (pos (natAbs y)) ≤ 403
-    side-of (pos zero) = count (pos 0) refl refl
-    side-of (negsuc k) = count (negsuc k) refl refl
-    side-of (pos (suc k)) = rw (first-right k) (omega arith)
-
-    go : (b : Bool) → cond b 0 (firstEntry x + 1 - cond b 0 (upperAngle x (pos (natAbs y)))) ≤ 403
-    go true = lit≤ tt
-    go false = side-of x

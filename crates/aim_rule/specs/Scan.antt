@@ -1,9 +1,10 @@
 -- Which entries of the tables a scan reads for a target, and how many. Definitions only.
 use Prim.Native.Nat.{ℕ, _+_, _-_, _≤_}
 use mathlib.Core.Bool.{Bool, cond, _&&_}
+use mathlib.Core.Path.{_≡_}
 use lib.Dec.{eqb}
 use lib.IntN.{ℤ, pos, negsuc, negℤ, natAbs}
-use lib.Signed.{ltZ}
+use lib.Signed.{ltZ, _≤ℤ_}
 use Rattle.aim_rule.specs.Angle.{upperAngle, netAngle}
 
 -- the target (0, 0), whose angle no entry decides
@@ -30,3 +31,12 @@ entriesRead x y = cond (isZero x (natAbs y)) 0 (firstEntry x + 1 - natAbs (netAn
 -- never more than a quarter
 abbrev pub ReadsAQuarter : Type 0
 ReadsAQuarter = (x y : ℤ) → entriesRead x y ≤ 403
+
+-- the count of a target: nothing for (0, 0), else 403 less the size of the angle when x is above 0, and 805 less it when x is not
+pub record ReadsToAngle (x y : ℤ) : Type 0 where
+  pub none : x ≡ pos 0 → y ≡ pos 0 → entriesRead x y ≡ 0
+  pub right : pos 1 ≤ℤ x → entriesRead x y + natAbs (netAngle x y) ≡ 403
+  pub left : x ≤ℤ pos 0 → (x ≡ pos 0 → y ≡ pos 0 → ⊥) → entriesRead x y + natAbs (netAngle x y) ≡ 805
+
+abbrev pub CountsReads : Type 0
+CountsReads = (x y : ℤ) → ReadsToAngle x y

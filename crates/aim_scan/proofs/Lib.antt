@@ -1,3 +1,4 @@
 pub mod Below
 pub mod Difference
 pub mod Upright
+pub mod Starts

@@ -1,28 +1,20 @@
 -- The angle of a target with y ≥ 0, from what finds it: an entry, an axis or a scan. Assumes nothing.
 use mathlib.Core.Path.{_≡_, refl, sym, ap, ap₂, _∙_}
-use mathlib.Core.Bool.{Bool, true, false, cond, _&&_}
+use mathlib.Core.Bool.{Bool, true, false, cond}
 use Prim.Native.Nat.{ℕ, zero, suc, _+_, _-_, _≤_}
-use native.Mathlib.Omega.{arith}
-use lib.Dec.{lit≤, eqb, eqb·suc-zero}
+use lib.Dec.{lit≤, eqb·suc-zero}
 use lib.IntN.{ℤ, pos, negsuc, natAbs}
 use lib.Signed.{ltZ}
 use mir.Syntax.{w32}
 use mir.Val.{SFits}
-use borrow.Author.Tests.{eqb-true}
 use Rattle.aim_rule.specs.Angle.{fitting, largest, upperAngle}
 use Rattle.aim_rule.specs.Scan.{isZero, uprightAngle, firstEntry}
 use Rattle.aim_rule.specs.Search.{Target}
 use Rattle.aim_rule.proofs.Quarters.{quarter, axis-up}
+use Rattle.aim_rule.proofs.Entries.{not-zero}
 use Rattle.aim_scan.specs.Scan.{uprightScan}
 use Rattle.aim_scan.specs.declared.scan.Found.{Found}
 use Rattle.aim_scan.proofs.Below.{small}
-
-abs-zero : (z : ℤ) → natAbs z ≡ 0 → z ≡ pos 0
-abs-zero (pos n) e = ap pos e
-abs-zero (negsuc n) e = absurd (one-more n e)
-  where
-    one-more : (n : ℕ) → suc n ≡ 0 → ⊥
-    one-more n e = omega arith
 
 -- a target of two i32, of which the height is taken
 pub target : (x y : ℤ) → SFits w32 x → SFits w32 y → Target x (pos (natAbs y))
@@ -36,23 +28,14 @@ first-within x = go (ltZ (pos 0) x)
     go false = lit≤ tt
 
 module _ (x : ℤ) (y : ℕ) where
-  -- some entry decides
-  not-zero : (pos y ≡ pos 0 → x ≡ pos 0 → ⊥) → isZero x y ≡ false
-  not-zero n = go (eqb y 0) (eqb (natAbs x) 0) (eqb-true y 0) (eqb-true (natAbs x) 0)
-    where
-      go : (a b : Bool) → (a ≡ true → y ≡ 0) → (b ≡ true → natAbs x ≡ 0) → a && b ≡ false
-      go true true p q = absurd (n (ap pos (p refl)) (abs-zero x (q refl)))
-      go true false p q = refl
-      go false b p q = refl
-
   upright : (pos y ≡ pos 0 → x ≡ pos 0 → ⊥) → upperAngle x (pos y) ≡ uprightAngle x y
   unfolding uprightAngle
-  upright n = rw (not-zero n) refl
+  upright n = rw (not-zero x y n) refl
 
   found : (pos y ≡ pos 0 → x ≡ pos 0 → ⊥) → (f : Found) (from : ℕ) → from ≡ firstEntry x → f .n ≡ largest (fitting x (pos y)) from → f .read ≡ from + 1 - f .n → f ≡ uprightScan x y
   found n f from e p q =
       let a : f .n ≡ uprightAngle x y = p ∙ ap (largest (fitting x (pos y))) e ∙ quarter x y ∙ upright n in
-      let b : f .read ≡ cond (isZero x y) 0 (firstEntry x + 1 - uprightAngle x y) = q ∙ ap₂ (λ (k m : ℕ). k + 1 - m) e a ∙ ap (λ (z : Bool). cond z 0 (firstEntry x + 1 - uprightAngle x y)) (sym (not-zero n)) in
+      let b : f .read ≡ cond (isZero x y) 0 (firstEntry x + 1 - uprightAngle x y) = q ∙ ap₂ (λ (k m : ℕ). k + 1 - m) e a ∙ ap (λ (z : Bool). cond z 0 (firstEntry x + 1 - uprightAngle x y)) (sym (not-zero x y n)) in
       ap₂ (λ (k m : ℕ). record { n = k; read = m }) a b
 
 -- ---- as they are used

@@ -53,28 +53,37 @@ fn first_entry(x: i64) -> usize
     if x > 0 { 402 } else { 804 }
 }
 
-// The angle of a target that a guess leaves in doubt. The guess is hardly ever off by more than one, so a scan from the entry above it is short.
-pub fn settled(x: i64, y: i64, n: usize) -> usize
+// The angle of a target that a guess n leaves in doubt, and how many entries were read for it. The guess is hardly ever off by more than one, so a
+// scan from the entry above it is short.
+pub fn settled(x: i64, y: i64, n: usize) -> Found
     requires { ⌜ Target x y × (n ≤ 804) ⌝ }
-    ensures { λ r. ⌜ (r ≡ upperAngle x y) × (r ≤ 804) ⌝ }
+    ensures { λ r. ⌜ (r .n ≡ upperAngle x y) × (r .n ≤ 804) × (r .read ≤ 403) ⌝ }
 {
     let cos = cosines();
     let sin = sines();
-    let found = scan_down(x, y, start(x, y, n, &cos, &sin), &cos, &sin);
-    found.n
+    let from = start(x, y, n, &cos, &sin);
+    let found = scan_down(x, y, from.n, &cos, &sin);
+    Found {
+        n: found.n,
+        read: from.read + found.read,
+    }
 }
 
-// The entry above n, if the next one does not fit; else the last.
-fn start(x: i64, y: i64, n: usize, cos: &[i32; 805], sin: &[i32; 805]) -> usize
-    requires { ⌜ Target x y × (now cos ≡ cosT) × (now sin ≡ sinT) ⌝ }
-    ensures { λ r. ⌜ (largest (fitting x y) r ≡ upperAngle x y) × (r ≤ 804) ⌝ }
+// The entry above n, if the next one is inside the quarter and does not fit; else the first of the quarter. And how many entries were read to tell.
+fn start(x: i64, y: i64, n: usize, cos: &[i32; 805], sin: &[i32; 805]) -> Found
+    requires { ⌜ Target x y × (n ≤ 804) × (now cos ≡ cosT) × (now sin ≡ sinT) ⌝ }
+    ensures { λ r. ⌜ (largest (fitting x y) (r .n) ≡ upperAngle x y) × (r .n ≤ firstEntry x) × (r .read + r .n + 1 ≤ upperAngle x y + 403) ⌝ }
 {
-    if n < 803 {
-        if !fits(x, y, n + 2, cos, sin) {
-            return n + 1;
+    let first = first_entry(x);
+    if n + 1 < first {
+        if first < n + 404 {
+            if fits(x, y, n + 2, cos, sin) {
+                return Found { n: first, read: 1 };
+            }
+            return Found { n: n + 1, read: 1 };
         }
     }
-    804
+    Found { n: first, read: 0 }
 }
 
 // From an entry down to the first that fits; entry 0 fits every target.

@@ -1,5 +1,6 @@
-// The C interface of the calls on a world, a sender and a screen that are kept as the numbers of lent buffers, of packed records, of the areas of a map, of trials and of ways to a place. Their answers are a refusal's number, or 0.
+// The C interface of the calls on a world, a sender and a screen that are kept as the numbers of lent buffers, of packed records, of the areas of a map, of trials and of ways to a place, and of the aim angle. A call that may be refused answers the refusal's number, or 0.
 // What takes a world names a role first: 13 comes before every other refusal.
+mod aim;
 mod area;
 mod calls;
 mod layout;
@@ -9,6 +10,7 @@ mod searching;
 mod sending;
 mod trials;
 
+pub use aim::ponguriena_aim;
 pub use area::ponguriena_area_build;
 pub use area::ponguriena_area_change;
 pub use area::ponguriena_area_count;

@@ -2,10 +2,11 @@
 use Prim.Native.Nat.{ℕ}
 use native.Mathlib.Omega.{arith}
 use mathlib.Core.Path.{refl}
-use Rattle.aim_rule.proofs.Quarters.{reads-a-quarter}
+use Rattle.aim_rule.proofs.Entries.{counts-reads, reads-a-quarter}
 use Rattle.game_packed.proofs.Back.{round-trip}
 use Rattle.game_packed.proofs.Laws.{accepted, sizes-hold, none-begins}
 use Rattle.game_packed.proofs.Ends.{told-ends, worked-bytes}
+use Rattle.game_packed.proofs.Writing.{writes-records, lent-return, lent-lengths, worked-record}
 use Rattle.character.specs.Tick.{seats}
 use Rattle.character_cases.proofs.Holding.{holding}
 use Rattle.character_cases.proofs.Proved.{proved-cases}
@@ -65,6 +66,7 @@ use Rattle.refusal_laws.proofs.Stays.{everything-stays}
 use Rattle.map_totals.proofs.Numbers.{area-numbers}
 use Rattle.map_totals.proofs.Counts.{counts-solid, clear-area}
 use Rattle.map_totals.proofs.Changes.{change-writes, change-follows, change-reaches}
+use Rattle.map_totals.proofs.Integers.{counts-entries, change-adds}
 use Rattle.session_laws.proofs.Whole.{whole-output}
 use Rattle.session_laws.proofs.Ends.{play-ends}
 use Rattle.ponguriena_theorems.specs.Theorems.{Theorems, Shipped}
@@ -152,13 +154,20 @@ shipped = record {
   noneBegins = none-begins;
   toldEnds = told-ends;
   workedBytes = worked-bytes;
+  written = writes-records;
+  lentReturn = lent-return;
+  lentLengths = lent-lengths;
+  workedRecord = worked-record;
   quarter = reads-a-quarter;
+  reads = counts-reads;
   areaNumbers = area-numbers;
   solids = counts-solid;
   clear = clear-area;
   writes = change-writes;
   follows = change-follows;
   reaches = change-reaches;
+  entries = counts-entries;
+  adds = change-adds;
   towards = goes-towards;
   limits = trial-limits;
   entrants = entrants-lent;

@@ -3,8 +3,9 @@ use Prim.Native.Nat.{ℕ}
 use mathlib.Core.List.{List}
 use mathlib.Core.Path.{_≡_}
 use lib.IntN.{ℤ}
-use Rattle.aim_rule.specs.Scan.{ReadsAQuarter}
+use Rattle.aim_rule.specs.Scan.{ReadsAQuarter, CountsReads}
 use Rattle.game_packed.specs.Laws.{RoundTrip, ReadAsWritten, SizesHold, NoneBegins, ToldEnds, WorkedBytes}
+use Rattle.game_packed.specs.Writing.{WritesRecords, LentReturn, LentLengths, WorkedRecord}
 use Rattle.character.specs.Tick.{seats}
 use Rattle.character_cases.specs.Holding.{Holding}
 use Rattle.character_cases.specs.ProvedCases.{ProvedCases}
@@ -52,6 +53,7 @@ use Rattle.search_rule.specs.Laws.{Reaches}
 use Rattle.ponguriena.specs.Standing.{RolesStand}
 use Rattle.refusal_laws.specs.Stays.{EverythingStays}
 use Rattle.map_totals.specs.Laws.{AreaNumbers, CountsSolid, ClearArea, ChangeWrites, ChangeFollows, ChangeReaches}
+use Rattle.map_totals.specs.Integers.{CountsEntries, ChangeAdds}
 use Rattle.session_laws.specs.Played.{WholeOutput, PlayEnds}
 
 -- of a world of n seats
@@ -165,8 +167,14 @@ pub record Shipped : Type 0 where
   pub noneBegins : NoneBegins
   pub toldEnds : ToldEnds
   pub workedBytes : WorkedBytes
+  -- request 1: the writer's 75 bytes, records in lent buffers, and the order of the fifteen numbers
+  pub written : WritesRecords
+  pub lentReturn : LentReturn
+  pub lentLengths : LentLengths
+  pub workedRecord : WorkedRecord
   -- request 3: how many entries a scan for an angle reads
   pub quarter : ReadsAQuarter
+  pub reads : CountsReads
   -- request 9: what is refused, the solid tiles of an area by running totals, and the totals after a change
   pub areaNumbers : AreaNumbers
   pub solids : CountsSolid
@@ -174,6 +182,9 @@ pub record Shipped : Type 0 where
   pub writes : ChangeWrites
   pub follows : ChangeFollows
   pub reaches : ChangeReaches
+  -- request 9: sums and differences of any totals' entries, over integers modulo 2^32
+  pub entries : CountsEntries
+  pub adds : ChangeAdds
   -- request 11: which way a player goes, how many tunings and steps a trial has, who is lent, its target on the map, and its distance
   pub towards : GoesTowards
   pub limits : TrialLimits

@@ -113,6 +113,19 @@ static void receive_all(Map map) {
 /* This header is for this library. */
 static void layout(void) { same("layout", ponguriena_layout(), PONGURIENA_LAYOUT); }
 
+/* Angles, and how many entries are read for each. */
+static void aims(void) {
+    uint32_t read = 77;
+    same("aim at nothing", ponguriena_aim(0, 0, &read), 0);
+    same("read for it", read, 0);
+    same("aim to the right", ponguriena_aim(1, 0, &read), 0);
+    same("read for it", read, 403);
+    same("aim to the left", ponguriena_aim(-1, 0, &read), 804);
+    same("read for it", read, 1);
+    same("aim to the lower right", ponguriena_aim(30, -30, &read), -201);
+    same("read for it", read, 202);
+}
+
 /* The header's names with their numbers, which compiled programs contain. */
 #define NUMBER(name, number) same(#name, PONGURIENA_##name, number)
 
@@ -693,6 +706,7 @@ int main(void) {
     numbered_tunings();
     numbered_lengths();
     other_numbers();
+    aims();
     a_fall();
     an_input();
     tunings();
