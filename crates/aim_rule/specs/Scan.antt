@@ -32,11 +32,12 @@ entriesRead x y = cond (isZero x (natAbs y)) 0 (firstEntry x + 1 - natAbs (netAn
 abbrev pub ReadsAQuarter : Type 0
 ReadsAQuarter = (x y : ℤ) → entriesRead x y ≤ 403
 
--- the count of a target: nothing for (0, 0), else 403 less the size of the angle when x is above 0, and 805 less it when x is not
+-- the entries read for a target: none for (0, 0), else 403 less the size of the angle when x is above 0, and 805 less it when x is not
 pub record ReadsToAngle (x y : ℤ) : Type 0 where
   pub none : x ≡ pos 0 → y ≡ pos 0 → entriesRead x y ≡ 0
   pub right : pos 1 ≤ℤ x → entriesRead x y + natAbs (netAngle x y) ≡ 403
   pub left : x ≤ℤ pos 0 → (x ≡ pos 0 → y ≡ pos 0 → ⊥) → entriesRead x y + natAbs (netAngle x y) ≡ 805
 
+-- every target is read so
 abbrev pub CountsReads : Type 0
 CountsReads = (x y : ℤ) → ReadsToAngle x y

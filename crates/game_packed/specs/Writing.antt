@@ -13,24 +13,25 @@ use Rattle.game_packed.specs.Lent.{packIn, unpackIn}
 use Rattle.game_packed.specs.Laws.{AllI32}
 use Rattle.game_packed.specs.declared.Unpacked.the-variants as answer
 
--- 75 bytes: those of the record, which the count counts, and then zeros
+-- 75 bytes: the record's bytes, as many as the count says, then zeros
 pub record Written (n : CharacterCore) (bytes : List ℕ) (count : ℕ) : Type 0 where
   pub starts : take count bytes ≡ coreBytes n
   pub counted : count ≡ length (coreBytes n)
   pub zeros : drop count bytes ≡ replicate (75 - count) 0
   pub long : length bytes ≡ 75
 
--- the writer hands back every record's bytes
+-- the writer writes every record so
 abbrev pub WritesRecords : Type 0
 WritesRecords = (n : CharacterCore) → Written n (packed n .bytes) (packed n .count)
 
--- in lent buffers: fifteen i32 are written, and the reader returns them from the counted bytes, whatever follows these, and used them all
+-- numbers l that are packed into the buffer b are accepted, and the reader returns them from the counted bytes, whatever follows, and uses them all
 pub record LentRoundTrip (l : List ℤ) (b : List ℕ) (k : ℕ) (out : List ℤ) (used : ℕ) : Type 0 where
   pub number : packIn l b k .number ≡ 0
   pub writes : Written (coreIn l) (packIn l b k .bytes) (packIn l b k .count)
   pub back : unpackIn (take (packIn l b k .count) (packIn l b k .bytes)) out used ≡ record { number = 0; numbers = l; used = packIn l b k .count }
   pub followed : (t : List ℕ) → unpackIn (take (packIn l b k .count) (packIn l b k .bytes) ++ t) out used ≡ record { number = 0; numbers = l; used = packIn l b k .count }
 
+-- every fifteen i32 return from every lent buffer of 75 bytes
 abbrev pub LentReturn : Type 0
 LentReturn = (l : List ℤ) (b : List ℕ) (k : ℕ) (out : List ℤ) (used : ℕ) → AllI32 l → length l ≡ 15 → length b ≡ 75 → length out ≡ 15 → LentRoundTrip l b k out used
 
