@@ -5,7 +5,7 @@ use mathlib.Core.List.{List, [], _∷_, _++_, map}
 use mathlib.Core.Path.{_≡_, refl, sym, ap, ap₂, _∙_, subst}
 use native.Mathlib.Nat.{div-eq-of-eq-mul-right, mul-mod-right, div-add-mod}
 use native.Mathlib.Omega.{arith}
-use lib.Dec.{T, eqb, ltb}
+use lib.Dec.{eqb, ltb}
 use lib.IntN.{ℤ, pos}
 use lib.ListN.{length, take, drop, set, getD, length-map, List·getD-map}
 use lib.Seq.{take-suc, getD-take, getD-drop}
@@ -16,17 +16,15 @@ use Rattle.game_refusals.specs.Refusals.{badMap, badTrial, badHold, badLength}
 use Rattle.game_tuning.specs.Tuning.{tuningCount, isHold}
 use Rattle.map_tiles.specs.Map.{isMap, count}
 use Rattle.map_tiles.specs.declared.tiles.Sides.{Sides}
-use Rattle.map_tiles.proofs.Maps.{is-map}
 use Rattle.world.specs.World.{fresh}
 use Rattle.world.specs.Answers.{IsMap}
 use Rattle.world.specs.Calls.{placeOf, join}
 use Rattle.world.specs.Run.{ran, after}
-use Rattle.world.specs.Step.{step}
 use Rattle.world.specs.declared.Answer.{Answer}
 use Rattle.world.specs.declared.World.{World}
 use Rattle.world.specs.declared.call.Call.{Call}
 use Rattle.world.specs.declared.call.Call.the-variants.{Join}
-use Rattle.world.proofs.Answers.{answers}
+use Rattle.world.proofs.Answers.{map-is, is-no-map}
 use Rattle.world.proofs.Hold.{hook-hold}
 use Rattle.world_numbers.proofs.RowsIn.{row-in, rows-long}
 use Rattle.trial_rule.specs.Trial.{Entrant, Trying, entered, tried, enter, enterAll, nobodyYet, tunedTo, trial}
@@ -78,14 +76,6 @@ module _ (n : ℕ) (joins targets tunings result : List ℤ) where
       let a : length joins % 3 ≡ 0 = ap (λ (k : ℕ). k % 3) (f .joined) ∙ mul-mod-right 3 (f .players) in
       let b : length tunings % 19 ≡ 0 = ap (λ (k : ℕ). k % 19) (f .held) ∙ mul-mod-right 19 (f .tuned) in
       rw (eq-eqb (length joins % 3) 0 a, eq-eqb (length targets) (2 * (length joins / 3)) (f .aimed ∙ ap (λ (k : ℕ). 2 * k) (sym p)), eq-eqb (length tunings % 19) 0 b, eq-eqb (length result) ((1 + 3 * n) * (length tunings / 19)) (f .told ∙ ap (λ (k : ℕ). (1 + 3 * n) * k) (sym (tuned-is f))))
-
--- ---- 1
-map-is : (s : Sides) (ts : List ℕ) → isMap s ts ≡ true → IsMap s ts
-map-is s ts e = let m = is-map s ts (subst T (sym e) tt) in record { width = (m .wide, m .narrow); height = (m .high, m .low); bytes = m .bytes }
-
-no-map : (n : ℕ) (s : Sides) (ts : List ℕ) → isMap s ts ≡ false → IsMap s ts → ⊥
-unfolding step
-no-map n s ts e = answers n .step s ts (fresh n) .0 (rw e)
 
 -- ---- 15
 module _ (tuned : ℕ) (steps : ℤ) where
@@ -230,7 +220,7 @@ module _ (n : ℕ) (s : Sides) (ts : List ℕ) (joins targets tunings : List ℤ
   reason : (a b c d : Bool) → wholeTest n joins targets tunings result ≡ a → isMap s ts ≡ b → isTrial (tuningsIn tunings) steps ≡ c → haveHolds (tuningRows tunings) ≡ d → Because (cond a (cond b (cond c (cond d (leftBy joined .number) badHold) badTrial) badMap) badLength)
   unfolding whole-is
   reason false b c d p q r u = why.TrialAnswers.not-whole refl (λ f. true≢false (sym (is-whole n joins targets tunings result f) ∙ p))
-  reason true false c d p q r u = why.TrialAnswers.no-map refl (whole-is n joins targets tunings result p) (no-map n s ts q)
+  reason true false c d p q r u = why.TrialAnswers.no-map refl (whole-is n joins targets tunings result p) (is-no-map s ts q)
   reason true true false d p q r u = why.TrialAnswers.no-trial refl (whole-is n joins targets tunings result p) (map-is s ts q) (λ w. true≢false (sym (is-within (tuningsIn tunings) steps w) ∙ r))
   reason true true true false p q r u = why.TrialAnswers.no-hold refl (whole-is n joins targets tunings result p) (map-is s ts q) (within-is (tuningsIn tunings) steps r) (λ h. true≢false (sym (is-holds tunings n h) ∙ u))
   reason true true true true p q r u = let f = whole-is n joins targets tunings result p in by-joins f (map-is s ts q) (within-is (tuningsIn tunings) steps r) (holds-is tunings n u) joined (came n s ts joins targets (f .players) (f .joined) (f .aimed))
@@ -238,7 +228,7 @@ module _ (n : ℕ) (s : Sides) (ts : List ℕ) (joins targets tunings : List ℤ
   -- ---- and back
   module _ (f : Whole n joins targets tunings result) where
     is-mapped : IsMap s ts → isMap s ts ≡ true
-    is-mapped m = either-way (isMap s ts) (λ e. e) (λ e. absurd (no-map n s ts e m))
+    is-mapped m = either-way (isMap s ts) (λ e. e) (λ e. absurd (is-no-map s ts e m))
 
     tested : Within (f .tuned) steps → isTrial (tuningsIn tunings) steps ≡ true
     tested w = is-within (tuningsIn tunings) steps (subst (λ (k : ℕ). Within k steps) (sym (tuned-is n joins targets tunings result f)) w)

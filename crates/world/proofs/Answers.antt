@@ -156,10 +156,10 @@ module _ (index z : ℤ) where
       go true true l m = none-fits _ (λ j. tune-none (λ i. Unit {0}) (λ b. known (ltb-true k tuningCount l)) (λ b. takes m) j tt)
 
 -- ---- join
-map-is : (s : Sides) (ts : List ℕ) → isMap s ts ≡ true → IsMap s ts
+pub map-is : (s : Sides) (ts : List ℕ) → isMap s ts ≡ true → IsMap s ts
 map-is s ts e = let m = is-map s ts (subst T (sym e) tt) in record { width = (m .wide, m .narrow); height = (m .high, m .low); bytes = m .bytes }
 
-is-no-map : (s : Sides) (ts : List ℕ) → isMap s ts ≡ false → IsMap s ts → ⊥
+pub is-no-map : (s : Sides) (ts : List ℕ) → isMap s ts ≡ false → IsMap s ts → ⊥
 unfolding isMap isSide
 is-no-map s ts e m = true≢false (sym (rw (le-leb 1 _ (m .width .0), le-leb _ 1024 (m .width .1), le-leb 1 _ (m .height .0), le-leb _ 1024 (m .height .1), eq-eqb _ _ (m .bytes))) ∙ e)
 

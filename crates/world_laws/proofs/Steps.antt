@@ -28,6 +28,8 @@ use Rattle.character.specs.declared.walk.MovedAt.{MovedAt}
 use Rattle.character.specs.declared.walk.MovedAt.the-variants as moved
 use Rattle.world.specs.Step.{Moving, afterTick, tickTurn, tickAll, ofNet, recordOf, publish, moveIn, moveTurn, movingFrom, moveAll, stepRefused, stepAnswer, stepOn, step}
 use Rattle.world.specs.declared.World.{World}
+use Rattle.world.specs.Answers.{IsMap}
+use Rattle.world.proofs.Answers.{map-is, is-no-map}
 use Rattle.world.proofs.Numbers.{step-number}
 use Rattle.world.proofs.Seats.{last-or-below}
 use Rattle.world_laws.specs.Walks.{TickTooFar, MoveTooFar, StepNumbers}
@@ -143,13 +145,13 @@ module _ (n : ℕ) (s : Sides) (ts : List ℕ) (w : World) (m : isMap s ts ≡ t
   refused-nine : Refused → moves (tickAll n (w .slots) s ts tuning) ≡ stop 9
   refused-nine r = ⊎-elim (λ h. ap moves (far-tick h)) (λ h. ap moves (h .ticked) ∙ far-move h) r
 
-step-nine : (n : ℕ) (s : Sides) (ts : List ℕ) (w : World) → (step n w s ts .number ≡ 9) ↔ ((isMap s ts ≡ true) × (TickTooFar n s ts w ⊎ MoveTooFar n s ts w))
+step-nine : (n : ℕ) (s : Sides) (ts : List ℕ) (w : World) → (step n w s ts .number ≡ 9) ↔ (IsMap s ts × (TickTooFar n s ts w ⊎ MoveTooFar n s ts w))
 unfolding step stepOn
 step-nine n s ts w = go (isMap s ts) refl
   where
-    go : (b : Bool) → isMap s ts ≡ b → (cond b (stepOn n w s ts) (stepRefused n w 1) .number ≡ 9) ↔ ((isMap s ts ≡ true) × (TickTooFar n s ts w ⊎ MoveTooFar n s ts w))
-    go false e = (λ q. absurd (omega (arith, q)), λ h. absurd (true≢false (sym (h .0) ∙ e)))
-    go true e = (λ q. (e, nine-refused n s ts w e (tickAll n (w .slots) s ts (tuningOf (w .tunings))) refl (answer-nine n s ts w e _ q)), λ h. ap (λ (a : Turn Moving ℕ). stepAnswer n w s ts a .number) (refused-nine n s ts w e (h .1)))
+    go : (b : Bool) → isMap s ts ≡ b → (cond b (stepOn n w s ts) (stepRefused n w 1) .number ≡ 9) ↔ (IsMap s ts × (TickTooFar n s ts w ⊎ MoveTooFar n s ts w))
+    go false e = (λ q. absurd (omega (arith, q)), λ h. absurd (is-no-map s ts e (h .0)))
+    go true e = (λ q. (map-is s ts e, nine-refused n s ts w e (tickAll n (w .slots) s ts (tuningOf (w .tunings))) refl (answer-nine n s ts w e _ q)), λ h. ap (λ (a : Turn Moving ℕ). stepAnswer n w s ts a .number) (refused-nine n s ts w e (h .1)))
 
 pub step-numbers : (n : ℕ) → StepNumbers n
 step-numbers n = record { only = λ s ts w full. step-number n w s ts full .is; nine = step-nine n }

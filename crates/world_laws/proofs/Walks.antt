@@ -52,8 +52,8 @@ use Rattle.character.specs.declared.walk.Moved.the-variants as gone
 use Rattle.character.specs.declared.Slot.{Slot}
 use Rattle.character.specs.declared.walk.PlayerWalk.{PlayerWalk}
 use Rattle.character.specs.declared.walk.PlayerWalk.the-variants as among
-use Rattle.world.specs.Answers.{LowestFirst}
-use Rattle.world.proofs.Answers.{none-fits, lowest-fits}
+use Rattle.world.specs.Answers.{LowestFirst, IsMap}
+use Rattle.world.proofs.Answers.{none-fits, lowest-fits, map-is, is-no-map}
 use Rattle.world_laws.specs.Walks.{lineCount, TooMany, BoxTooFar, WalkTooFar, LineFits, BoxFits, FliesTooFar, hookFired, TickFits, MoveFits, rampedVel, WalksRefused}
 use Rattle.world_laws.specs.Walks as fits
 
@@ -78,8 +78,8 @@ few-more (negsuc zero) e h = h .le
 few-more (negsuc (suc n)) e h = let l : ltb 1 (suc (suc n)) ≡ true = lt-ltb 1 (suc (suc n)) (omega arith) in rw l at (h .le)
 
 -- ---- `check_line` and `move_box`
-line-none : (s : Sides) (ts : List ℕ) (from to : vec2) (Before : ℕ → Type 0) → (Before 1 → isMap s ts ≡ true) → (Before 9 → TooMany (lineCount from to) → ⊥) → (k : ℕ) → Before k → LineFits s ts from to k → ⊥
-line-none s ts from to B m f k b (fits.LineFits.no-map e q) = true≢false (sym (m (subst B e b)) ∙ q)
+line-none : (s : Sides) (ts : List ℕ) (from to : vec2) (Before : ℕ → Type 0) → (Before 1 → IsMap s ts) → (Before 9 → TooMany (lineCount from to) → ⊥) → (k : ℕ) → Before k → LineFits s ts from to k → ⊥
+line-none s ts from to B m f k b (fits.LineFits.no-map e q) = q (m (subst B e b))
 line-none s ts from to B m f k b (fits.LineFits.too-far e q) = f (subst B e b) q
 
 line-number : (s : Sides) (ts : List ℕ) (from to : vec2) → LowestFirst (LineFits s ts from to) (lineNumber (checkLine s ts from to))
@@ -87,12 +87,12 @@ unfolding checkLine walkLine lineTurns
 line-number s ts from to = go (isMap s ts) (leb (lineTurns (vdistance from to)) mostTurns) refl refl
   where
     go : (b c : Bool) → isMap s ts ≡ b → leb (count (lineCount from to)) mostTurns ≡ c → LowestFirst (LineFits s ts from to) (lineNumber (cond b (ofWalk (cond c (line.Met (lineHit s ts from to (vdistance from to) (lineTurns (vdistance from to)))) line.TooFar)) check.BadMap))
-    go false c m l = lowest-fits _ 1 (omega arith) (fits.LineFits.no-map refl m) (line-none s ts from to (λ k. k < 1) (λ b. absurd (omega arith)) (λ b. absurd (omega arith)))
-    go true false m l = lowest-fits _ 9 (omega arith) (fits.LineFits.too-far refl (many (lineCount from to) l)) (line-none s ts from to (λ k. k < 9) (λ b. m) (λ b. absurd (omega arith)))
-    go true true m l = none-fits _ (λ k. line-none s ts from to (λ j. Unit {0}) (λ b. m) (λ b. few (lineCount from to) l) k tt)
+    go false c m l = lowest-fits _ 1 (omega arith) (fits.LineFits.no-map refl (is-no-map s ts m)) (line-none s ts from to (λ k. k < 1) (λ b. absurd (omega arith)) (λ b. absurd (omega arith)))
+    go true false m l = lowest-fits _ 9 (omega arith) (fits.LineFits.too-far refl (many (lineCount from to) l)) (line-none s ts from to (λ k. k < 9) (λ b. map-is s ts m) (λ b. absurd (omega arith)))
+    go true true m l = none-fits _ (λ k. line-none s ts from to (λ j. Unit {0}) (λ b. map-is s ts m) (λ b. few (lineCount from to) l) k tt)
 
-box-none : (s : Sides) (ts : List ℕ) (vel : vec2) (Before : ℕ → Type 0) → (Before 1 → isMap s ts ≡ true) → (Before 9 → BoxTooFar vel → ⊥) → (k : ℕ) → Before k → BoxFits s ts vel k → ⊥
-box-none s ts vel B m f k b (fits.BoxFits.no-map e q) = true≢false (sym (m (subst B e b)) ∙ q)
+box-none : (s : Sides) (ts : List ℕ) (vel : vec2) (Before : ℕ → Type 0) → (Before 1 → IsMap s ts) → (Before 9 → BoxTooFar vel → ⊥) → (k : ℕ) → Before k → BoxFits s ts vel k → ⊥
+box-none s ts vel B m f k b (fits.BoxFits.no-map e q) = q (m (subst B e b))
 box-none s ts vel B m f k b (fits.BoxFits.too-far e q) = f (subst B e b) q
 
 -- the box's turns are too many just where it is too far
@@ -113,9 +113,9 @@ unfolding moveBox walkBox
 box-number s ts at vel box = go (isMap s ts) (leb (boxTurns (vlength vel)) mostTurns) refl refl
   where
     go : (b c : Bool) → isMap s ts ≡ b → leb (boxTurns (vlength vel)) mostTurns ≡ c → LowestFirst (BoxFits s ts vel) (boxNumber (cond b (boxes.ofWalk (cond c (to.To (boxTurnsTaken s ts (record { pos = at; vel = vel }) box (boxTurns (vlength vel)))) to.TooFar)) moved.BadMap))
-    go false c m l = lowest-fits _ 1 (omega arith) (fits.BoxFits.no-map refl m) (box-none s ts vel (λ k. k < 1) (λ b. absurd (omega arith)) (λ b. absurd (omega arith)))
-    go true false m l = lowest-fits _ 9 (omega arith) (fits.BoxFits.too-far refl (box-many vel l)) (box-none s ts vel (λ k. k < 9) (λ b. m) (λ b. absurd (omega arith)))
-    go true true m l = none-fits _ (λ k. box-none s ts vel (λ j. Unit {0}) (λ b. m) (λ b. box-few vel l) k tt)
+    go false c m l = lowest-fits _ 1 (omega arith) (fits.BoxFits.no-map refl (is-no-map s ts m)) (box-none s ts vel (λ k. k < 1) (λ b. absurd (omega arith)) (λ b. absurd (omega arith)))
+    go true false m l = lowest-fits _ 9 (omega arith) (fits.BoxFits.too-far refl (box-many vel l)) (box-none s ts vel (λ k. k < 9) (λ b. map-is s ts m) (λ b. absurd (omega arith)))
+    go true true m l = none-fits _ (λ k. box-none s ts vel (λ j. Unit {0}) (λ b. map-is s ts m) (λ b. box-few vel l) k tt)
 
 -- ---- the player walk
 player-walk : (n : ℕ) (ss : List Slot) (id : ℕ) (from to : vec2) (collision : Float) → (playerWalk n ss id from to collision ≡ among.TooFar) ↔ WalkTooFar from to collision
@@ -176,8 +176,8 @@ module _ (n : ℕ) (c : Character) (id : CharacterId) (ss : List Slot) (s : Side
   abbrev t : Tuning
   t = tuningOf tunings
 
-  tick-none : (Before : ℕ → Type 0) → (Before 1 → isMap s ts ≡ true) → (Before 2 → id .0 < n) → (Before 9 → FliesTooFar (hookFired c i) (c .pos) t → ⊥) → (k : ℕ) → Before k → TickFits n c id s ts i t k → ⊥
-  tick-none B m l f k b (fits.TickFits.no-map e q) = true≢false (sym (m (subst B e b)) ∙ q)
+  tick-none : (Before : ℕ → Type 0) → (Before 1 → IsMap s ts) → (Before 2 → id .0 < n) → (Before 9 → FliesTooFar (hookFired c i) (c .pos) t → ⊥) → (k : ℕ) → Before k → TickFits n c id s ts i t k → ⊥
+  tick-none B m l f k b (fits.TickFits.no-map e q) = q (m (subst B e b))
   tick-none B m l f k b (fits.TickFits.no-seat e q) = let h = l (subst B e b) in omega (arith, h)
   tick-none B m l f k b (fits.TickFits.too-far e q) = f (subst B e b) q
 
@@ -189,12 +189,12 @@ module _ (n : ℕ) (c : Character) (id : CharacterId) (ss : List Slot) (s : Side
       g = grounded s ts (c .pos)
 
       on : isMap s ts ≡ true → id .0 < n → (f : HookFlight) → (f ≡ TooFar) ↔ FliesTooFar (hookFired c i) (c .pos) t → LowestFirst (TickFits n c id s ts i t) (tickNumber (tickedOf (ticked n (steer c g i t) g (id .0) ss t f)))
-      on m l TooFar q = lowest-fits _ 9 (omega arith) (fits.TickFits.too-far refl (q .0 refl)) (tick-none (λ k. k < 9) (λ b. m) (λ b. l) (λ b. absurd (omega arith)))
-      on m l (To h) q = none-fits _ (λ k. tick-none (λ j. Unit {0}) (λ b. m) (λ b. l) (λ b z. reaches n (c .pos) (id .0) ss s ts t h (q .1 z)) k tt)
+      on m l TooFar q = lowest-fits _ 9 (omega arith) (fits.TickFits.too-far refl (q .0 refl)) (tick-none (λ k. k < 9) (λ b. map-is s ts m) (λ b. l) (λ b. absurd (omega arith)))
+      on m l (To h) q = none-fits _ (λ k. tick-none (λ j. Unit {0}) (λ b. map-is s ts m) (λ b. l) (λ b z. reaches n (c .pos) (id .0) ss s ts t h (q .1 z)) k tt)
 
       go : (b d : Bool) → isMap s ts ≡ b → ltb (id .0) n ≡ d → LowestFirst (TickFits n c id s ts i t) (tickNumber (cond b (cond d (tickedOf (tickAt n c (id .0) ss s ts i t)) answer.BadId) answer.BadMap))
-      go false d m l = lowest-fits _ 1 (omega arith) (fits.TickFits.no-map refl m) (tick-none (λ k. k < 1) (λ b. absurd (omega arith)) (λ b. absurd (omega arith)) (λ b. absurd (omega arith)))
-      go true false m l = lowest-fits _ 2 (omega arith) (fits.TickFits.no-seat refl (ltb-false (id .0) n l)) (tick-none (λ k. k < 2) (λ b. m) (λ b. absurd (omega arith)) (λ b. absurd (omega arith)))
+      go false d m l = lowest-fits _ 1 (omega arith) (fits.TickFits.no-map refl (is-no-map s ts m)) (tick-none (λ k. k < 1) (λ b. absurd (omega arith)) (λ b. absurd (omega arith)) (λ b. absurd (omega arith)))
+      go true false m l = lowest-fits _ 2 (omega arith) (fits.TickFits.no-seat refl (ltb-false (id .0) n l)) (tick-none (λ k. k < 2) (λ b. map-is s ts m) (λ b. absurd (omega arith)) (λ b. absurd (omega arith)))
       go true true m l = on m (ltb-true (id .0) n l) (flight n (hookFired c i) (c .pos) (id .0) ss s ts t) (flight-far n (c .pos) (id .0) ss s ts t (hookFired c i))
 
 -- ---- `move_`
@@ -233,8 +233,8 @@ module _ (n : ℕ) (c : Character) (id : CharacterId) (ss : List Slot) (s : Side
   abbrev WalkFar : Body → Type 0
   WalkFar b = WalkTooFar (c .pos) (b .pos) (tuning .«player_collision»)
 
-  move-none : (Before : ℕ → Type 0) → (Before 1 → isMap s ts ≡ true) → (Before 2 → id .0 < n) → (Before 9 → BoxTooFar (rampedVel (c .vel) tuning) → ⊥) → (Before 9 → (b : Body) → rampedMove s ts (c .pos) (c .vel) tuning ≡ to.To b → WalkFar b → ⊥) → (k : ℕ) → Before k → Fits k → ⊥
-  move-none B m l f g k b (fits.MoveFits.no-map e q) = true≢false (sym (m (subst B e b)) ∙ q)
+  move-none : (Before : ℕ → Type 0) → (Before 1 → IsMap s ts) → (Before 2 → id .0 < n) → (Before 9 → BoxTooFar (rampedVel (c .vel) tuning) → ⊥) → (Before 9 → (b : Body) → rampedMove s ts (c .pos) (c .vel) tuning ≡ to.To b → WalkFar b → ⊥) → (k : ℕ) → Before k → Fits k → ⊥
+  move-none B m l f g k b (fits.MoveFits.no-map e q) = q (m (subst B e b))
   move-none B m l f g k b (fits.MoveFits.no-seat e q) = let h = l (subst B e b) in omega (arith, h)
   move-none B m l f g k b (fits.MoveFits.box-too-far e q) = f (subst B e b) q
   move-none B m l f g k b (fits.MoveFits.walk-too-far e body r q) = g (subst B e b) body r q
@@ -244,11 +244,11 @@ module _ (n : ℕ) (c : Character) (id : CharacterId) (ss : List Slot) (s : Side
   move-number = go (isMap s ts) (ltb (id .0) n) refl refl
     where
       nine : isMap s ts ≡ true → id .0 < n → Fits 9 → LowestFirst Fits 9
-      nine m l f = lowest-fits _ 9 (omega arith) f (move-none (λ k. k < 9) (λ b. m) (λ b. l) (λ b. absurd (omega arith)) (λ b. absurd (omega arith)))
+      nine m l f = lowest-fits _ 9 (omega arith) f (move-none (λ k. k < 9) (λ b. map-is s ts m) (λ b. l) (λ b. absurd (omega arith)) (λ b. absurd (omega arith)))
 
       walks : isMap s ts ≡ true → id .0 < n → (b : Body) → rampedMove s ts (c .pos) (c .vel) tuning ≡ to.To b → (BoxTooFar (rampedVel (c .vel) tuning) → ⊥) → (w : PlayerWalk) → (w ≡ among.TooFar) ↔ WalkFar b → LowestFirst Fits (moveNumber (movedOf (rested c (b .vel) w)))
       walks m l b e f among.TooFar q = nine m l (fits.MoveFits.walk-too-far refl b e (q .0 refl))
-      walks m l b e f (among.At p) q = none-fits _ (λ k. move-none (λ j. Unit {0}) (λ z. m) (λ z. l) (λ z. f) (λ z d r h. far (q .1 (subst WalkFar (same d r) h))) k tt)
+      walks m l b e f (among.At p) q = none-fits _ (λ k. move-none (λ j. Unit {0}) (λ z. map-is s ts m) (λ z. l) (λ z. f) (λ z d r h. far (q .1 (subst WalkFar (same d r) h))) k tt)
         where
           far : among.At p ≡ among.TooFar → ⊥
           far z = let o : _≡_ {A = ℕ} 0 1 = cc in omega arith
@@ -264,8 +264,8 @@ module _ (n : ℕ) (c : Character) (id : CharacterId) (ss : List Slot) (s : Side
           moves z = let o : _≡_ {A = ℕ} 0 1 = cc in omega arith
 
       go : (b d : Bool) → isMap s ts ≡ b → ltb (id .0) n ≡ d → LowestFirst Fits (moveNumber (cond b (cond d (movedOf (moveAt n c (id .0) ss s ts tuning)) gone.BadId) gone.BadMap))
-      go false d m l = lowest-fits _ 1 (omega arith) (fits.MoveFits.no-map refl m) (move-none (λ k. k < 1) (λ b. absurd (omega arith)) (λ b. absurd (omega arith)) (λ b. absurd (omega arith)) (λ b. absurd (omega arith)))
-      go true false m l = lowest-fits _ 2 (omega arith) (fits.MoveFits.no-seat refl (ltb-false (id .0) n l)) (move-none (λ k. k < 2) (λ b. m) (λ b. absurd (omega arith)) (λ b. absurd (omega arith)) (λ b. absurd (omega arith)))
+      go false d m l = lowest-fits _ 1 (omega arith) (fits.MoveFits.no-map refl (is-no-map s ts m)) (move-none (λ k. k < 1) (λ b. absurd (omega arith)) (λ b. absurd (omega arith)) (λ b. absurd (omega arith)) (λ b. absurd (omega arith)))
+      go true false m l = lowest-fits _ 2 (omega arith) (fits.MoveFits.no-seat refl (ltb-false (id .0) n l)) (move-none (λ k. k < 2) (λ b. map-is s ts m) (λ b. absurd (omega arith)) (λ b. absurd (omega arith)) (λ b. absurd (omega arith)))
       go true true m l = boxes m (ltb-true (id .0) n l) (rampedMove s ts (c .pos) (c .vel) tuning) refl
 
 pub walks-refused : WalksRefused

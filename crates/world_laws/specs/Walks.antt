@@ -1,6 +1,6 @@
 -- Refusal 9: a walk is refused if and only if its count of turns is 65,537 or more. Definitions only; proofs/Walks.antt and proofs/Steps.antt prove it.
 use Prim.Native.Nat.{ℕ, _≤_, _<_}
-use mathlib.Core.Bool.{true, false}
+use mathlib.Core.Bool.{true}
 use mathlib.Core.List.{List}
 use mathlib.Core.Logic.{_⊎_, _↔_}
 use mathlib.Core.Path.{_≡_}
@@ -18,7 +18,6 @@ use Rattle.game_input.specs.Inputs.{targetDir, hooks}
 use Rattle.game_records.specs.declared.PlayerInput.{PlayerInput}
 use Rattle.game_tuning.specs.Tuning.{tuningOf}
 use Rattle.game_tuning.specs.declared.Tuning.{Tuning}
-use Rattle.map_tiles.specs.Map.{isMap}
 use Rattle.map_tiles.specs.declared.tiles.Sides.{Sides}
 use Rattle.map_lines.specs.Line.{checkLine, lineNumber}
 use Rattle.map_walks.specs.Move.{leastDist, moveBox, boxNumber}
@@ -35,7 +34,7 @@ use Rattle.character.specs.Walk.{playerWalk, move, moveNumber}
 use Rattle.character.specs.declared.Character.{Character}
 use Rattle.character.specs.declared.Slot.{Slot}
 use Rattle.character.specs.declared.walk.PlayerWalk.the-variants as among
-use Rattle.world.specs.Answers.{LowestFirst}
+use Rattle.world.specs.Answers.{LowestFirst, IsMap}
 use Rattle.world.specs.Run.{ran}
 use Rattle.world.specs.Step.{Moving, tickTurn, tickAll, moveTurn, movingFrom}
 use Rattle.world.specs.declared.World.{World}
@@ -73,12 +72,12 @@ pub record WalkTooFar (from to : vec2) (collision : Float) : Type 0 where
 
 -- `check_line`
 pub data LineFits (s : Sides) (ts : List ℕ) (from to : vec2) (k : ℕ) : Type 0 where
-  no-map : k ≡ 1 → isMap s ts ≡ false → LineFits s ts from to k
+  no-map : k ≡ 1 → (IsMap s ts → ⊥) → LineFits s ts from to k
   too-far : k ≡ 9 → TooMany (lineCount from to) → LineFits s ts from to k
 
 -- `move_box`
 pub data BoxFits (s : Sides) (ts : List ℕ) (vel : vec2) (k : ℕ) : Type 0 where
-  no-map : k ≡ 1 → isMap s ts ≡ false → BoxFits s ts vel k
+  no-map : k ≡ 1 → (IsMap s ts → ⊥) → BoxFits s ts vel k
   too-far : k ≡ 9 → BoxTooFar vel → BoxFits s ts vel k
 
 -- a hook flies, of a character at p, and its line is too long
@@ -94,7 +93,7 @@ hookFired c i = fire (c .hook) (hooks i) (c .pos) (targetDir i)
 
 -- `tick`
 pub data TickFits (n : ℕ) (c : Character) (id : CharacterId) (s : Sides) (ts : List ℕ) (i : PlayerInput) (t : Tuning) (k : ℕ) : Type 0 where
-  no-map : k ≡ 1 → isMap s ts ≡ false → TickFits n c id s ts i t k
+  no-map : k ≡ 1 → (IsMap s ts → ⊥) → TickFits n c id s ts i t k
   no-seat : k ≡ 2 → n ≤ id .0 → TickFits n c id s ts i t k
   too-far : k ≡ 9 → FliesTooFar (hookFired c i) (c .pos) t → TickFits n c id s ts i t k
 
@@ -104,7 +103,7 @@ rampedVel v t = vnew (mul binary32 (v .x) (velocityRamp (mul binary32 (vlength v
 
 -- `move_`: its box, or the walk among others to where the box went
 pub data MoveFits (n : ℕ) (c : Character) (id : CharacterId) (s : Sides) (ts : List ℕ) (t : Tuning) (k : ℕ) : Type 0 where
-  no-map : k ≡ 1 → isMap s ts ≡ false → MoveFits n c id s ts t k
+  no-map : k ≡ 1 → (IsMap s ts → ⊥) → MoveFits n c id s ts t k
   no-seat : k ≡ 2 → n ≤ id .0 → MoveFits n c id s ts t k
   box-too-far : k ≡ 9 → BoxTooFar (rampedVel (c .vel) t) → MoveFits n c id s ts t k
   walk-too-far : k ≡ 9 → (b : Body) → rampedMove s ts (c .pos) (c .vel) t ≡ box.To b → WalkTooFar (c .pos) (b .pos) (t .«player_collision») → MoveFits n c id s ts t k
@@ -142,4 +141,4 @@ pub record MoveTooFar (n : ℕ) (s : Sides) (ts : List ℕ) (w : World) : Type 0
 -- a step answers 0, 1 or 9 and nothing else, and 9 if and only if a tick or a move in it is refused with 9
 pub record StepNumbers (n : ℕ) : Type 0 where
   pub only : (s : Sides) (ts : List ℕ) (w : World) → length (w .slots) ≤ n → let k = ran n s ts w Step .number in (k ≡ 0) ⊎ ((k ≡ 1) ⊎ (k ≡ 9))
-  pub nine : (s : Sides) (ts : List ℕ) (w : World) → (ran n s ts w Step .number ≡ 9) ↔ ((isMap s ts ≡ true) × (TickTooFar n s ts w ⊎ MoveTooFar n s ts w))
+  pub nine : (s : Sides) (ts : List ℕ) (w : World) → (ran n s ts w Step .number ≡ 9) ↔ (IsMap s ts × (TickTooFar n s ts w ⊎ MoveTooFar n s ts w))
