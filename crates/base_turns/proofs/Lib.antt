@@ -5,3 +5,4 @@ pub mod Mapped
 pub mod Parts
 pub mod Own
 pub mod Tests
+pub mod Each

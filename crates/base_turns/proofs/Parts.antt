@@ -15,3 +15,9 @@ module _ {S : Type 0} (f : S → S) where
   unfolding fold
   fold-parts zero n i j k s = ap (λ (l : ℕ). fold (λ l. f) l i s) (zero-add n) ∙ anywhere n i j s
   fold-parts (suc m) n i j k s = ap (λ (l : ℕ). fold (λ l. f) l i s) (suc-add m n) ∙ fold-parts m n (suc i) j (suc k) (f s)
+
+  -- a fixed point of f stays as it is
+  pub fold-fixed : (n i : ℕ) (s : S) → f s ≡ s → fold (λ l. f) n i s ≡ s
+  unfolding fold
+  fold-fixed zero i s e = refl
+  fold-fixed (suc n) i s e = ap (fold (λ l. f) n (suc i)) e ∙ fold-fixed n (suc i) s e

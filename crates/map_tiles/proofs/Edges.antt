@@ -43,7 +43,7 @@ unfolding tileOf
 tile-positive w a b h = omega arith
 
 -- ---- the tile of a coordinate
-tile-mono : (w : ℕ) (x y : Float) → T (le x y) → tileAt w x ≤ tileAt w y
+pub tile-mono : (w : ℕ) (x y : Float) → T (le x y) → tileAt w x ≤ tileAt w y
 unfolding le wholeOf tileAt
 tile-mono w nan y h = absurd h
 tile-mono w (inf true) y h = tile-negative w (2 ^ 31) (tileAt w y)

@@ -2,3 +2,4 @@ pub mod Maps
 pub mod Corners
 pub mod Quantized
 pub mod Edges
+pub mod Counts

@@ -18,7 +18,7 @@ use Rattle.num_order.proofs.Places.{own-placed, placed-ordered, round-n
 use Rattle.num_order.proofs.Products.{Factor, none-under, nought-fits}
 use Rattle.num_order.proofs.Quotients.{div-factor}
 
-whole-up : (f : Format) (i : ℕ) → T (le nought (ofInt f (pos i)))
+pub whole-up : (f : Format) (i : ℕ) → T (le nought (ofInt f (pos i)))
 unfolding ofInt
 whole-up f i = placed-ordered (own-placed f nought (nought-fits f) tt) (round-placed f false i i 0 1 (omega arith)) (lit< tt) (lit< tt) (omega arith)
 
@@ -32,7 +32,7 @@ size-of h true a = go (min a (2 ^ h)) (omega arith)
     go (suc k) l = omega arith
 
 -- a whole number up to the truncated x is up to x
-whole-to : (f : Format) (x : Float) (i : ℕ) → T (fits f x) → T (le nought x) → i ≤ mag (truncToI32 x) → T (le (ofInt f (pos i)) x)
+pub whole-to : (f : Format) (x : Float) (i : ℕ) → T (fits f x) → T (le nought x) → i ≤ mag (truncToI32 x) → T (le (ofInt f (pos i)) x)
 unfolding wholeOf ofInt le
 whole-to f nan i t z h = absurd z
 whole-to f (inf true) i t z h = absurd z

@@ -13,3 +13,5 @@ pub mod Fractions
 pub mod Vectors
 pub mod Clamped
 pub mod Symmetric
+pub mod Monotone
+pub mod Parts

@@ -60,7 +60,7 @@ subtrahend f x (inf t) a = tt
 subtrahend f x (fin t n d) a = tt
 
 -- a sum with a finite value is no nan, nor is one of two that are not below zero
-placed-number : {f : Format} {z : Float} {p n c : ℕ} → Placed f z p n c → Number z
+pub placed-number : {f : Format} {z : Float} {p n c : ℕ} → Placed f z p n c → Number z
 placed-number {f} {z} {p} {n} {c} h = le-left z (round f (h .sign) (h .size) c) (h .from)
 
 pub add-number : (f : Format) (x y : Float) → Number x → T (finite y) → Number (add f x y)

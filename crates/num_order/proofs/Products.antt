@@ -47,7 +47,7 @@ pub record Factor (k : Float) : Type 0 where
   pub from : T (le nought k)
   pub to : T (le k one)
 
-factor-finite : (k : Float) → Factor k → T (finite k)
+pub factor-finite : (k : Float) → Factor k → T (finite k)
 unfolding le
 factor-finite nan h = absurd (h .from)
 factor-finite (inf true) h = absurd (h .from)

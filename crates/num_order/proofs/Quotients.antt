@@ -15,7 +15,7 @@ use Rattle.num_order.proofs.Places.{Placed, own-placed, placed-ordered,
 use Rattle.num_order.proofs.Products.{one, Factor, nought-fits, one-fits, none-under, none-over}
 
 -- x / y for a y that is finite and not below zero
-div-placed : (f : Format) (s : Bool) (a c b d : ℕ) → Placed f (round f (unlike s false) (a * d) (b * c)) (gain s a * d) (loss s a * d) (b * c)
+pub div-placed : (f : Format) (s : Bool) (a c b d : ℕ) → Placed f (round f (unlike s false) (a * d) (b * c)) (gain s a * d) (loss s a * d) (b * c)
 div-placed f true a c b d = round-placed f true (a * d) (0 * d) (a * d) (b * c) (omega arith)
 div-placed f false a c b d = round-placed f false (a * d) (a * d) (0 * d) (b * c) (omega arith)
 
