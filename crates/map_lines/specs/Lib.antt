@@ -1,2 +1,4 @@
 pub mod Limit
+pub mod Points
 pub mod Line
+pub mod OpenTurns

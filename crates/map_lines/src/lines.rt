@@ -1,5 +1,6 @@
 // The line walk: the first solid tile from one point to another.
 use crate::MOST_TURNS;
+use crate::open::open_turns;
 use map_tiles::Sides;
 use map_tiles::Tile;
 use map_tiles::check_point;
@@ -9,6 +10,7 @@ use num_vec2::vec2;
 ghost use mathlib.Core.Path.{_≡_};
 ghost use lib.Dec.{T};
 ghost use Prim.Native.Nat.{_≤_};
+ghost use Rattle.num_vec2.specs.Vec2.{vdistance};
 ghost use Rattle.map_tiles.specs.Map.{isMap};
 ghost use Rattle.map_lines.specs.Line.{lineTurns, lineHit, walkLine, checkLine};
 
@@ -63,11 +65,12 @@ fn line_turns(dist: f32) -> u64
     count(num_convert::trunc_to_i32(dist + 1.0))
 }
 
+// The first solid tile of the line. The turns before it are passed in intervals, the rest one by one.
 fn line_hit(sides: Sides, tiles: &[u8], from: vec2, to: vec2, dist: f32, turns: u32) -> LineHit
-    requires { ⌜ T (isMap sides (now tiles)) × (turns ≤ 65536) ⌝ }
+    requires { ⌜ T (isMap sides (now tiles)) × (turns ≤ 65536) × (dist ≡ vdistance from to) ⌝ }
     ensures { λ r. ⌜ r ≡ lineHit sides (now (tiles .entry)) from to dist turns ⌝ }
 {
-    let mut i = 0u32;
+    let mut i = open_turns(sides, tiles, from, to, dist, turns);
     let hit = loop {
         if i >= turns {
             break LineHit::Nothing;

@@ -1,3 +1,4 @@
 pub mod Clear
 pub mod Ways
 pub mod Straight
+pub mod Stuck

@@ -2,22 +2,46 @@
 use Prim.Native.Nat.{ℕ, zero, suc, _+_, _-_}
 use mathlib.Core.Bool.{Bool, false, not, cond, _&&_, _||_}
 use mathlib.Core.List.{List}
-use lib.Ieee.{Float, binary32, add, sub, le, ofBits}
+use lib.Ieee.{Float, binary32, add, sub, le, eq, ofBits}
 use Rattle.num_convert.specs.Number.{c0}
-use Rattle.num_vec2.specs.Vec2.{vadd, vmul}
+use Rattle.num_vec2.specs.Vec2.{vnew, vadd, vmul}
 use Rattle.num_vec2.specs.declared.vec2.{vec2}
 use Rattle.base_turns.specs.Turns.{fold}
 use Rattle.map_corners.specs.Tile.{tileAt}
 use Rattle.map_tiles.specs.Map.{tileIn, solid}
-use Rattle.map_tiles.specs.Box.{half}
+use Rattle.map_tiles.specs.Box.{half, checkBox}
 use Rattle.map_tiles.specs.declared.tiles.Sides.{Sides}
-use Rattle.map_walks.specs.Move.{boxTurn}
+use Rattle.map_walks.specs.Move.{boxTurn, bodyOf}
 use Rattle.map_walks.specs.declared.moves.Body.{Body}
 use Rattle.map_walks.specs.declared.way.Span.{Span}
 
 -- n turns of a box, each with the same fraction of its velocity
 unfoldable pub turnsTaken : Sides → List ℕ → Float → vec2 → ℕ → Body → Body
 turnsTaken s ts fraction box n b = fold (λ i. boxTurn s ts fraction box) n 0 b
+
+-- the body where it is, with no velocity
+abbrev pub atRest : Body → Body
+atRest b = bodyOf (b .pos .x) (b .pos .y) c0 c0
+
+-- where a turn leads
+abbrev pub newPos : Float → Body → vec2
+newPos fraction b = vadd (b .pos) (vmul (b .vel) fraction)
+
+-- a turn in y alone meets a solid tile
+abbrev pub hitY : Sides → List ℕ → Float → vec2 → Body → Bool
+hitY s ts fraction box b = checkBox s ts (vnew (b .pos .x) (newPos fraction b .y)) box
+
+-- a turn in x alone meets a solid tile
+abbrev pub hitX : Sides → List ℕ → Float → vec2 → Body → Bool
+hitX s ts fraction box b = checkBox s ts (vnew (newPos fraction b .x) (b .pos .y)) box
+
+-- a turn meets a solid tile, and in each coordinate alone
+unfoldable pub isStuck : Sides → List ℕ → Float → vec2 → Body → Bool
+isStuck s ts fraction box b = checkBox s ts (newPos fraction b) box && (hitY s ts fraction box b && hitX s ts fraction box b)
+
+-- a body without velocity is stuck, and stuck again after that turn
+unfoldable pub staysAtRest : Sides → List ℕ → Float → vec2 → Body → Bool
+staysAtRest s ts fraction box b = eq (b .vel .x) c0 && (eq (b .vel .y) c0 && (isStuck s ts fraction box b && isStuck s ts fraction box (atRest b)))
 
 -- where n steps from p lead
 unfoldable pub wayEnd : vec2 → vec2 → ℕ → vec2

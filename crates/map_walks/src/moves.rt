@@ -2,6 +2,7 @@
 use crate::way::is_clear_way;
 use crate::way::way_end;
 use map_lines::MOST_TURNS;
+use map_lines::min;
 use map_tiles::Sides;
 use map_tiles::check_box;
 use map_tiles::count;
@@ -9,10 +10,13 @@ use map_tiles::is_map;
 use num_vec2::vec2;
 ghost use mathlib.Core.Path.{_≡_};
 ghost use lib.Dec.{T};
-ghost use Prim.Native.Nat.{_≤_, min};
+ghost use Prim.Native.Nat.{_≤_};
 ghost use Rattle.map_tiles.specs.Map.{isMap};
 ghost use Rattle.map_walks.specs.Move.{boxTurns, bodyOf, blocked, boxTurn, boxTurnsTaken, walkBox, moveBox};
-ghost use Rattle.map_walks.specs.Way.{turnsTaken};
+ghost use Rattle.map_walks.specs.Way.{turnsTaken, atRest, isStuck, staysAtRest};
+
+// The turns of a stretch. On a floor the last turns of a way meet it, and those before are still straight.
+const STRETCH: u32 = 8;
 
 // A position with the velocity that moves it.
 pub struct Body {
@@ -74,6 +78,7 @@ fn box_turns(dist: f32) -> u64
     0
 }
 
+// Stretch by stretch, up to a turn that changes nothing.
 fn box_turns_taken(sides: Sides, tiles: &[u8], body: Body, box_: vec2, turns: u32) -> Body
     requires { ⌜ T (isMap sides (now tiles)) × (turns ≤ 65536) ⌝ }
     ensures { λ r. ⌜ r ≡ boxTurnsTaken sides (now (tiles .entry)) body «box_» turns ⌝ }
@@ -82,21 +87,53 @@ fn box_turns_taken(sides: Sides, tiles: &[u8], body: Body, box_: vec2, turns: u3
     let mut b = body;
     let mut left = turns;
     while left > 0 {
-        let n = stretch_of(left);
+        if stays_at_rest(sides, tiles, b, fraction, box_) {
+            return at_rest(b);
+        }
+        let n = min(left, STRETCH);
         b = stretch(sides, tiles, b, fraction, box_, n);
         left -= n;
     }
     b
 }
 
-// How many of the turns that are left are tried at once. On a floor the last turns of a way meet it, and those before are still straight.
-fn stretch_of(left: u32) -> u32
-    ensures { λ r. ⌜ r ≡ min left 8 ⌝ }
+// Whether a box without velocity is stuck: no later turn changes it. Few boxes have no velocity, so that is asked first.
+fn stays_at_rest(sides: Sides, tiles: &[u8], body: Body, fraction: f32, box_: vec2) -> bool
+    requires { ⌜ T (isMap sides (now tiles)) ⌝ }
+    ensures { λ r. ⌜ r ≡ staysAtRest sides (now (tiles .entry)) fraction «box_» body ⌝ }
 {
-    if left < 8 {
-        return left;
+    let vel = body.vel;
+    if vel.x == 0.0 {
+        if vel.y == 0.0 {
+            if is_stuck(sides, tiles, body, fraction, box_) {
+                return is_stuck(sides, tiles, at_rest(body), fraction, box_);
+            }
+        }
     }
-    8
+    false
+}
+
+// Whether a turn meets a solid tile ahead, and in each coordinate alone.
+fn is_stuck(sides: Sides, tiles: &[u8], body: Body, fraction: f32, box_: vec2) -> bool
+    requires { ⌜ T (isMap sides (now tiles)) ⌝ }
+    ensures { λ r. ⌜ r ≡ isStuck sides (now (tiles .entry)) fraction «box_» body ⌝ }
+{
+    let pos = body.pos;
+    let vel = body.vel;
+    let new_pos = pos.add(vel.mul(fraction));
+    if check_box(sides, tiles, new_pos, box_) {
+        if check_box(sides, tiles, vec2::new(pos.x, new_pos.y), box_) {
+            return check_box(sides, tiles, vec2::new(new_pos.x, pos.y), box_);
+        }
+    }
+    false
+}
+
+fn at_rest(body: Body) -> Body
+    ensures { λ r. ⌜ r ≡ atRest body ⌝ }
+{
+    let pos = body.pos;
+    body_of(pos.x, pos.y, 0.0, 0.0)
 }
 
 // Where nothing is in the way the turns are sums alone. To ask that costs as much as a turn, so one or two are just taken.

@@ -8,7 +8,8 @@ use lib.Ieee.{inFloat}
 use borrow.Author.Needs.{needs}
 use Rattle.num_convert.specs.Convert.{i32ToF32}
 use Rattle.base_turns.specs.Turns.{run}
-use Rattle.base_turns.proofs.Loop.{Left, turn-first, turn-on, turn-off, turn-end}
+use Rattle.base_turns.proofs.Loop.{Left, turn-on, turn-off, turn-end}
+use Rattle.map_lines.proofs.Intervals.{passed}
 use Rattle.map_lines.specs.Line.{lineTurn, orNothing, lineHit}
 use Rattle.map_lines.proofs.lines.line_hit.Statement.{statement}
 use Rattle.map_lines.proofs.lines.line_hit.Tie as tie
@@ -19,8 +20,11 @@ Inv-loop sides tiles from to dist turns i₀ i = Left (lineTurn sides tiles from
 abbrev μ-loop : tie.MeasureT-loop
 μ-loop sides tiles from to dist turns i₀ i = turns - i
 
+open-turns-requires : tie.Need-open-turns-requires Inv-loop μ-loop
+open-turns-requires c κs = search needs
+
 loop-holds : tie.Need-loop-holds Inv-loop μ-loop
-loop-holds c = turn-first
+loop-holds c = passed _ _ _ _ _ _ _ (c .open-turns .ensures .within) (c .open-turns .ensures .each-open)
 
 int-to-float-mix : tie.Need-int-to-float-mix Inv-loop μ-loop
 unfolding inFloat
@@ -30,7 +34,7 @@ mix-requires : tie.Need-mix-requires Inv-loop μ-loop
 mix-requires c κs = search needs
 
 check-point-requires : tie.Need-check-point-requires Inv-loop μ-loop
-check-point-requires c κs = c .before .before .before .before .before .pre .0
+check-point-requires c κs = c .before .before .before .before .before .before .pre .0
 
 enum-told : tie.Need-enum-told Inv-loop μ-loop
 enum-told c = search needs
@@ -74,6 +78,7 @@ line-hit-spec =
     (tie.spec
     Inv-loop
     μ-loop
+    open-turns-requires
     loop-holds
     int-to-float-mix
     mix-requires

@@ -9,6 +9,7 @@ use Rattle.num_convert.specs.Convert.{i32ToF32}
 use Rattle.map_walks.specs.Move.{boxTurnsTaken}
 use Rattle.map_walks.specs.Way.{turnsTaken}
 use Rattle.map_walks.proofs.Straight.{in-parts, none-left}
+use Rattle.map_walks.proofs.Stuck.{stays-at-rest}
 use Rattle.map_walks.proofs.moves.box_turns_taken.Statement.{statement}
 use Rattle.map_walks.proofs.moves.box_turns_taken.Tie as tie
 
@@ -25,24 +26,34 @@ int-to-float-fraction c = le→leb (c .before .before .args .turns) (2 ^ 24) (om
 loop-holds : tie.Need-loop-holds Inv-loop μ-loop
 loop-holds c = refl
 
-stretch-of-requires : tie.Need-stretch-of-requires Inv-loop μ-loop
-stretch-of-requires c κs = search needs
+stays-at-rest-requires : tie.Need-stays-at-rest-requires Inv-loop μ-loop
+stays-at-rest-requires c κs = search needs
+
+at-rest-requires : tie.Need-at-rest-requires Inv-loop μ-loop
+at-rest-requires c κs = search needs
+
+returns : tie.Need-returns Inv-loop μ-loop
+unfolding boxTurnsTaken turnsTaken i32ToF32
+returns c = c .at-rest .ensures ∙ sym (stays-at-rest _ _ _ _ (c .before .before .before .before .loop .left) _ (c .before .before .before .loop-test .taken) (sym (c .before .before .stays-at-rest .ensures) ∙ c .before .if1 .taken)) ∙ c .before .before .before .before .loop .inv
+
+min-requires : tie.Need-min-requires Inv-loop μ-loop
+min-requires c κs = search needs
 
 stretch-requires : tie.Need-stretch-requires Inv-loop μ-loop
 stretch-requires c κs = search needs
 
 sub-left : tie.Need-sub-left Inv-loop μ-loop
-sub-left c = omega (arith, c .before .stretch-of .ensures)
+sub-left c = omega (arith, c .before .min .ensures)
 
 loop-less : tie.Need-loop-less Inv-loop μ-loop
-loop-less c = omega (arith, c .before .stretch-of .ensures)
+loop-less c = omega (arith, c .before .min .ensures)
 
 loop-again : tie.Need-loop-again Inv-loop μ-loop
-loop-again c = sym (in-parts _ _ _ _ _ _ _ (omega (arith, c .before .stretch-of .ensures)) _ (c .stretch .ensures)) ∙ c .before .before .before .loop .inv
+loop-again c = sym (in-parts _ _ _ _ _ _ _ (omega (arith, c .before .min .ensures)) _ (c .stretch .ensures)) ∙ c .before .before .before .before .before .loop .inv
 
-returns : tie.Need-returns Inv-loop μ-loop
+returns-2 : tie.Need-returns-2 Inv-loop μ-loop
 unfolding boxTurnsTaken turnsTaken i32ToF32
-returns c = sym (none-left _ _ _ _ _ _ (c .loop-test .left)) ∙ c .before .loop .inv
+returns-2 c = sym (none-left _ _ _ _ _ _ (c .loop-test .left)) ∙ c .before .loop .inv
 
 pub box-turns-taken-spec : {M : Type 1} → statement M
 box-turns-taken-spec =
@@ -52,9 +63,12 @@ box-turns-taken-spec =
     μ-loop
     int-to-float-fraction
     loop-holds
-    stretch-of-requires
+    stays-at-rest-requires
+    at-rest-requires
+    returns
+    min-requires
     stretch-requires
     sub-left
     loop-less
     loop-again
-    returns)
+    returns-2)
