@@ -16,13 +16,14 @@ use Rattle.num_vec2.specs.Vec2.{vdistance, vmix}
 use Rattle.num_vec2.specs.declared.vec2.{vec2}
 use Rattle.character_walk.specs.Touching.{touches}
 use Rattle.character_walk.specs.Walking.{playerTurns, restAt}
-use Rattle.character_walk.proofs.Mixed.{part}
+use Rattle.num_order.proofs.Parts.{part}
 use Rattle.character_walk.proofs.Mixed as mixed
 use Rattle.character.specs.declared.Slot.{Slot}
 use Rattle.character.specs.Places.{placeAt}
 use Rattle.character.specs.Tick.{slotAt}
 use Rattle.character.specs.Walk.{isClose, slotTurn, walkTurn, orTo, walkAmong}
-use Rattle.character.specs.Near.{nearTurn, nearWalkTurn, walkNear, Asked}
+use Rattle.character_near.specs.Near.{nearTurn, nearWalkTurn, walkNear}
+use Rattle.character.specs.Near.{Asked}
 
 -- ---- a walk whose turns are another's
 module _ {R : Type 0} where

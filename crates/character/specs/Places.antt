@@ -3,16 +3,16 @@ use Prim.Native.Nat.{ℕ, _<_}
 use mathlib.Core.Bool.{Bool, true, false}
 use mathlib.Core.List.{List}
 use mathlib.Core.Path.{_≡_}
-use lib.Ieee.{Float, nan}
+use lib.Ieee.{Float}
 use lib.ListN.{getD}
-use Rattle.num_vec2.specs.Vec2.{vnew}
 use Rattle.num_vec2.specs.declared.vec2.{vec2}
+use Rattle.character_near.specs.Near as near
 use Rattle.character.specs.Tick.{slotAt}
 use Rattle.character.specs.declared.Slot.{Slot}
 
 -- the place j of two lists of coordinates
 abbrev pub placeAt : List Float → List Float → ℕ → vec2
-placeAt xs ys j = vnew (getD xs j nan) (getD ys j nan)
+placeAt xs ys j = near.placeAt xs ys j
 
 -- b is whether somebody is there, and p where, if somebody is
 pub record Placed (s : Slot) (b : Bool) (p : vec2) : Type 0 where

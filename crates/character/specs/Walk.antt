@@ -21,6 +21,7 @@ use Rattle.map_walks.specs.declared.moves.BoxWalk.{BoxWalk}
 use Rattle.map_walks.specs.declared.moves.BoxWalk.the-variants as box
 use Rattle.character_walk.specs.Touching.{touches}
 use Rattle.character_walk.specs.Walking.{rampedMove, playerTurns, restAt}
+use Rattle.character_near.specs.Near as near
 use Rattle.character.specs.declared.Character.{Character}
 use Rattle.character.specs.declared.Slot.{Slot}
 use Rattle.character.specs.declared.walk.Moved.{Moved}
@@ -51,8 +52,7 @@ walkTurn n ss id from to distance i last =
     next (λ u. more p) (run (slotTurn ss id from to last fraction p) n 0 tt)
 
 abbrev pub orTo : vec2 → Turn vec2 vec2 → vec2
-orTo to (more p) = to
-orTo to (stop p) = p
+orTo to t = near.orTo to t
 
 unfoldable pub walkAmong : ℕ → List Slot → ℕ → vec2 → vec2 → Float → ℕ → vec2
 walkAmong n ss id from to distance turns = orTo to (run (walkTurn n ss id from to distance) turns 0 from)

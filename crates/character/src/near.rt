@@ -24,7 +24,7 @@ pub fn gather(
     near_ys: &mut [f32; SEATS],
 ) -> usize
     requires { ⌜ (length (now «near_xs») ≡ seats) × (length (now «near_ys») ≡ seats) ⌝ }
-    ensures { λ r. ⌜ (r ≤ seats) × Among seats (now (present .entry)) (now (xs .entry)) (now (ys .entry)) (λ ss. Asked ss id from end seats r (now («near_xs» .exit)) (now («near_ys» .exit))) ⌝ }
+    ensures { λ r. ⌜ (r ≤ seats) × (length (now («near_xs» .exit)) ≡ seats) × (length (now («near_ys» .exit)) ≡ seats) × Among seats (now (present .entry)) (now (xs .entry)) (now (ys .entry)) (λ ss. Asked ss id from end seats r (now («near_xs» .exit)) (now («near_ys» .exit))) ⌝ }
 {
     let mut count: usize = 0;
     let mut j: usize = 0;

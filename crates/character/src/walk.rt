@@ -5,10 +5,9 @@ use crate::Slot;
 use crate::near::gather;
 use crate::places::places_of;
 use character_hook::CharacterId;
+use character_near::walk_near;
 use character_walk::player_turns;
 use character_walk::ramped_move;
-use character_walk::rest_at;
-use character_walk::touches;
 use game_tuning::TUNINGS;
 use game_tuning::Tuning;
 use game_tuning::tuning_of;
@@ -19,12 +18,10 @@ use map_walks::BoxWalk;
 use num_vec2::vec2;
 ghost use mathlib.Core.Path.{_≡_};
 ghost use lib.Dec.{T};
-ghost use Prim.Native.Nat.{_≤_};
 ghost use Rattle.map_tiles.specs.Map.{isMap};
 ghost use Rattle.character.specs.Tick.{seats};
 ghost use Rattle.character.specs.Walk.{playerWalk, moveAt, move};
 ghost use Rattle.character.specs.Places.{Among};
-ghost use Rattle.character.specs.Near.{walkNear};
 
 // What `move_` answers.
 pub enum Moved {
@@ -137,34 +134,4 @@ fn player_walk(
         return PlayerWalk::At(rest);
     }
     PlayerWalk::At(to)
-}
-
-// Point by point, up to the first at which one of those who may be touched is close.
-fn walk_near(
-    near_xs: &[f32; SEATS],
-    near_ys: &[f32; SEATS],
-    count: usize,
-    from: vec2,
-    to: vec2,
-    distance: f32,
-    turns: u32,
-) -> vec2
-    requires { ⌜ (turns ≤ 65536) × (count ≤ seats) ⌝ }
-    ensures { λ r. ⌜ r ≡ walkNear count (now («near_xs» .entry)) (now («near_ys» .entry)) from to distance turns ⌝ }
-{
-    let mut last = from;
-    let mut rest = to;
-    'walk: for i in 0..turns {
-        let fraction = i as f32 / distance;
-        let p = vec2::mix(from, to, fraction);
-        for k in 0..count {
-            let q = vec2::new(near_xs[k], near_ys[k]);
-            if touches(p, q) {
-                rest = rest_at(fraction, last, from, to, p, q);
-                break 'walk;
-            }
-        }
-        last = p;
-    }
-    rest
 }

@@ -9,7 +9,7 @@ use mir.Facts.{or-yes}
 use Rattle.game_constants.specs.Constants.{characterSize}
 use Rattle.num_vec2.specs.declared.vec2.{vec2}
 use Rattle.character_walk.proofs.Apart.{Aside}
-use Rattle.character_walk.proofs.Mixed.{Away, end}
+use Rattle.character_walk.proofs.Mixed.{Away, Beside, end}
 use Rattle.character_aside.specs.Aside.{isAside, mayTouch}
 
 both-or : (s u t v : Bool) → T ((s && u) || (t && v)) → (T s × T u) ⊎ (T t × T v)
@@ -23,9 +23,13 @@ left : (b : Bool) → not b ≡ false → T b
 left true h = tt
 left false h = absurd (true≢false h)
 
-pub left-out : (from to q : vec2) → mayTouch from (end from to) q ≡ false → Away from to q
+-- a player who may not be touched between a and b is to one side of both
+pub beside : (a b q : vec2) → mayTouch a b q ≡ false → Beside a b q
 unfolding mayTouch
-left-out from to q h =
-    let x = isAside (from .x) (end from to .x) (q .x) in
-    let y = isAside (from .y) (end from to .y) (q .y) in
+beside a b q h =
+    let x = isAside (a .x) (b .x) (q .x) in
+    let y = isAside (a .y) (b .y) (q .y) in
     ⊎-elim (λ k. inl (aside _ _ _ k)) (λ k. inr (aside _ _ _ k)) (or-yes x y (left (x || y) h))
+
+pub left-out : (from to q : vec2) → mayTouch from (end from to) q ≡ false → Away from to q
+left-out from to q h = beside from (end from to) q h

@@ -1,2 +1,3 @@
 // Whom a way leaves aside.
 pub mod aside;
+pub mod first;

@@ -13,7 +13,8 @@ use borrow.Author.Tests.{ne-eqb, eqb-false}
 use Rattle.num_order.proofs.Vectors.{FitsPair}
 use Rattle.num_vec2.specs.Vec2.{vdistance, vmix}
 use Rattle.num_vec2.specs.declared.vec2.{vec2}
-use Rattle.character_walk.proofs.Mixed.{part, untouched}
+use Rattle.num_order.proofs.Parts.{part}
+use Rattle.character_walk.proofs.Mixed.{untouched}
 use Rattle.character_walk.proofs.Mixed as mixed
 use Rattle.character_walk.specs.Touching.{touches}
 use Rattle.character_walk.specs.Walking.{playerTurns}
@@ -163,7 +164,7 @@ returns : tie.Need-returns Inv-loop μ-loop
 returns c =
     let l = c .before .loop in
     let a = c .before .before .args in
-    (omega arith, λ ss places. subst (λ (j : ℕ). Asked ss (a .id) (a .from) (a .end) j (l .count) (l .near-xs) (l .near-ys)) (omega arith) (l .inv .4 ss places))
+    (omega arith, l .inv .2, l .inv .3, λ ss places. subst (λ (j : ℕ). Asked ss (a .id) (a .from) (a .end) j (l .count) (l .near-xs) (l .near-ys)) (omega arith) (l .inv .4 ss places))
 
 pub gather-spec : {M : Type 1} → statement M
 gather-spec =

@@ -1,4 +1,4 @@
--- `character::walk::walk_near` meets its contract. Assumes nothing.
+-- `character_near::walk::walk_by_turn` meets its contract. Assumes nothing.
 use mathlib.Core.List.{List}
 use mathlib.Core.Path.{_≡_, refl, sym, ap, _∙_}
 use Prim.Native.Nat.{ℕ, _-_, _^_}
@@ -7,15 +7,14 @@ use lib.Dec.{le→leb}
 use lib.Ieee.{Float, binary32, div, inFloat}
 use lib.IntN.{pos}
 use borrow.Author.Needs.{needs}
-use Rattle.character.specs.Walk.{orTo}
-use Rattle.character.specs.Near.{nearTurn, nearWalkTurn, walkNear}
+use Rattle.character_near.specs.Near.{nearTurn, nearWalkTurn, orTo, walkNear}
 use Rattle.num_convert.specs.Convert.{i32ToF32}
 use Rattle.base_turns.proofs.Loop.{Left, turn-first, turn-on, turn-off, turn-end}
 use Rattle.base_turns.specs.Turns.{more, stop, run}
 use Rattle.num_vec2.specs.Vec2.{vmix}
 use Rattle.num_vec2.specs.declared.vec2.{vec2}
-use Rattle.character.proofs.walk.walk_near.Statement.{statement}
-use Rattle.character.proofs.walk.walk_near.Tie as tie
+use Rattle.character_near.proofs.walk.walk_by_turn.Statement.{statement}
+use Rattle.character_near.proofs.walk.walk_by_turn.Tie as tie
 
 -- a turn, on plain values: nobody is close to its point; somebody is
 module _ (m : ℕ) (xs ys : List Float) (from to : vec2) (distance : Float) (i : ℕ) (last p : vec2) (at : p ≡ vmix from to (div binary32 (i32ToF32 (pos i)) distance)) where
@@ -26,16 +25,16 @@ module _ (m : ℕ) (xs ys : List Float) (from to : vec2) (distance : Float) (i :
   stopped r e = simp (← at, e)
 
 abbrev Inv-loop : tie.InvT-loop
-Inv-loop near-xs near-ys count from to distance turns last rest₀ i fraction p k₀ rest k = (rest ≡ rest₀) × Left (nearTurn near-xs near-ys from to last fraction p) count k tt (run (nearTurn near-xs near-ys from to last fraction p) count 0 tt)
+Inv-loop xs ys count from to distance turns last rest₀ i fraction p k₀ rest k = (rest ≡ rest₀) × Left (nearTurn xs ys from to last fraction p) count k tt (run (nearTurn xs ys from to last fraction p) count 0 tt)
 
 abbrev μ-loop : tie.MeasureT-loop
-μ-loop near-xs near-ys count from to distance turns last rest₀ i fraction p k₀ rest k = count - k
+μ-loop xs ys count from to distance turns last rest₀ i fraction p k₀ rest k = count - k
 
 abbrev Inv-walk : tie.InvT-walk
-Inv-walk near-xs near-ys count from to distance turns last₀ rest₀ i₀ last rest i = (rest ≡ rest₀) × Left (nearWalkTurn count near-xs near-ys from to distance) turns i last (run (nearWalkTurn count near-xs near-ys from to distance) turns 0 last₀)
+Inv-walk xs ys count from to distance turns last₀ rest₀ i₀ last rest i = (rest ≡ rest₀) × Left (nearWalkTurn count xs ys from to distance) turns i last (run (nearWalkTurn count xs ys from to distance) turns 0 last₀)
 
 abbrev μ-walk : tie.MeasureT-walk
-μ-walk near-xs near-ys count from to distance turns last₀ rest₀ i₀ last rest i = turns - i
+μ-walk xs ys count from to distance turns last₀ rest₀ i₀ last rest i = turns - i
 
 walk-holds : tie.Need-walk-holds Inv-loop μ-loop Inv-walk μ-walk
 walk-holds c = (refl, turn-first)
@@ -53,14 +52,14 @@ loop-holds c = (refl, turn-first)
 mul-new : tie.Need-mul-new Inv-loop μ-loop Inv-walk μ-walk
 mul-new c = omega arith
 
-element-copy-out-new : tie.Need-element-copy-out-new Inv-loop μ-loop Inv-walk μ-walk
-element-copy-out-new c = search needs
+shared-slice-read-new : tie.Need-shared-slice-read-new Inv-loop μ-loop Inv-walk μ-walk
+shared-slice-read-new c = search needs
 
 mul-new-2 : tie.Need-mul-new-2 Inv-loop μ-loop Inv-walk μ-walk
 mul-new-2 c = omega arith
 
-element-copy-out-new-2 : tie.Need-element-copy-out-new-2 Inv-loop μ-loop Inv-walk μ-walk
-element-copy-out-new-2 c = search needs
+shared-slice-read-new-2 : tie.Need-shared-slice-read-new-2 Inv-loop μ-loop Inv-walk μ-walk
+shared-slice-read-new-2 c = search needs
 
 new-requires : tie.Need-new-requires Inv-loop μ-loop Inv-walk μ-walk
 new-requires c κs = search needs
@@ -93,8 +92,8 @@ unfolding i32ToF32
 walk-again c =
     let w = c .before .before .before .before .before .walk in
     let l = c .before .loop in
-    let a = c .before .before .before .before .before .before .args in
-    (l .inv .0 ∙ w .inv .0, turn-on (w .inv .1) (c .before .before .before .before .walk-test .taken) (passed (a .count) (a .near-xs .now) (a .near-ys .now) (a .from) (a .to) (a .distance) (w .i) (w .last) (c .before .before .mix .result) (c .before .before .mix .ensures) (turn-end (l .inv .1) (c .loop-test .left))))
+    let a = c .before .before .before .before .before .before .before .before .args in
+    (l .inv .0 ∙ w .inv .0, turn-on (w .inv .1) (c .before .before .before .before .walk-test .taken) (passed (a .count) (a .xs .now) (a .ys .now) (a .from) (a .to) (a .distance) (w .i) (w .last) (c .before .before .mix .result) (c .before .before .mix .ensures) (turn-end (l .inv .1) (c .loop-test .left))))
 
 returns : tie.Need-returns Inv-loop μ-loop Inv-walk μ-walk
 unfolding walkNear
@@ -105,13 +104,13 @@ unfolding walkNear i32ToF32
 returns-2 c =
     let w = c .before .before .before .before .before .before .before .before .before .before .before .walk in
     let l = c .before .before .before .before .before .before .before .loop in
-    let a = c .before .before .before .before .before .before .before .before .before .before .before .before .args in
+    let a = c .before .before .before .before .before .before .before .before .before .before .before .before .before .before .args in
     let m = c .before .before .before .before .before .before .before .before .mix in
     sym (ap (orTo (a .to)) (turn-off {r = c .rest-at .result} (w .inv .1) (c .before .before .before .before .before .before .before .before .before .before .walk-test .taken)
-    (stopped (a .count) (a .near-xs .now) (a .near-ys .now) (a .from) (a .to) (a .distance) (w .i) (w .last) (m .result) (m .ensures) (c .rest-at .result) (turn-off {r = c .rest-at .result} (l .inv .1) (c .before .before .before .before .before .before .loop-test .taken) (simp (← c .before .before .before .new .ensures, ← c .before .before .touches .ensures, c .before .if1 .taken, ← c .rest-at .ensures))))))
+    (stopped (a .count) (a .xs .now) (a .ys .now) (a .from) (a .to) (a .distance) (w .i) (w .last) (m .result) (m .ensures) (c .rest-at .result) (turn-off {r = c .rest-at .result} (l .inv .1) (c .before .before .before .before .before .before .loop-test .taken) (simp (← c .before .before .before .new .ensures, ← c .before .before .touches .ensures, c .before .if1 .taken, ← c .rest-at .ensures))))))
 
-pub walk-near-spec : {M : Type 1} → statement M
-walk-near-spec =
+pub walk-by-turn-spec : {M : Type 1} → statement M
+walk-by-turn-spec =
     tie.close
     (tie.spec
     Inv-loop
@@ -123,9 +122,9 @@ walk-near-spec =
     mix-requires
     loop-holds
     mul-new
-    element-copy-out-new
+    shared-slice-read-new
     mul-new-2
-    element-copy-out-new-2
+    shared-slice-read-new-2
     new-requires
     touches-requires
     rest-at-requires
