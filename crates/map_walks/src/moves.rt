@@ -10,13 +10,19 @@ use map_tiles::is_map;
 use num_vec2::vec2;
 ghost use mathlib.Core.Path.{_≡_};
 ghost use lib.Dec.{T};
-ghost use Prim.Native.Nat.{_≤_};
+ghost use Prim.Native.Nat.{_≤_, _<_};
 ghost use Rattle.map_tiles.specs.Map.{isMap};
 ghost use Rattle.map_walks.specs.Move.{boxTurns, bodyOf, blocked, boxTurn, boxTurnsTaken, walkBox, moveBox};
 ghost use Rattle.map_walks.specs.Way.{turnsTaken, atRest, isStuck, staysAtRest};
 
 // The turns of a stretch. On a floor the last turns of a way meet it, and those before are still straight.
 const STRETCH: u32 = 8;
+
+// The turns of a stretch in a long walk.
+const LONG_STRETCH: u32 = 64;
+
+// A walk of more turns is long. No walk of a game is.
+const LONG_WALK: u32 = 512;
 
 // A position with the velocity that moves it.
 pub struct Body {
@@ -84,14 +90,15 @@ fn box_turns_taken(sides: Sides, tiles: &[u8], body: Body, box_: vec2, turns: u3
     ensures { λ r. ⌜ r ≡ boxTurnsTaken sides (now (tiles .entry)) body «box_» turns ⌝ }
 {
     let fraction = 1.0 / turns as f32;
+    let size = stretch_of(turns);
     let mut b = body;
     let mut left = turns;
     while left > 0 {
         if stays_at_rest(sides, tiles, b, fraction, box_) {
             return at_rest(b);
         }
-        let n = min(left, STRETCH);
-        b = stretch(sides, tiles, b, fraction, box_, n);
+        let n = min(left, size);
+        b = long_stretch(sides, tiles, b, fraction, box_, n);
         left -= n;
     }
     b
@@ -134,6 +141,54 @@ fn at_rest(body: Body) -> Body
 {
     let pos = body.pos;
     body_of(pos.x, pos.y, 0.0, 0.0)
+}
+
+// The turns of a stretch in a walk of so many turns.
+fn stretch_of(turns: u32) -> u32
+    ensures { λ r. ⌜ 0 < r ⌝ }
+{
+    if turns > LONG_WALK {
+        return LONG_STRETCH;
+    }
+    STRETCH
+}
+
+// A stretch of any length: sums alone where nothing is in the way, else stretches of eight.
+fn long_stretch(
+    sides: Sides,
+    tiles: &[u8],
+    body: Body,
+    fraction: f32,
+    box_: vec2,
+    turns: u32,
+) -> Body
+    requires { ⌜ T (isMap sides (now tiles)) ⌝ }
+    ensures { λ r. ⌜ r ≡ turnsTaken sides (now (tiles .entry)) fraction «box_» turns body ⌝ }
+{
+    if turns <= STRETCH {
+        return stretch(sides, tiles, body, fraction, box_, turns);
+    }
+    let start = body.pos;
+    let vel = body.vel;
+    let end = way_end(start, vel.mul(fraction), turns);
+    if is_clear_way(sides, tiles, start, end, box_) {
+        return Body { pos: end, vel: vel };
+    }
+    stretches(sides, tiles, body, fraction, box_, turns)
+}
+
+fn stretches(sides: Sides, tiles: &[u8], body: Body, fraction: f32, box_: vec2, turns: u32) -> Body
+    requires { ⌜ T (isMap sides (now tiles)) ⌝ }
+    ensures { λ r. ⌜ r ≡ turnsTaken sides (now (tiles .entry)) fraction «box_» turns body ⌝ }
+{
+    let mut b = body;
+    let mut left = turns;
+    while left > 0 {
+        let n = min(left, STRETCH);
+        b = stretch(sides, tiles, b, fraction, box_, n);
+        left -= n;
+    }
+    b
 }
 
 // Where nothing is in the way the turns are sums alone. To ask that costs as much as a turn, so one or two are just taken.

@@ -14,14 +14,17 @@ use Rattle.map_walks.proofs.moves.box_turns_taken.Statement.{statement}
 use Rattle.map_walks.proofs.moves.box_turns_taken.Tie as tie
 
 abbrev Inv-loop : tie.InvT-loop
-Inv-loop sides tiles box- turns fraction b₀ left₀ b left = turnsTaken sides tiles fraction box- left b ≡ turnsTaken sides tiles fraction box- turns b₀
+Inv-loop sides tiles box- turns fraction size b₀ left₀ b left = turnsTaken sides tiles fraction box- left b ≡ turnsTaken sides tiles fraction box- turns b₀
 
 abbrev μ-loop : tie.MeasureT-loop
-μ-loop sides tiles box- turns fraction b₀ left₀ b left = left
+μ-loop sides tiles box- turns fraction size b₀ left₀ b left = left
 
 int-to-float-fraction : tie.Need-int-to-float-fraction Inv-loop μ-loop
 unfolding inFloat
 int-to-float-fraction c = le→leb (c .before .before .args .turns) (2 ^ 24) (omega arith)
+
+stretch-of-requires : tie.Need-stretch-of-requires Inv-loop μ-loop
+stretch-of-requires c κs = search needs
 
 loop-holds : tie.Need-loop-holds Inv-loop μ-loop
 loop-holds c = refl
@@ -39,8 +42,8 @@ returns c = c .at-rest .ensures ∙ sym (stays-at-rest _ _ _ _ (c .before .befor
 min-requires : tie.Need-min-requires Inv-loop μ-loop
 min-requires c κs = search needs
 
-stretch-requires : tie.Need-stretch-requires Inv-loop μ-loop
-stretch-requires c κs = search needs
+long-stretch-requires : tie.Need-long-stretch-requires Inv-loop μ-loop
+long-stretch-requires c κs = search needs
 
 sub-left : tie.Need-sub-left Inv-loop μ-loop
 sub-left c = omega (arith, c .before .min .ensures)
@@ -49,7 +52,7 @@ loop-less : tie.Need-loop-less Inv-loop μ-loop
 loop-less c = omega (arith, c .before .min .ensures)
 
 loop-again : tie.Need-loop-again Inv-loop μ-loop
-loop-again c = sym (in-parts _ _ _ _ _ _ _ (omega (arith, c .before .min .ensures)) _ (c .stretch .ensures)) ∙ c .before .before .before .before .before .loop .inv
+loop-again c = sym (in-parts _ _ _ _ _ _ _ (omega (arith, c .before .min .ensures)) _ (c .long-stretch .ensures)) ∙ c .before .before .before .before .before .loop .inv
 
 returns-2 : tie.Need-returns-2 Inv-loop μ-loop
 unfolding boxTurnsTaken turnsTaken i32ToF32
@@ -62,12 +65,13 @@ box-turns-taken-spec =
     Inv-loop
     μ-loop
     int-to-float-fraction
+    stretch-of-requires
     loop-holds
     stays-at-rest-requires
     at-rest-requires
     returns
     min-requires
-    stretch-requires
+    long-stretch-requires
     sub-left
     loop-less
     loop-again
