@@ -1,0 +1,112 @@
+//! The slowest calls: the processor time of the last step of known scenes, then, for each call that
+//! steps, the slowest that hill climbing finds from them by legal calls. Prints rows of tables.
+//!
+//! ```sh
+//! worst EVALUATIONS SEED FOLDER
+//! ```
+//!
+//! For each call so many changed scenes are measured. The calls of the slowest step are written to
+//! the folder as a session text.
+
+mod change;
+mod climb;
+mod clock;
+mod cost;
+mod ground;
+mod link;
+mod scene;
+mod scenes;
+#[cfg(test)]
+mod tests;
+mod text;
+
+use climb::{Found, climb, ranked};
+use cost::{Call, search_time, trial_step};
+use reference::Xorshift;
+use scene::Scene;
+use std::error::Error;
+use std::path::Path;
+use std::{env, fs};
+
+/// A trial of legal size has eight tunings of 3,000 steps each; so many of one are measured.
+const TRIAL_STEPS: f64 = 24_000.0;
+const TRIED: i32 = 300;
+
+fn main() -> Result<(), Box<dyn Error>> {
+    let arguments: Vec<String> = env::args().skip(1).collect();
+    let [evaluations, seed, folder] = &arguments[..] else {
+        return Err("EVALUATIONS, SEED and FOLDER are to be named".into());
+    };
+    let (evaluations, seed) = (evaluations.parse()?, seed.parse()?);
+    let scenes = scenes::scenes();
+    print_scenes(&scenes);
+    println!("\n| call | slowest scene | ms | found, ms |\n|---|---|---|---|");
+    for call in Call::ALL {
+        let known = ranked(call, &scenes);
+        let found = climb(call, &known, evaluations, &mut Xorshift::seeded(seed));
+        print_call(call, &known[0], &found);
+        write_text(call, &found.scene, Path::new(folder))?;
+    }
+    Ok(())
+}
+
+/// But for those whose step is refused.
+fn print_scenes(scenes: &[Scene]) {
+    println!("| scene, 64 players | slowest step, ms |\n|---|---|");
+    for scene in scenes {
+        let found = Found::measured(Call::Step, scene);
+        if found.milliseconds > 0.0 {
+            println!("| {} | {:.2} |", scene.name, found.milliseconds);
+        }
+    }
+    // Once, since the way there is long.
+    let far = scenes::far_scene();
+    println!("| {} | {:.2} |", far.name, Call::Step.cost(&far));
+}
+
+fn print_call(call: Call, known: &Found, found: &Found) {
+    let [before, after] = [known, found].map(|found| time(call, found));
+    println!(
+        "| {} | {} | {before} | {after} |",
+        name(call),
+        known.scene.name
+    );
+}
+
+fn name(call: Call) -> &'static str {
+    match call {
+        Call::Step => "step",
+        Call::RefusedStep => "step, refused with 9",
+        Call::SendStep => "send_step",
+        Call::ReceiveMark => "receive, a mark",
+        Call::Search => "search",
+        Call::TrialStep => "trial, a step of it (24,000 steps)",
+    }
+}
+
+fn time(call: Call, found: &Found) -> String {
+    match call {
+        Call::Search => format!("{:.0}", search_time(&found.scene)),
+        Call::TrialStep => {
+            let step = trial_step(&found.scene, TRIED);
+            format!("{step:.2} ({:.0} s)", step * TRIAL_STEPS / 1e3)
+        }
+        _ => format!("{:.2}", found.milliseconds),
+    }
+}
+
+/// With a map of its own where the steps are made on another than the joins.
+fn write_text(call: Call, scene: &Scene, folder: &Path) -> Result<(), Box<dyn Error>> {
+    let name = format!("worst_{call:?}").to_lowercase();
+    fs::write(
+        folder.join(&name).with_extension("in"),
+        text::session_text(scene),
+    )?;
+    let map = folder.join(name).with_extension("map");
+    match &scene.stepped_on {
+        Some(ground) => fs::write(map, text::map_text(&ground.smallest()))?,
+        None if map.exists() => fs::remove_file(map)?,
+        None => (),
+    }
+    Ok(())
+}
