@@ -5,8 +5,9 @@
 //! worst EVALUATIONS SEED FOLDER
 //! ```
 //!
-//! For each call so many changed scenes are measured. The calls of the slowest step are written to
-//! the folder as a session text.
+//! For each call so many changed scenes are measured. The calls of the slowest one are written to
+//! the folder as a session text, which the session program takes up to 65,536 bytes; for a trial its
+//! tunings and joins, with the tiles that are run for as aims.
 
 mod change;
 mod climb;
@@ -65,22 +66,20 @@ fn print_scenes(scenes: &[Scene]) {
 }
 
 fn print_call(call: Call, known: &Found, found: &Found) {
+    let (title, _) = names(call);
     let [before, after] = [known, found].map(|found| time(call, found));
-    println!(
-        "| {} | {} | {before} | {after} |",
-        name(call),
-        known.scene.name
-    );
+    println!("| {title} | {} | {before} | {after} |", known.scene.name);
 }
 
-fn name(call: Call) -> &'static str {
+/// In a table, and for a file.
+fn names(call: Call) -> (&'static str, &'static str) {
     match call {
-        Call::Step => "step",
-        Call::RefusedStep => "step, refused with 9",
-        Call::SendStep => "send_step",
-        Call::ReceiveMark => "receive, a mark",
-        Call::Search => "search",
-        Call::TrialStep => "trial, a step of it (24,000 steps)",
+        Call::Step => ("step", "step"),
+        Call::RefusedStep => ("step, refused with 9", "refused_step"),
+        Call::SendStep => ("send_step", "send_step"),
+        Call::ReceiveMark => ("receive, a mark", "mark"),
+        Call::Search => ("search", "search"),
+        Call::TrialStep => ("trial, a step of it (24,000 steps)", "trial"),
     }
 }
 
@@ -97,12 +96,10 @@ fn time(call: Call, found: &Found) -> String {
 
 /// With a map of its own where the steps are made on another than the joins.
 fn write_text(call: Call, scene: &Scene, folder: &Path) -> Result<(), Box<dyn Error>> {
-    let name = format!("worst_{call:?}").to_lowercase();
-    fs::write(
-        folder.join(&name).with_extension("in"),
-        text::session_text(scene),
-    )?;
-    let map = folder.join(name).with_extension("map");
+    let (_, name) = names(call);
+    let text = folder.join(format!("worst_{name}.in"));
+    fs::write(text, text::session_text(scene))?;
+    let map = folder.join(format!("worst_{name}.map"));
     match &scene.stepped_on {
         Some(ground) => fs::write(map, text::map_text(&ground.smallest()))?,
         None if map.exists() => fs::remove_file(map)?,
