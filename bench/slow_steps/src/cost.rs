@@ -30,6 +30,9 @@ const NOWHERE: (i32, i32) = (i32::MIN, i32::MIN);
 
 const SEARCHER: CharacterId = CharacterId(0);
 
+/// The last steps of a scene count, so many at most; those before them are the way there.
+const LAST: usize = 10;
+
 /// Steps of a trial while the slowest is searched for.
 const TRIED: i32 = 20;
 
@@ -46,7 +49,13 @@ impl Call {
     /// The slowest of a scene; for a search its estimate from three steps.
     pub fn cost(self, scene: &Scene) -> f64 {
         match self {
-            Call::Step => most(step_times(scene).into_iter().filter_map(Result::ok)),
+            Call::Step => most(
+                step_times(scene)
+                    .into_iter()
+                    .rev()
+                    .take(LAST)
+                    .filter_map(Result::ok),
+            ),
             Call::RefusedStep => most(step_times(scene).into_iter().filter_map(Result::err)),
             Call::SendStep => most(Link::times(scene).into_iter().map(|[send, _]| send)),
             Call::ReceiveMark => most(Link::times(scene).into_iter().map(|[_, mark]| mark)),

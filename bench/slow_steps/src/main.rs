@@ -54,15 +54,13 @@ fn main() -> Result<(), Box<dyn Error>> {
 /// But for those whose step is refused.
 fn print_scenes(scenes: &[Scene]) {
     println!("| scene, 64 players | slowest step, ms |\n|---|---|");
-    for scene in scenes {
+    let far = [scenes::far_scene()];
+    for scene in scenes.iter().chain(&far) {
         let found = Found::measured(Call::Step, scene);
         if found.milliseconds > 0.0 {
             println!("| {} | {:.2} |", scene.name, found.milliseconds);
         }
     }
-    // Once, since the way there is long.
-    let far = scenes::far_scene();
-    println!("| {} | {:.2} |", far.name, Call::Step.cost(&far));
 }
 
 fn print_call(call: Call, known: &Found, found: &Found) {

@@ -22,8 +22,8 @@ const LEFT: i32 = -90_000;
 /// The ramp's range in hundredths for runs of 62,600 to 65,000 units.
 const RUN_RANGE: i32 = 8_660_000;
 
-/// So many runs lead from the greatest x of a join to 2^26.
-const FAR_STEPS: usize = 1_075;
+/// So many runs lead from the greatest x of a join to 2^24, where a turn's rounded sum stays.
+const FAR_STEPS: usize = 280;
 
 /// All but the one that is far away.
 pub fn scenes() -> Vec<Scene> {
@@ -49,18 +49,13 @@ pub fn scenes() -> Vec<Scene> {
     scenes
 }
 
-/// On a line at 2^26, where a coordinate has eight turns. The way there is long.
+/// Everybody at the greatest x that runs lead to. The way there is long.
 pub fn far_scene() -> Scene {
-    let tunings = [&runs(RUN_RANGE)[..], &[(Gravity, 0), (PlayerCollision, 0)]].concat();
-    let place = |id| (100_000 - 32 * id, 0);
-    let mut scene = Scene::new(
-        "each through each at 2^26",
-        &tunings,
-        place,
-        to_the_right(0),
-    );
+    let tunings = [&runs(RUN_RANGE)[..], &[(Gravity, 0)]].concat();
+    let place = |id| (100_000, 37 * id);
+    let name = "run at 2^24, where no turn moves";
+    let mut scene = Scene::new(name, &tunings, place, to_the_right(0));
     scene.steps = FAR_STEPS;
-    scene.late = vec![(PlayerCollision as i32, 100)];
     scene
 }
 
