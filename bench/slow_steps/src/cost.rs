@@ -3,7 +3,6 @@
 use crate::clock::timed;
 use crate::link::Link;
 use crate::scene::Scene;
-use ponguriena::buffers::{SEATS, TUNINGS};
 use ponguriena::{CharacterId, Map, Refusal, Role, World, trial};
 
 /// The calls whose slowest is searched for.
@@ -96,27 +95,21 @@ fn play(scene: &Scene, mut step: impl FnMut(&mut World, &Map<'_>) -> Result<(), 
     }
 }
 
-/// The first of three steps in a row for which a search would be slowest, and its estimate.
+/// The first of three steps in a row for which a search would be slowest, and its estimate. In a
+/// search nothing is tuned, so they all come before what is tuned late.
 fn slowest_window(scene: &Scene) -> (usize, f64) {
-    let times: Vec<f64> = step_times(scene)
-        .into_iter()
-        .map_while(Result::ok)
-        .collect();
-    let whole = |window: &[f64]| {
-        window
-            .iter()
-            .zip(SEARCHED)
-            .map(|(time, count)| time * count)
-            .sum()
+    let untuned = scene.steps - usize::from(!scene.late.is_empty());
+    let times = step_times(scene).into_iter().take(untuned);
+    let times: Vec<f64> = times.map_while(Result::ok).collect();
+    let estimate = |window: &[f64]| {
+        let each = window.iter().zip(SEARCHED);
+        each.map(|(time, count)| time * count).sum::<f64>()
     };
-    let windows = times.windows(SEARCHED.len()).map(whole).enumerate();
-    windows.fold((0, 0.0), |slowest, window| {
-        if window.1 > slowest.1 {
-            window
-        } else {
-            slowest
-        }
-    })
+    let windows = times.windows(SEARCHED.len()).map(estimate);
+    let slowest = windows
+        .enumerate()
+        .max_by(|one, other| one.1.total_cmp(&other.1));
+    slowest.unwrap_or((0, 0.0))
 }
 
 /// A whole search in the world before those steps.
@@ -134,23 +127,19 @@ pub fn search_time(scene: &Scene) -> f64 {
     time
 }
 
-/// A trial on the map of the joins, under one tuning; a player's target is the tile that its input
-/// aims at.
+/// A step's share of a trial on the map of the joins, under one tuning; a player's target is the
+/// tile that its input aims at.
 pub fn trial_step(scene: &Scene, steps: i32) -> f64 {
     let tiles = scene.ground.tiles();
     let map = scene.ground.map(&tiles);
-    let (mut joins, mut targets) = (Vec::new(), Vec::new());
     let world = scene.joined();
-    let present =
-        (0..SEATS).filter(|&id| world.record(Role::Board, CharacterId(id as u32)).is_ok());
-    for id in present {
-        let ((x, y), input) = (scene.places[id], scene.inputs[id]);
-        joins.extend([id as i32, x, y]);
+    let (mut joins, mut targets) = (Vec::new(), Vec::new());
+    let all = CharacterId::all().zip(scene.places.iter().zip(&scene.inputs));
+    for (id, (&(x, y), input)) in all.filter(|&(id, _)| world.record(Role::Board, id).is_ok()) {
+        joins.extend([id.0.cast_signed(), x, y]);
         targets.extend([input.target_x, input.target_y]);
     }
-    let tunings: [i32; TUNINGS] = scene.tunings;
     let mut row = [0; trial::ROW_NUMBERS];
-    let run = || trial::run(&map, &joins, &targets, &tunings, steps, &mut row);
-    let (time, _) = timed(run);
-    time / f64::from(steps)
+    let run = || trial::run(&map, &joins, &targets, &scene.tunings, steps, &mut row);
+    timed(run).0 / f64::from(steps)
 }

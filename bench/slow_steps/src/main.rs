@@ -6,8 +6,8 @@
 //! ```
 //!
 //! For each call so many changed scenes are measured. The calls of the slowest one are written to
-//! the folder as a session text, which the session program takes up to 65,536 bytes; for a trial its
-//! tunings and joins, with the tiles that are run for as aims.
+//! the folder as a session text, which the session program takes up to 65,536 bytes; for a trial
+//! its tunings and joins, with the tiles that are run for as aims.
 
 mod change;
 mod climb;
@@ -65,8 +65,13 @@ fn print_scenes(scenes: &[Scene]) {
 
 fn print_call(call: Call, known: &Found, found: &Found) {
     let (title, _) = names(call);
-    let [before, after] = [known, found].map(|found| time(call, found));
-    println!("| {title} | {} | {before} | {after} |", known.scene.name);
+    let [scene, found] = [known, found].map(|found| whole(call, found));
+    // A search and a trial were found by an estimate.
+    let times = [scene, found.max(scene)].map(|time| written(call, time));
+    println!(
+        "| {title} | {} | {} | {} |",
+        known.scene.name, times[0], times[1]
+    );
 }
 
 /// In a table, and for a file.
@@ -81,14 +86,20 @@ fn names(call: Call) -> (&'static str, &'static str) {
     }
 }
 
-fn time(call: Call, found: &Found) -> String {
+/// A whole search, and a trial of more steps than while it was searched for.
+fn whole(call: Call, found: &Found) -> f64 {
     match call {
-        Call::Search => format!("{:.0}", search_time(&found.scene)),
-        Call::TrialStep => {
-            let step = trial_step(&found.scene, TRIED);
-            format!("{step:.2} ({:.0} s)", step * TRIAL_STEPS / 1e3)
-        }
-        _ => format!("{:.2}", found.milliseconds),
+        Call::Search => search_time(&found.scene),
+        Call::TrialStep => trial_step(&found.scene, TRIED),
+        _ => found.milliseconds,
+    }
+}
+
+fn written(call: Call, time: f64) -> String {
+    match call {
+        Call::Search => format!("{time:.0}"),
+        Call::TrialStep => format!("{time:.2} ({:.0} s)", time * TRIAL_STEPS / 1e3),
+        _ => format!("{time:.2}"),
     }
 }
 

@@ -41,7 +41,8 @@ pub fn scenes() -> Vec<Scene> {
         to_and_fro(),
         stairs(),
         hooks(),
-        hooks_over_tiles(),
+        hooks_over_tiles("hooks of 65,530 over 170 by 170 tiles", 170, -20_000),
+        hooks_over_tiles("hooks of 65,530 over 1,024 by 1,024 tiles", LONGEST, -5_000),
         in_walls(),
         crowd(),
     ];
@@ -178,16 +179,16 @@ fn hooks() -> Scene {
     )
 }
 
-fn hooks_over_tiles() -> Scene {
-    let place = |id| (-20_000 - 30 * id, -20_000 - 30 * id);
-    let name = "hooks of 65,530 over 170 by 170 tiles";
+/// Along the diagonal, with every second tile beside it solid.
+fn hooks_over_tiles(name: &str, side: u32, left: i32) -> Scene {
+    let place = |id| (left - 30 * id, left - 30 * id);
     Scene::new(name, &HOOKS, place, aimed(1_000, 1_000)).on(Ground {
         columns: 2,
         rows: 2,
         rise: 256,
         clear: 3,
         open_rim: true,
-        ..Ground::open(170, 170)
+        ..Ground::open(side, side)
     })
 }
 
