@@ -33,6 +33,9 @@ use std::{env, fs};
 const TRIAL_STEPS: f64 = 24_000.0;
 const TRIED: i32 = 300;
 
+/// The least of so many times is printed, but for searches and trials, which are long.
+const ROUNDS: usize = 5;
+
 fn main() -> Result<(), Box<dyn Error>> {
     let arguments: Vec<String> = env::args().skip(1).collect();
     let [evaluations, seed, folder] = &arguments[..] else {
@@ -45,8 +48,14 @@ fn main() -> Result<(), Box<dyn Error>> {
     for call in Call::ALL {
         let known = ranked(call, &scenes);
         let found = climb(call, &known, evaluations, &mut Xorshift::seeded(seed));
-        print_call(call, &known[0], &found);
-        write_text(call, &found.scene, Path::new(folder))?;
+        let pair = [&known[0].scene, &found.scene];
+        let times = compared(call, pair);
+        print_call(call, pair[0], times);
+        write_text(
+            call,
+            pair[usize::from(times[1] > times[0])],
+            Path::new(folder),
+        )?;
     }
     Ok(())
 }
@@ -63,15 +72,26 @@ fn print_scenes(scenes: &[Scene]) {
     }
 }
 
-fn print_call(call: Call, known: &Found, found: &Found) {
+/// A scene and the one that was found, anew and in turn: the slowest of many measurements is often
+/// the one that other work on the machine has disturbed most.
+fn compared(call: Call, pair: [&Scene; 2]) -> [f64; 2] {
+    let rounds = match call {
+        Call::Search | Call::TrialStep => 1,
+        _ => ROUNDS,
+    };
+    let mut least = [f64::INFINITY; 2];
+    for _ in 0..rounds {
+        for (least, scene) in least.iter_mut().zip(pair) {
+            *least = least.min(whole(call, scene));
+        }
+    }
+    least
+}
+
+fn print_call(call: Call, scene: &Scene, times: [f64; 2]) {
     let (title, _) = names(call);
-    let [scene, found] = [known, found].map(|found| whole(call, found));
-    // A search and a trial were found by an estimate.
-    let times = [scene, found.max(scene)].map(|time| written(call, time));
-    println!(
-        "| {title} | {} | {} | {} |",
-        known.scene.name, times[0], times[1]
-    );
+    let [known, found] = times.map(|time| written(call, time));
+    println!("| {title} | {} | {known} | {found} |", scene.name);
 }
 
 /// In a table, and for a file.
@@ -87,11 +107,11 @@ fn names(call: Call) -> (&'static str, &'static str) {
 }
 
 /// A whole search, and a trial of more steps than while it was searched for.
-fn whole(call: Call, found: &Found) -> f64 {
+fn whole(call: Call, scene: &Scene) -> f64 {
     match call {
-        Call::Search => search_time(&found.scene),
-        Call::TrialStep => trial_step(&found.scene, TRIED),
-        _ => found.milliseconds,
+        Call::Search => search_time(scene),
+        Call::TrialStep => trial_step(scene, TRIED),
+        _ => call.cost(scene),
     }
 }
 

@@ -236,6 +236,6 @@ fn two_rows(gravity: i32) -> Scene {
     };
     let rest = [(Gravity, gravity), (HookLength, 1), (PlayerHooking, 0)];
     let tunings = [&runs(RUN_RANGE)[..], &rest].concat();
-    let name = format!("two rows beside each other, falling by {fall}");
+    let name = format!("two rows, falling by {fall}");
     Scene::new(&name, &tunings, place, to_the_right(0))
 }
