@@ -27,22 +27,34 @@ const LANDMARKS: [i32; 12] = [
 
 const MOST_STEPS: u32 = 6;
 
-pub fn changed(scene: &Scene, random: &mut Xorshift) -> Scene {
+/// A few changes, each of one part or by a part of another scene.
+pub fn changed(scene: &Scene, others: &[Scene], random: &mut Xorshift) -> Scene {
     let mut scene = scene.clone();
     for _ in 0..=below(CHANGES, random) {
-        change(&mut scene, random);
+        match below(11, random) {
+            0..=2 => change_tuning(&mut scene.tunings, random),
+            3 => change_late(&mut scene, random),
+            4 | 5 => change_places(&mut scene.places, random),
+            6 | 7 => change_inputs(&mut scene.inputs, random),
+            8 => change_grounds(&mut scene, random),
+            9 => scene.steps = 1 + below(MOST_STEPS, random) as usize,
+            _ => take_part(&mut scene, others, random),
+        }
     }
     scene
 }
 
-fn change(scene: &mut Scene, random: &mut Xorshift) {
-    match below(10, random) {
-        0..=2 => change_tuning(&mut scene.tunings, random),
-        3 => change_late(scene, random),
-        4 | 5 => change_places(&mut scene.places, random),
-        6 | 7 => change_inputs(&mut scene.inputs, random),
-        8 => change_grounds(scene, random),
-        _ => scene.steps = 1 + below(MOST_STEPS, random) as usize,
+/// What makes another scene slow may make this one slower.
+fn take_part(scene: &mut Scene, others: &[Scene], random: &mut Xorshift) {
+    let other = &others[below(others.len() as u32, random) as usize];
+    match below(4, random) {
+        0 => scene.tunings = other.tunings,
+        1 => scene.places = other.places,
+        2 => scene.inputs = other.inputs,
+        _ => {
+            scene.ground = other.ground.clone();
+            scene.stepped_on = other.stepped_on.clone();
+        }
     }
 }
 

@@ -43,19 +43,24 @@ pub fn ranked(call: Call, scenes: &[Scene]) -> Vec<Found> {
 
 /// The slowest that was found from the slowest scenes, with so many changes in all.
 pub fn climb(call: Call, ranked: &[Found], evaluations: usize, random: &mut Xorshift) -> Found {
-    let starts = ranked
-        .iter()
-        .filter(|found| found.scene.steps <= MOST_STEPS)
-        .take(STARTS);
-    let climbed = starts.map(|start| climb_from(call, start, evaluations / STARTS, random));
+    let short = |found: &&Found| found.scene.steps <= MOST_STEPS;
+    let all: Vec<Scene> = ranked.iter().map(|found| found.scene.clone()).collect();
+    let starts = ranked.iter().filter(short).take(STARTS);
+    let climbed = starts.map(|start| climb_from(call, start, &all, evaluations / STARTS, random));
     let slowest = climbed.max_by(|one, other| one.milliseconds.total_cmp(&other.milliseconds));
     slowest.expect("there are scenes")
 }
 
-fn climb_from(call: Call, start: &Found, evaluations: usize, random: &mut Xorshift) -> Found {
+fn climb_from(
+    call: Call,
+    start: &Found,
+    others: &[Scene],
+    evaluations: usize,
+    random: &mut Xorshift,
+) -> Found {
     let mut slowest = start.clone();
     for _ in 0..evaluations {
-        let scene = changed(&slowest.scene, random);
+        let scene = changed(&slowest.scene, others, random);
         // Measured again before it counts.
         if call.cost(&scene) > slowest.milliseconds {
             let found = Found::measured(call, &scene);
