@@ -11,6 +11,11 @@
  * Of the stack a step needs 14 KB at most, a receive 32 KB, a search and a trial 37 KB, a call
  * through a sender 130 KB, every other call 12 KB.
  *
+ * Time: a step of 64 players takes 30 microseconds in play. The slowest found by legal calls, which
+ * is no bound, takes 257 ms, one through a sender 272 ms, a mark 8.2 ms. A search makes
+ * up to 306 steps (slowest found 63 s), a trial up to 24,000 (about 72 minutes at the slowest
+ * step found): they belong on another thread than the one that steps the world.
+ *
  * Numbers are int32_t in the machine's byte order, lowest byte first: who sends or keeps them
  * for other machines says in which order. PONGURIENA_LAYOUT tells which numbers stand where.
  *
@@ -333,7 +338,8 @@ enum {
  * PONGURIENA_TRIAL_TARGET, each clamped to the map; tunings are PONGURIENA_TUNINGS numbers each.
  * The result gets PONGURIENA_TRIAL_ROW numbers for each tuning. Answers 0, 1, 15, 16 where a
  * tuning's hold is outside its limits, or 17; else the first join that is refused refuses the trial
- * with its own number: 2, 4, 5 or 7. */
+ * with its own number: 2, 4, 5 or 7. A tuning has the same row whatever others are tried with it,
+ * so a long trial can be taken in pieces, one tuning a call. */
 uint32_t ponguriena_trial(uint32_t width, uint32_t height, const uint8_t *tiles,
                           size_t tiles_length, const int32_t *joins, size_t joins_length,
                           const int32_t *targets, size_t targets_length, const int32_t *tunings,

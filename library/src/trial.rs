@@ -91,6 +91,23 @@ pub fn run(
 /// assert_eq!(trial.run(&map, 3001), Err(Refusal::BadTrial));
 /// # Ok::<(), Refusal>(())
 /// ```
+///
+/// A trial makes up to 24,000 steps, about 72 minutes at the slowest step found: it belongs on
+/// another thread than the one that steps a world. It can be taken in pieces, since a tuning has
+/// the same [`Run`] whatever others are tried with it:
+///
+/// ```
+/// # use ponguriena::trial::game_tunings;
+/// # use ponguriena::{CharacterId, Map, Refusal, Trial, Tuning};
+/// # let map = Map { width: 4, height: 2, tiles: &[0, 0, 0, 0, 1, 1, 1, 1] };
+/// # let mut slow = game_tunings();
+/// # slow[Tuning::GroundControlSpeed as usize] = 200;
+/// let players = Trial::new().player(CharacterId(7), (20, 17), (3, 0));
+/// let whole = players.clone().tuning(game_tunings()).tuning(slow).run(&map, 30)?;
+/// let [game, slow] = [game_tunings(), slow].map(|tuning| players.clone().tuning(tuning));
+/// assert_eq!(whole, [game.run(&map, 30)?, slow.run(&map, 30)?].concat());
+/// # Ok::<(), Refusal>(())
+/// ```
 #[derive(Clone, Debug, Default, Eq, PartialEq)]
 pub struct Trial {
     joins: Vec<i32>,
