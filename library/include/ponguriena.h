@@ -12,8 +12,8 @@
  * through a sender 130 KB, every other call 12 KB.
  *
  * Time: a step of 64 players takes 30 microseconds in play. The slowest found by legal calls, which
- * is no bound, takes 257 ms, one through a sender 272 ms, a mark 8.2 ms. A search makes
- * up to 306 steps (slowest found 63 s), a trial up to 24,000 (about 72 minutes at the slowest
+ * is no bound, takes 12 ms, one through a sender 12 ms, a mark 3.9 ms. A search makes
+ * up to 306 steps (slowest found 1.6 s), a trial up to 24,000 (about 90 s at the slowest
  * step found): they belong on another thread than the one that steps the world.
  *
  * Numbers are int32_t in the machine's byte order, lowest byte first: who sends or keeps them

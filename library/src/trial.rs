@@ -92,7 +92,7 @@ pub fn run(
 /// # Ok::<(), Refusal>(())
 /// ```
 ///
-/// A trial makes up to 24,000 steps, about 72 minutes at the slowest step found: it belongs on
+/// A trial makes up to 24,000 steps, about 90 s at the slowest step found: it belongs on
 /// another thread than the one that steps a world. It can be taken in pieces, since a tuning has
 /// the same [`Run`] whatever others are tried with it:
 ///

@@ -195,7 +195,7 @@ impl World {
     /// the id to a deadly tile before its last step, does not count. The world is not touched.
     /// Refused: a map at fault, an id without a seat, an id that is absent.
     ///
-    /// It makes up to 306 steps (slowest found 63 s): it belongs on another thread than the one
+    /// It makes up to 306 steps (slowest found 1.6 s): it belongs on another thread than the one
     /// that steps the world, with a copy of it.
     ///
     /// ```
