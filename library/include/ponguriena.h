@@ -12,7 +12,7 @@
  * through a sender 130 KB, every other call 12 KB.
  *
  * Time: a step of 64 players takes 30 microseconds in play. The slowest found by legal calls, which
- * is no bound, takes 12 ms, one through a sender 12 ms, a mark 3.9 ms. A search makes
+ * is no bound, takes 12 to 17 ms, also through a sender, a mark 3.9 ms. A search makes
  * up to 306 steps (slowest found 1.6 s), a trial up to 24,000 (about 90 s at the slowest
  * step found): they belong on another thread than the one that steps the world.
  *
