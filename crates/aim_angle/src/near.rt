@@ -7,7 +7,7 @@ ghost use Rattle.aim_angle.specs.Near.{turned};
 use crate::few::{cos_1, cos_32, sin_1, sin_32};
 use aim_tables::cross;
 
-#[derive(Drop)]
+#[derive(Clone, Copy)]
 pub struct Point {
     pub c: i64,
     pub s: i64,

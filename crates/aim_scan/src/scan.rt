@@ -10,14 +10,14 @@ use crate::signs::{height, signed};
 use aim_tables::{cosines, sines};
 
 // The angle of a target, and how many entries were read for it.
-#[derive(Drop)]
+#[derive(Clone, Copy)]
 pub struct Scan {
     pub angle: i32,
     pub read: u32,
 }
 
 // The entry that a scan ended at, and how many it read.
-#[derive(Drop)]
+#[derive(Clone, Copy)]
 pub struct Found {
     pub n: usize,
     pub read: u32,

@@ -1,4 +1,6 @@
 // The tables C and S of the angle rule, and the difference of products by which an angle is compared with their entries.
+#![tactic(auto)]
+
 mod cos;
 mod product;
 mod sin;

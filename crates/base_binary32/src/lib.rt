@@ -1,1 +1,2 @@
 // No code: `proofs/` has laws of f32 values and their patterns, for the crates whose code reads patterns.
+#![tactic(auto)]

@@ -1,4 +1,6 @@
 // A row of numbers or of bytes, written into a longer one.
+#![tactic(auto)]
+
 ghost use Rattle.std.specs.Prelude.{◌≡◌, ◌+◌, ◌≤◌, length};
 ghost use Rattle.base_rows.specs.Put.{put};
 

@@ -1,4 +1,6 @@
 // A character, and its tick and move among the others.
+#![tactic(auto)]
+
 mod among;
 mod from_record;
 mod near;
@@ -24,7 +26,7 @@ pub use records::{Net, Quantized};
 pub use tick::{AfterTick, OwnTick, Ticked, TickedAt};
 pub use walk::{Moved, MovedAt, PlayerWalk};
 
-#[derive(Drop)]
+#[derive(Clone, Copy)]
 pub struct Character {
     pub pos: vec2,
     pub vel: vec2,
@@ -39,7 +41,7 @@ pub struct Character {
 pub const SEATS: usize = 64;
 
 // A place for a character: there or not, with its last input and its floor mark, what `grounded` answered in its last tick.
-#[derive(Drop)]
+#[derive(Clone, Copy)]
 pub struct Slot {
     pub present: bool,
     pub character: Character,

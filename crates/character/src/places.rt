@@ -5,7 +5,7 @@ ghost use Rattle.character.specs.Places.{PlacesOf};
 use crate::{SEATS, Slot};
 
 // For each seat whether somebody is there, and where; the coordinates of an absent seat mean nothing.
-#[derive(Drop)]
+#[derive(Clone, Copy)]
 pub struct Places {
     pub present: [bool; SEATS],
     pub xs: [f32; SEATS],

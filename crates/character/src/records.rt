@@ -3,14 +3,14 @@ use crate::Character;
 use game_records::CharacterCore;
 
 // What `to_net` answers.
-#[derive(Drop)]
+#[derive(Clone, Copy)]
 pub enum Net {
     TickTooLarge,
     Core(CharacterCore),
 }
 
 // What `quantize` answers.
-#[derive(Drop)]
+#[derive(Clone, Copy)]
 pub enum Quantized {
     TickTooLarge,
     To(Character),

@@ -19,7 +19,7 @@ use map_tiles::{Sides, is_map};
 use num_vec2::vec2;
 
 // What `tick` answers.
-#[derive(Drop)]
+#[derive(Clone, Copy)]
 pub enum Ticked {
     BadMap,
     BadId,
@@ -28,14 +28,14 @@ pub enum Ticked {
 }
 
 // What it answers for a map that is one and an id that has a slot.
-#[derive(Drop)]
+#[derive(Clone, Copy)]
 pub enum TickedAt {
     TooFar,
     To(AfterTick),
 }
 
 // The character after its tick, whom its hook pulls, and whether it stood on the ground.
-#[derive(Drop)]
+#[derive(Clone, Copy)]
 pub struct AfterTick {
     pub me: Character,
     pub pull: HookPull,
@@ -43,14 +43,14 @@ pub struct AfterTick {
 }
 
 // What a tick leaves of its own character, with whether it stood on the ground: all but whom its hook pulls.
-#[derive(Drop)]
+#[derive(Clone, Copy)]
 pub enum OwnTick {
     TooFar,
     To(Character, bool),
 }
 
 // What becomes of a hook.
-#[derive(Drop)]
+#[derive(Clone, Copy)]
 pub enum HookFlight {
     TooFar,
     To(Hook),

@@ -18,7 +18,7 @@ use map_walks::BoxWalk;
 use num_vec2::vec2;
 
 // What `move_` answers.
-#[derive(Drop)]
+#[derive(Clone, Copy)]
 pub enum Moved {
     BadMap,
     BadId,
@@ -27,14 +27,14 @@ pub enum Moved {
 }
 
 // What it answers for a map that is one and an id that has a slot.
-#[derive(Drop)]
+#[derive(Clone, Copy)]
 pub enum MovedAt {
     TooFar,
     To(Character),
 }
 
 // Where a walk among others ends.
-#[derive(Drop)]
+#[derive(Clone, Copy)]
 pub enum PlayerWalk {
     TooFar,
     At(vec2),

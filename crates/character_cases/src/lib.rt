@@ -1,1 +1,2 @@
 // The proved cases of document 01, as one joint fact. No code.
+#![tactic(auto)]

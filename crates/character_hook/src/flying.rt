@@ -15,7 +15,7 @@ use map_tiles::Sides;
 use num_vec2::vec2;
 
 // What a tick's flight comes to: a hook that stood still, or the way that it flew and the hook at its end.
-#[derive(Drop)]
+#[derive(Clone, Copy)]
 pub enum Way {
     TooFar,
     Still(Hook),

@@ -7,7 +7,7 @@ use num_convert::{cast_signed, cast_unsigned};
 use num_vec2::vec2;
 
 // Which character: never a count of steps.
-#[derive(Drop)]
+#[derive(Clone, Copy)]
 pub struct CharacterId(pub u32);
 
 pub const HOOK_RETRACTED: i32 = -1;
@@ -24,7 +24,7 @@ pub const HOOK_FLYING: i32 = 4;
 
 pub const HOOK_ATTACHED_GRABBED: i32 = 5;
 
-#[derive(Drop)]
+#[derive(Clone, Copy)]
 pub enum Hook {
     // As Idle, but fires no new hook before the button is released.
     Retracted,

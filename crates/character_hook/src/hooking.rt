@@ -10,7 +10,7 @@ use map_tiles::Tile;
 use num_vec2::vec2;
 
 // Where a hook flies to, and what it is there.
-#[derive(Drop)]
+#[derive(Clone, Copy)]
 pub struct Flight {
     pub to: vec2,
     pub hook: Hook,
@@ -106,7 +106,7 @@ pub fn fly(pos: vec2, dir: vec2, character: vec2, tuning: Tuning) -> Flight
 }
 
 // Who is met first on the flight so far, and at which distance.
-#[derive(Drop)]
+#[derive(Clone, Copy)]
 pub enum Nearest {
     Nobody,
     At(f32, CharacterId),

@@ -1,4 +1,6 @@
 // The hook of a character: what it is, what becomes of it in a tick, and what it does to a velocity.
+#![tactic(auto)]
+
 mod dragging;
 mod flying;
 mod hook;

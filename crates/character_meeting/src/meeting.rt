@@ -10,7 +10,7 @@ use num_convert::saturated_add;
 use num_vec2::vec2;
 
 // Whom a hook pulls, and the velocity that it leaves them.
-#[derive(Drop)]
+#[derive(Clone, Copy)]
 pub enum HookPull {
     Nobody,
     Of(CharacterId, vec2),

@@ -11,7 +11,7 @@ use num_convert::saturated_add;
 use num_vec2::vec2;
 
 // How a character can be steered where it is.
-#[derive(Drop)]
+#[derive(Clone, Copy)]
 pub struct Control {
     pub max_speed: f32,
     pub accel: f32,
@@ -19,7 +19,7 @@ pub struct Control {
 }
 
 // What a jump changes.
-#[derive(Drop)]
+#[derive(Clone, Copy)]
 pub struct JumpState {
     pub vel_y: f32,
     pub jumped_already: bool,

@@ -1,4 +1,6 @@
 // The player walk among the places that it may touch.
+#![tactic(auto)]
+
 mod soonest;
 mod walk;
 

@@ -8,7 +8,7 @@ use character_aside::first::first_touch;
 use num_vec2::vec2;
 
 // A turn, and the place that it touches.
-#[derive(Drop)]
+#[derive(Clone, Copy)]
 pub struct Touch {
     pub turn: u32,
     pub place: usize,

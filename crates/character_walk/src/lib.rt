@@ -1,4 +1,6 @@
 // How a character moves on the map, and up to whom it touches.
+#![tactic(auto)]
+
 mod touching;
 mod walking;
 

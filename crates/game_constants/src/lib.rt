@@ -1,4 +1,5 @@
 // The constants at the head of lib.rs.
+#![tactic(auto)]
 
 pub const CHARACTER_SIZE: f32 = 28.0;
 

@@ -2,7 +2,7 @@
 ghost use Rattle.std.specs.Prelude.{◌≡◌};
 ghost use Rattle.game_input.specs.Direction.{from_int, as_int, as_float, angle_to_net, angle_from_net};
 
-#[derive(Drop)]
+#[derive(Clone, Copy)]
 pub enum MoveDirection {
     Left,
     None,
@@ -39,7 +39,7 @@ impl MoveDirection {
     }
 }
 
-#[derive(Drop)]
+#[derive(Clone, Copy)]
 pub struct Angle {
     pub radians: f32,
 }

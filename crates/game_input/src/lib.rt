@@ -1,4 +1,6 @@
 // What a player's input says, and the directions that it speaks of.
+#![tactic(auto)]
+
 mod direction;
 mod inputs;
 

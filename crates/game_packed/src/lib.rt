@@ -1,4 +1,6 @@
 // Records as the game's packed whole numbers, for the relay: written to at most 75 bytes, and read back.
+#![tactic(auto)]
+
 mod lent;
 mod number;
 
@@ -14,7 +16,7 @@ use number::{IntRead, MOST_INT, put_int, read_int};
 pub const MOST_PACKED: usize = MOST_INT * CORE;
 
 // A record's bytes at the start, and how many they are; the others are 0.
-#[derive(Drop)]
+#[derive(Clone, Copy)]
 pub struct Packed {
     pub bytes: [u8; MOST_PACKED],
     pub count: usize,
@@ -22,7 +24,7 @@ pub struct Packed {
 
 // What reading a record answers: that the bytes end before its last number is complete, that a number is not as the writer makes it, or the record
 // with the number of bytes that were used.
-#[derive(Drop)]
+#[derive(Clone, Copy)]
 pub enum Unpacked {
     Ends,
     Wrong,

@@ -13,7 +13,7 @@ const SIGN: u32 = 0x8000_0000;
 pub const MOST_INT: usize = 5;
 
 // What reading a number answers: the bytes end before it is complete, it is not in its shortest form or too large, or the number with the place past it.
-#[derive(Drop)]
+#[derive(Clone, Copy)]
 pub enum IntRead {
     Ends,
     Wrong,

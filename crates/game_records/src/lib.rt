@@ -1,4 +1,6 @@
 // The records of the protocol that the physics reads and writes, and their numbers in the order of their fields, both ways.
+#![tactic(auto)]
+
 ghost use Rattle.std.specs.Prelude.{◌≡◌, ◌≤◌, length};
 ghost use Rattle.game_records.specs.Numbers.{core_count, input_count, core_numbers, input_numbers, core_in, input_of_numbers};
 
@@ -8,11 +10,11 @@ pub const CORE: usize = 15;
 pub const INPUT: usize = 5;
 
 // A count of steps: never an id.
-#[derive(Drop)]
+#[derive(Clone, Copy)]
 pub struct Tick(pub i32);
 
 // The five of its fields that the physics reads.
-#[derive(Drop)]
+#[derive(Clone, Copy)]
 pub struct PlayerInput {
     pub direction: i32,
     pub target_x: i32,
@@ -21,7 +23,7 @@ pub struct PlayerInput {
     pub hook: i32,
 }
 
-#[derive(Drop)]
+#[derive(Clone, Copy)]
 pub struct CharacterCore {
     pub tick: i32,
     pub x: i32,

@@ -1,4 +1,5 @@
 // The numbers with which a call is declined; each stands here alone. 1 to 16 are the customer's, 17 is ours.
+#![tactic(auto)]
 
 // A map's sides are not 1 to 1,024 each, or its bytes are not width times height.
 pub const BAD_MAP: u32 = 1;

@@ -1,4 +1,6 @@
 // The tunings as the physics computes with them. They are handed in as hundredths, in document 01's order, and the hook's hold in whole steps behind them.
+#![tactic(auto)]
+
 ghost use Rattle.std.specs.Prelude.{◌≡◌, ◌<◌};
 ghost use Rattle.game_tuning.specs.Tuning.{tuning_count, fresh_tunings, is_hold, hold_of, may_tune, told_tuning, tuning_at, tuning_of};
 
@@ -9,7 +11,7 @@ pub const TUNINGS: usize = 19;
 // The index of the hook's hold.
 pub const HOOK_HOLD: usize = 18;
 
-#[derive(Drop)]
+#[derive(Clone, Copy)]
 pub struct Tuning {
     pub ground_control_speed: f32,
     pub ground_control_accel: f32,

@@ -1,4 +1,6 @@
 // Is this area clear? The solid tiles of a rectangle, by running totals that are built once for a map.
+#![tactic(auto)]
+
 mod building;
 mod changing;
 mod counting;

@@ -1,4 +1,6 @@
 // The walk of a line on a map, and how long any walk may be.
+#![tactic(auto)]
+
 mod lines;
 mod open;
 mod points;

@@ -10,14 +10,14 @@ use map_tiles::{Sides, Tile, check_point, count, is_map};
 use num_vec2::vec2;
 
 // What a line meets.
-#[derive(Drop)]
+#[derive(Clone, Copy)]
 pub enum LineHit {
     Nothing,
     At(vec2, Tile),
 }
 
 // What `check_line` answers.
-#[derive(Drop)]
+#[derive(Clone, Copy)]
 pub enum LineCheck {
     BadMap,
     TooFar,
@@ -25,7 +25,7 @@ pub enum LineCheck {
 }
 
 // What it answers on a map that is one.
-#[derive(Drop)]
+#[derive(Clone, Copy)]
 pub enum LineWalk {
     TooFar,
     Met(LineHit),

@@ -1,4 +1,6 @@
 // The tile map: the tile of a point, and a box on the map.
+#![tactic(auto)]
+
 mod boxes;
 mod point;
 mod tiles;

@@ -6,7 +6,7 @@ ghost use Rattle.map_tiles.specs.Map.{is_map, tile_in, check_point, solid, deadl
 use crate::tiles::{Sides, count};
 use num_vec2::vec2;
 
-#[derive(Drop)]
+#[derive(Clone, Copy)]
 pub enum Tile {
     Open,
     Normal,

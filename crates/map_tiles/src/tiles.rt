@@ -3,7 +3,7 @@ ghost use Rattle.std.specs.Prelude.{◌≡◌, ◌<◌, ◌^◌};
 ghost use Rattle.map_tiles.specs.Map.{is_side, is_map, count};
 
 // The sides of a map, in tiles.
-#[derive(Drop)]
+#[derive(Clone, Copy)]
 pub struct Sides {
     pub width: u32,
     pub height: u32,

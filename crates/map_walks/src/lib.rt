@@ -1,4 +1,6 @@
 // The walk of a box on a map.
+#![tactic(auto)]
+
 mod moves;
 mod way;
 

@@ -19,14 +19,14 @@ const LONG_STRETCH: u32 = 64;
 const LONG_WALK: u32 = 512;
 
 // A position with the velocity that moves it.
-#[derive(Drop)]
+#[derive(Clone, Copy)]
 pub struct Body {
     pub pos: vec2,
     pub vel: vec2,
 }
 
 // What `move_box` answers.
-#[derive(Drop)]
+#[derive(Clone, Copy)]
 pub enum BoxMove {
     BadMap,
     TooFar,
@@ -34,7 +34,7 @@ pub enum BoxMove {
 }
 
 // What it answers on a map that is one.
-#[derive(Drop)]
+#[derive(Clone, Copy)]
 pub enum BoxWalk {
     TooFar,
     To(Body),

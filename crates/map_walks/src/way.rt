@@ -7,7 +7,7 @@ use map_tiles::{Sides, is_solid_at, tile_at};
 use num_vec2::vec2;
 
 // The tiles from first to last along a side.
-#[derive(Drop)]
+#[derive(Clone, Copy)]
 pub struct Span {
     pub first: u32,
     pub last: u32,

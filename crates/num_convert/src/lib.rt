@@ -1,4 +1,6 @@
 // Numbers between their types: f32 to whole numbers and back, the bits of an i32, and bounds of single numbers.
+#![tactic(auto)]
+
 mod casts;
 mod float;
 mod number;

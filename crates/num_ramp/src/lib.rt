@@ -1,4 +1,6 @@
 // The power rule, and the velocity ramp by it.
+#![tactic(auto)]
+
 mod power;
 mod ramp;
 

@@ -1,4 +1,6 @@
 // The square root: `root`, and the tables from which it guesses.
+#![tactic(auto)]
+
 mod segments;
 mod square_root;
 

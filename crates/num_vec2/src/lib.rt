@@ -1,10 +1,12 @@
 // Pairs of f32. Each operation rounds once, in the Rust's order.
+#![tactic(auto)]
+
 ghost use Rattle.std.specs.Prelude.{◌≡◌};
 ghost use Rattle.num_vec2.specs.Vec2.{vnew, vadd, vsub, vmul, vdiv, vlength, vnormalize, vdistance, vdot, vmix, closest_point_on_line};
 
 use num_convert::clamp;
 
-#[derive(Drop)]
+#[derive(Clone, Copy)]
 pub struct vec2 {
     pub x: f32,
     pub y: f32,

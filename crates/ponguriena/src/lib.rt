@@ -1,5 +1,7 @@
 // The C interface of the calls on a world, a sender and a screen that are kept as the numbers of lent buffers, of packed records, of the areas of a map, of trials and of ways to a place, and of the aim angle. A call that may be refused answers the refusal's number, or 0.
 // What takes a world names a role first: 13 comes before every other refusal.
+#![tactic(auto)]
+
 mod aim;
 mod area;
 mod calls;

@@ -1,4 +1,6 @@
 // The C interface of floats, walks, angle and ramp, each by itself, so that they can be compared one by one. Each function is the one of the crates below with its name.
+#![tactic(auto)]
+
 mod aim;
 mod walks;
 

@@ -1,4 +1,6 @@
 // The line at which a world is called: every call and every read names its role, and what that doesn't allow is told 13 and does nothing.
+#![tactic(auto)]
+
 mod asking;
 mod numbers;
 

@@ -20,7 +20,7 @@ use world_numbers::{RECORD, RECORDS, is_set, seat_place};
 pub const CHOICES: usize = 6;
 
 // What a step means for a way: whether it can be the last, and whether another can follow.
-#[derive(Drop)]
+#[derive(Clone, Copy)]
 pub struct StepOutcome {
     pub arrives: bool,
     pub goes_on_lem: bool,

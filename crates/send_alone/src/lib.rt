@@ -1,4 +1,6 @@
 // The step of a seat that is alone in its world, without a walk over the other seats: a tick and a move that meet nobody.
+#![tactic(auto)]
+
 ghost use Rattle.std.specs.Prelude.{◌≡◌, T};
 ghost use Rattle.map_tiles.specs.Map.{is_map};
 ghost use Rattle.send_alone.specs.Alone.{flown_to, hooked_alone, rest_alone, move_alone, record_alone, step_alone};

@@ -1,4 +1,6 @@
 // A sender and a screen that are kept as the numbers of lent buffers: what is passed along for the calls on a world, and what a screen does with it.
+#![tactic(auto)]
+
 mod screens;
 mod sending;
 

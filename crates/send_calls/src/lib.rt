@@ -1,4 +1,6 @@
 // Send only surprises, by value: a copy's step, what a sender passes along for each of the five calls, and what a screen does with it.
+#![tactic(auto)]
+
 mod copies;
 mod due;
 mod screen;

@@ -15,7 +15,7 @@ use world_joins::place_of;
 use world_step::run_call;
 
 // What a call answers, and what the sender does for it.
-#[derive(Drop)]
+#[derive(Clone, Copy)]
 pub struct Called {
     pub stepped: Stepped,
     pub sending: Sending,

@@ -1,4 +1,6 @@
 // The sender's copies, a screen and what is passed along as the numbers of a buffer, and back.
+#![tactic(auto)]
+
 mod copies;
 mod passing;
 mod reading;

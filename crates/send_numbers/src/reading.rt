@@ -12,7 +12,7 @@ use send_rule::Passed;
 use world_joins::place_of;
 
 // A refusal's number, or the thing and how many numbers it has.
-#[derive(Drop)]
+#[derive(Clone, Copy)]
 pub enum PassedRead {
     Refused(u32),
     Of(Passed, usize),

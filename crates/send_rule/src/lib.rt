@@ -1,11 +1,13 @@
 // What goes to the screens: a copy of each seat as last sent, and what is passed along. Types only; the rules stand in specs/.
+#![tactic(auto)]
+
 use character::SEATS;
 use game_records::{CharacterCore, PlayerInput};
 use game_tuning::TUNINGS;
 
 // A seat as last sent, stepped alone since: whether there is a copy, its record, the input of that time, whether its own small world has
 // removed it, whether its last step was refused with 9, and the accepted steps since its last message, 150 at most.
-#[derive(Drop)]
+#[derive(Clone, Copy)]
 pub struct Copy {
     pub kept: bool,
     pub core: CharacterCore,
@@ -16,7 +18,7 @@ pub struct Copy {
 }
 
 // What is passed along: the mark of an accepted step, a seat's message, a removal by spikes, an accepted leave, an accepted tuning.
-#[derive(Drop)]
+#[derive(Clone, Copy)]
 pub enum Passed {
     Mark,
     Message {
@@ -37,7 +39,7 @@ pub enum Passed {
 }
 
 // A screen's own copies and tunings. The sender has copies too, and the tunings of its world.
-#[derive(Drop)]
+#[derive(Clone, Copy)]
 pub struct Screen {
     pub copies: [Copy; SEATS],
     pub tunings: [i32; TUNINGS],
@@ -47,13 +49,13 @@ pub struct Screen {
 pub const MOST_PASSED: usize = 1 + 2 * SEATS;
 
 // One thing passed along, in an array.
-#[derive(Drop)]
+#[derive(Clone, Copy)]
 pub struct Item {
     pub passed: Passed,
 }
 
 // What a sender does for a call: its copies after it, and what it passes along; as many items as counted, and marks behind them.
-#[derive(Drop)]
+#[derive(Clone, Copy)]
 pub struct Sending {
     pub copies: [Copy; SEATS],
     pub count: usize,

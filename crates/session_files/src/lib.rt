@@ -1,4 +1,6 @@
 // A session between two files: what is read of the one is played, and what that writes goes to the other.
+#![tactic(auto)]
+
 ghost use Rattle.std.specs.Prelude.{ℕ, ◌*◌, ◌≤◌, List, ◌≡◌, length, take};
 ghost use Rattle.character.specs.Tick.{seats};
 ghost use Rattle.text_writing.specs.Output.{most_line};
@@ -10,7 +12,7 @@ use session_run::{MOST_CALLS, MOST_READ, Session, Turned, begin, run_lines};
 use text_map::MOST_TILES;
 
 // How many bytes were read, and the session that they came to.
-#[derive(Drop)]
+#[derive(Clone, Copy)]
 pub struct FilePlayed {
     pub count: usize,
     pub session: Session,

@@ -1,4 +1,6 @@
 // A session: how it starts, what a line of its text does to it, and its lines run one after another.
+#![tactic(auto)]
+
 mod lines;
 mod session_lines;
 mod start;

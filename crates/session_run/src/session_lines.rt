@@ -14,7 +14,7 @@ use text_writing::{put_answer, put_told};
 use world::World;
 
 // A session between two lines: whether it has ended, the number of the call that is due, the place of its line, the world.
-#[derive(Drop)]
+#[derive(Clone, Copy)]
 pub struct Session {
     pub done: bool,
     pub call: u32,
@@ -23,7 +23,7 @@ pub struct Session {
 }
 
 // A session after a line, and the place past the bytes that the line wrote.
-#[derive(Drop)]
+#[derive(Clone, Copy)]
 pub struct Turned {
     pub session: Session,
     pub next: usize,

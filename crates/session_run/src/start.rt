@@ -16,7 +16,7 @@ use world_joins::fresh;
 pub const MOST_READ: usize = MOST_BYTES + 1;
 
 // The map's sides, how many tiles it has, and the session before its first call.
-#[derive(Drop)]
+#[derive(Clone, Copy)]
 pub struct Begun {
     pub sides: Sides,
     pub count: usize,

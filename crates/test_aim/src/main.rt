@@ -1,6 +1,8 @@
 // Compares the tables of the angle rule with entries from another source, and runs recorded answers of the angle, the power and the
 // ramp. It prints the lines that are answered otherwise, and tells how many agree. A line is 0 for an entry, 1 for an angle, 2 for a
 // power or 3 for a ramp, and 5 patterns; tools/angle_entries prints those of entries, bench/record the others.
+#![tactic(auto)]
+
 use num_convert::{cast_signed, hundredths_to_f32};
 use test_common::{
     Counts, MOST_LINES, Outcome, byte_at, float_of, is_float, is_int, nth, read_line, rest,

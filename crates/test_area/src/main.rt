@@ -1,5 +1,7 @@
 // Runs the recorded answers of plain Rust for areas, prints the lines that are answered otherwise, and tells how many agree.
 // bench/record prints the lines (record_area): b, a or c for the call, then fourteen words. Bytes and totals are drawn from their seeds.
+#![tactic(auto)]
+
 mod drawing;
 
 ghost use Rattle.std.specs.Prelude.{◌≤◌};

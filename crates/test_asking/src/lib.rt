@@ -1,5 +1,7 @@
 // Recorded requests by the numbers of roles, made through the functions of the C interface: a line is n or c, the map's sides and 64 tiles, then thirteen
 // words.
+#![tactic(auto)]
+
 use character::SEATS;
 use map_tiles::Sides;
 use ponguriena::{
@@ -28,7 +30,7 @@ const AFTER: usize = 11;
 const TOLD: usize = 12;
 
 // Who asks, on which sides, and what: a kind with six arguments. 1 to 5 are the kinds of calls.
-#[derive(Drop)]
+#[derive(Clone, Copy)]
 pub struct Request {
     pub role: i32,
     pub sides: Sides,
@@ -67,7 +69,7 @@ pub fn agrees(told: Told, world: &[i32], words: &[u8]) -> bool {
 }
 
 // The answer's number, and the digest of what was told: 0 where nothing was.
-#[derive(Drop)]
+#[derive(Clone, Copy)]
 pub struct Told {
     pub number: u32,
     pub digest: u32,

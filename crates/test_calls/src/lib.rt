@@ -1,4 +1,6 @@
 // Recorded calls on a world: a line is n or c, the map's sides and 64 tiles, then twelve words, of which the first ten say what is called and answered.
+#![tactic(auto)]
+
 use map_tiles::Sides;
 use role_calls::call_as;
 use role_rule::Role;

@@ -7,7 +7,7 @@ use libc::STDOUT_FILENO;
 use std::num::wrapping_add_u64;
 
 // What came of reading a line.
-#[derive(Drop)]
+#[derive(Clone, Copy)]
 pub enum Outcome {
     End,
     Agrees,
@@ -27,7 +27,7 @@ impl Outcome {
     }
 }
 
-#[derive(Drop)]
+#[derive(Clone, Copy)]
 pub struct Counts {
     pub lines: u64,
     pub good: u64,

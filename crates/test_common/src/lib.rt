@@ -1,4 +1,6 @@
 // What the test programs share: reading recorded vectors and numbers as words, and numbers as one word.
+#![tactic(auto)]
+
 mod counts;
 mod digests;
 mod lines;

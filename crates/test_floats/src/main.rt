@@ -1,5 +1,7 @@
 // Runs the recorded vectors of its input, prints those that the functions answer otherwise, and tells how many agree. A line is
 // a function's number, an argument's pattern and the answer's, in 8 hexadecimal digits each; bench/record prints them.
+#![tactic(auto)]
+
 use num_convert::cast_signed;
 use test_common::{
     Counts, MOST_LINES, Outcome, byte_at, float_of, hex, is_float, is_int, read_line, rest, word,

@@ -1,5 +1,7 @@
 // Runs the recorded answers of plain Rust for packed records, prints the lines that are answered otherwise, and tells how many agree.
 // bench/record prints the lines (record_packed): how many bytes, 80 bytes, then the number, how many bytes were used, and the record.
+#![tactic(auto)]
+
 use game_packed::{MOST_PACKED, Unpacked, pack, unpack};
 use game_records::{CharacterCore, core_numbers};
 use game_refusals::{BAD_BYTES, BYTES_END};

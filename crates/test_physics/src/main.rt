@@ -2,6 +2,8 @@
 // agree. bench/world/record_physics prints the lines: t or m, the map's sides and 64 tiles, then the words of a scene: the id,
 // the tunings, the input, the first slots with presence and a character each; then what was answered: the number, the character, the velocities in these
 // slots. Beyond them nobody is: whoever has a turn there is as in a fresh world.
+#![tactic(auto)]
+
 ghost use Rattle.std.specs.Prelude.{◌<◌};
 ghost use Rattle.test_physics.specs.Scene.{scene};
 

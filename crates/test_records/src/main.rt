@@ -1,5 +1,7 @@
 // Runs the recorded answers of the Rust for `to_net`, `from_net` and `quantize`, prints the lines that are answered otherwise, and
 // tells how many agree. bench/world/record_records prints the lines: s or r, a state, the number, a record, the state of the record.
+#![tactic(auto)]
+
 use character::{Character, Net, Quantized};
 use game_records::{CORE, core_numbers, core_of};
 use test_common::{

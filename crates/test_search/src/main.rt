@@ -1,5 +1,7 @@
 // Runs the recorded calls of the Rust and the searches among them, one after another, through the functions of the C interface; prints the lines that are
 // answered otherwise, and tells how many agree. bench/world/record_search prints the lines: n or c, the map's sides and 64 tiles, then thirteen words.
+#![tactic(auto)]
+
 mod searching;
 
 use searching::searched;

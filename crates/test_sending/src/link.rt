@@ -16,7 +16,7 @@ use world_buffers::{fresh_in, input_in, join_in};
 use world_numbers::{RECORDS, WORLD};
 
 // What the last call answered, the digest of what it passed along, and what it left.
-#[derive(Drop)]
+#[derive(Clone, Copy)]
 pub struct Link {
     pub number: u32,
     pub passed_digest: u32,

@@ -1,5 +1,7 @@
 // Runs the recorded calls of the Rust one after another, each through a sender to a screen, all kept as numbers. Prints the lines that are answered
 // otherwise, and tells how many agree. bench/world/record_sending prints the lines: n or c, the map's sides and 64 tiles, then thirteen words.
+#![tactic(auto)]
+
 mod link;
 
 use link::{Link, made};
@@ -28,7 +30,7 @@ const SENDER: usize = 11;
 const SCREEN: usize = 12;
 
 // What came of a line, and what it left.
-#[derive(Drop)]
+#[derive(Clone, Copy)]
 pub struct Next {
     pub outcome: Outcome,
     pub link: Link,

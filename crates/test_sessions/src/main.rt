@@ -1,6 +1,8 @@
 // Plays the recorded texts from file to file, as the session program does from its input to its output, and compares every byte that is
 // written with what the session over the Rust wrote. Prints the number of each text that differs, and tells how many agree.
 // bench/world/session_texts records them: 000.in and 000.out, 001.in and 001.out, and so on.
+#![tactic(auto)]
+
 use session_files::play_file;
 use test_common::{Counts, Outcome};
 

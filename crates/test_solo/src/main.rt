@@ -1,6 +1,8 @@
 // Plays the recorded pairs of solo heats one after another, prints the lines after which the one id is seen otherwise, and tells how many agree.
 // bench/world/compare_solo prints the lines (record_solo): n or c, the map's sides and 64 tiles, then twelve words. Whatever the others do,
 // the steps of the second list of a pair have the words of those of the first.
+#![tactic(auto)]
+
 use character::SEATS;
 use test_calls::{ANSWER, BESIDES, LINE, called, world_before};
 use test_common::{AFTER_MAP, Counts, MOST_LINES, Outcome, digest, mix, nth, read_line, rest};
@@ -14,7 +16,7 @@ const ID: usize = BESIDES;
 const SEEN: usize = BESIDES + 1;
 
 // What came of a line, and the world that it left.
-#[derive(Drop)]
+#[derive(Clone, Copy)]
 pub struct Next {
     pub outcome: Outcome,
     pub world: World,

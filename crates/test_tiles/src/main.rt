@@ -1,5 +1,7 @@
 // Runs the recorded answers of the Rust for `check_line` and `move_box`, prints the lines that are answered otherwise, and tells how
 // many agree. bench/world/record_world prints the lines: l or m, the map's sides and 64 tiles, 6 arguments, 5 answers.
+#![tactic(auto)]
+
 use map_lines::{LineCheck, LineHit};
 use map_tiles::{Sides, Tile};
 use map_walks::BoxMove;

@@ -1,5 +1,7 @@
 // Runs the recorded trials of the Rust, prints the first lines of those that are answered otherwise, and tells how many agree.
 // bench/world/record_trial prints the lines: n, the map's sides and 64 tiles, and eleven words; then a line for each join and one for each tuning.
+#![tactic(auto)]
+
 mod reading;
 
 use map_tiles::Sides;

@@ -1,5 +1,7 @@
 // Runs the recorded calls of the Rust one after another, prints the lines that are answered otherwise, and tells how many agree.
 // bench/world/record_calls prints the lines: n or c, the map's sides and 64 tiles, then twelve words.
+#![tactic(auto)]
+
 mod digest;
 
 use digest::{told_digest, world_digest};
@@ -14,7 +16,7 @@ const WORLD: usize = BESIDES;
 const RECORDS: usize = BESIDES + 1;
 
 // What came of a line, and the world that it left.
-#[derive(Drop)]
+#[derive(Clone, Copy)]
 pub struct Next {
     pub outcome: Outcome,
     pub world: World,

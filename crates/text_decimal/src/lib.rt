@@ -1,4 +1,6 @@
 // Decimal numbers in a text, each ended by a given byte.
+#![tactic(auto)]
+
 mod signed;
 mod unsigned;
 

@@ -5,7 +5,7 @@ ghost use Rattle.text_decimal.specs.Reading.{ValueAt};
 use crate::unsigned::{Number, read_number};
 
 // A value with the place past the byte that ends it.
-#[derive(Drop)]
+#[derive(Clone, Copy)]
 pub enum Value {
     Read(i32, usize),
     Fault,

@@ -6,7 +6,7 @@ use crate::name::{Place, read_name};
 use text_decimal::{Number, read_number};
 
 // Width and height, with the place of the first tile.
-#[derive(Drop)]
+#[derive(Clone, Copy)]
 pub enum Head {
     Read(usize, usize, usize),
     Fault,
@@ -31,7 +31,7 @@ pub fn read_head(text: &[u8]) -> Head
 }
 
 // A side, with the place past the byte that ends it.
-#[derive(Drop)]
+#[derive(Clone, Copy)]
 pub enum Side {
     Read(usize, usize),
     Fault,

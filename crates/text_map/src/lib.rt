@@ -1,4 +1,6 @@
 // What a session's text has first: its map.
+#![tactic(auto)]
+
 mod head;
 mod map_text;
 mod name;

@@ -14,7 +14,7 @@ pub const MOST_BYTES: usize = 65536;
 pub const MOST_TILES: usize = 32768;
 
 // The sides of a map, with the place past its part of the text.
-#[derive(Drop)]
+#[derive(Clone, Copy)]
 pub enum MapPart {
     Read {
         width: usize,

@@ -2,7 +2,7 @@
 ghost use Rattle.text_map.specs.Reading.{NameAt};
 
 // The place past what was read.
-#[derive(Drop)]
+#[derive(Clone, Copy)]
 pub enum Place {
     At(usize),
     Fault,

@@ -6,7 +6,7 @@ use crate::values::read_values;
 use world::Call;
 
 // A call with the place past its line.
-#[derive(Drop)]
+#[derive(Clone, Copy)]
 pub enum CallLine {
     Read(Call, usize),
     Fault,

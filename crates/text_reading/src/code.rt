@@ -4,7 +4,7 @@ ghost use Rattle.text_reading.specs.Parts.{DecodedAs, with_spare};
 
 use world::Call;
 
-#[derive(Drop)]
+#[derive(Clone, Copy)]
 pub enum Decoded {
     Call(Call),
     None,

@@ -1,4 +1,6 @@
 // What a session's text has after its map: call lines.
+#![tactic(auto)]
+
 mod call_lines;
 mod code;
 mod values;

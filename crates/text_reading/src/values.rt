@@ -4,7 +4,7 @@ ghost use Rattle.text_reading.specs.Parts.{ValuesAt};
 use text_decimal::{Value, end_byte, read_value};
 
 // Whether a line of seven values was there; if so, these with the place past it.
-#[derive(Drop)]
+#[derive(Clone, Copy)]
 pub struct Values {
     pub whole: bool,
     pub values: [i32; 7],

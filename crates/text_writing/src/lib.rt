@@ -1,4 +1,6 @@
 // The lines that a session writes: those of its values, and those of a call's answer.
+#![tactic(auto)]
+
 mod answers;
 mod line;
 mod output_lines;

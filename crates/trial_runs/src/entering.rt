@@ -20,7 +20,7 @@ pub const JOIN: usize = 3;
 pub const TARGET: usize = 2;
 
 // The number of the first join that is refused, or 0 and the players.
-#[derive(Drop)]
+#[derive(Clone, Copy)]
 pub struct Entered {
     pub number: u32,
     pub players: [Player; SEATS],

@@ -1,4 +1,6 @@
 // Trial players for a tuning, run on the numbers of a world in place.
+#![tactic(auto)]
+
 mod checks;
 mod entering;
 mod players;

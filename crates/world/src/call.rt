@@ -1,6 +1,6 @@
 // The five calls of a world with their arguments. Type only.
 
-#[derive(Drop)]
+#[derive(Clone, Copy)]
 pub enum Call {
     Join {
         id: i32,

@@ -1,4 +1,6 @@
 // The world of document 01: the slots and the tunings, what its calls answer, and the demand on all of them. Types only; the rules stand in specs/.
+#![tactic(auto)]
+
 mod call;
 mod reading;
 
@@ -8,42 +10,42 @@ use game_records::CharacterCore;
 use game_tuning::TUNINGS;
 pub use reading::{Query, Reading, Seated};
 
-#[derive(Drop)]
+#[derive(Clone, Copy)]
 pub struct World {
     pub slots: [Slot; SEATS],
     pub tunings: [i32; TUNINGS],
 }
 
 // What join, leave, input and tune answer: 0 and the next world, or a refusal's number and the world as it was.
-#[derive(Drop)]
+#[derive(Clone, Copy)]
 pub struct Answer {
     pub number: u32,
     pub world: World,
 }
 
 // The record of a seat, where somebody is there.
-#[derive(Drop)]
+#[derive(Clone, Copy)]
 pub struct Published {
     pub present: bool,
     pub core: CharacterCore,
 }
 
 // What becomes of a move: the record of what it left, or the number that refuses it.
-#[derive(Drop)]
+#[derive(Clone, Copy)]
 pub enum Recorded {
     Refused(u32),
     Core(CharacterCore),
 }
 
 // Who is removed, by rising id: as many ids as counted, and zeros behind them.
-#[derive(Drop)]
+#[derive(Clone, Copy)]
 pub struct Removed {
     pub count: usize,
     pub ids: [i32; SEATS],
 }
 
 // What step answers: the records too, and who is removed after they are taken.
-#[derive(Drop)]
+#[derive(Clone, Copy)]
 pub struct Stepped {
     pub number: u32,
     pub world: World,

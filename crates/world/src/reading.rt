@@ -3,7 +3,7 @@ use character::Slot;
 use game_records::{CharacterCore, PlayerInput};
 
 // An id's record, floor mark or stored input, or the tuning with an index.
-#[derive(Drop)]
+#[derive(Clone, Copy)]
 pub enum Query {
     Record(i32),
     FloorMark(i32),
@@ -12,7 +12,7 @@ pub enum Query {
 }
 
 // The number that refuses it, or what was asked for.
-#[derive(Drop)]
+#[derive(Clone, Copy)]
 pub enum Reading {
     Refused(u32),
     Record(CharacterCore),
@@ -22,7 +22,7 @@ pub enum Reading {
 }
 
 // Who is at an id, or the number that refuses it.
-#[derive(Drop)]
+#[derive(Clone, Copy)]
 pub enum Seated {
     Refused(u32),
     There(Slot),

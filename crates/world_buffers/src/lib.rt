@@ -1,4 +1,6 @@
 // The calls on a world that is kept as the numbers of a lent buffer, and what is read of it.
+#![tactic(auto)]
+
 mod buffers;
 mod leaving;
 mod readers;

@@ -1,4 +1,6 @@
 // The calls of a world but join and step: leave, input and tune, and what is read of it.
+#![tactic(auto)]
+
 mod calls;
 mod leaving;
 mod readers;

@@ -20,7 +20,7 @@ pub const PLACE: usize = 2;
 pub const SPEED: usize = 4;
 
 // Whether somebody is at a seat; if so where, and how fast.
-#[derive(Drop)]
+#[derive(Clone, Copy)]
 struct Body {
     present: bool,
     pos: vec2,

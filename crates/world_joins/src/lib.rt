@@ -1,4 +1,6 @@
 // The seats of a world, and the join.
+#![tactic(auto)]
+
 mod joins;
 mod seats;
 

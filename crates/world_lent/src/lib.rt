@@ -1,4 +1,6 @@
 // The slots of a world, lent as one slice and stepped there. The borrow checker covers no function over a reference to structs: `load`, `store` and `step_lent` are proved by hand.
+#![tactic(auto)]
+
 ghost use Rattle.std.specs.Prelude.{◌≡◌, length};
 ghost use Rattle.character.specs.Tick.{seats};
 ghost use Rattle.world_lent.specs.Lent.{world_of, lent_step, told_of, slots_left};
@@ -11,7 +13,7 @@ use world_joins::{fresh, slot_at, with_slot};
 use world_step::step;
 
 // What a step over lent slots answers: the next slots stand in the slice.
-#[derive(Drop)]
+#[derive(Clone, Copy)]
 pub struct Told {
     pub number: u32,
     pub records: [Published; SEATS],

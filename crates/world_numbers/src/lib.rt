@@ -1,4 +1,6 @@
 // A world as the numbers of a buffer, and back.
+#![tactic(auto)]
+
 mod decoding;
 mod encoding;
 

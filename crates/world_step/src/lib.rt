@@ -1,4 +1,6 @@
 // Step: all tick, then all move and are quantized, then deadly tiles remove; and any of the five calls on a world.
+#![tactic(auto)]
+
 mod calling;
 mod moving;
 mod removing;

@@ -14,7 +14,7 @@ use map_tiles::Sides;
 use world::{Published, Recorded};
 
 // The slots and the records after all moves; where one is refused, its number.
-#[derive(Drop)]
+#[derive(Clone, Copy)]
 pub struct Moves {
     pub done: bool,
     pub number: u32,

@@ -10,7 +10,7 @@ use world::{Removed, World};
 use world_calls::vacate;
 
 // The world without those who are removed, and who they are.
-#[derive(Drop)]
+#[derive(Clone, Copy)]
 pub struct Removals {
     pub world: World,
     pub removed: Removed,

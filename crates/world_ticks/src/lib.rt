@@ -1,4 +1,6 @@
 // The first half of a step: all tick.
+#![tactic(auto)]
+
 mod ticking;
 
 pub use ticking::{Ticks, tick_all};

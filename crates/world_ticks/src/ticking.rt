@@ -13,7 +13,7 @@ use game_tuning::Tuning;
 use map_tiles::Sides;
 
 // The slots after all ticks; where one is refused, its number, and the slots as they were.
-#[derive(Drop)]
+#[derive(Clone, Copy)]
 pub struct Ticks {
     pub done: bool,
     pub number: u32,

@@ -1,10 +1,8 @@
--- `num_convert::casts::cast_unsigned` meets its contract. Assumes nothing.
 use Rattle.std.proofs.Common.{◌≡◌, ℕ, suc, ◌-◌, ◌^◌, ◌<◌, Bool, true, false, cond, T, ℤ, pos, negsuc, ◌+ℤ◌, nat_abs, sym, refl, ap, ◌∙◌, subst, true≢false, arith, to_z-of_z, w32, w64, Fits, SFits, to_z, of_z, le-ltb}
 use lib.Signed.{lt_z, non_neg}
 use mir.Facts.{sfits_widen}
 use Rattle.num_convert.specs.Casts.{cast_unsigned}
-use Rattle.num_convert.proofs.casts.cast_unsigned.Statement.{statement}
-use Rattle.num_convert.proofs.casts.cast_unsigned.Tie as tie
+use Rattle.num_convert.proofs.casts.cast_unsigned.Goals as goal
 
 -- the i32 as the i64 that the sum is made of
 wide : (z : ℤ) → SFits w32 z → to_z w64 (of_z w64 (to_z w32 (of_z w32 z))) ≡ z
@@ -44,23 +42,20 @@ own (negsuc n) s t = absurd (true≢false t)
 as_it_is : (z : ℤ) → SFits w32 z → lt_z (to_z w32 (of_z w32 z)) (pos 0) ≡ false → T (non_neg (to_z w32 (of_z w32 z))) × Fits w32 (nat_abs (to_z w32 (of_z w32 z))) × (nat_abs (to_z w32 (of_z w32 z)) ≡ cast_unsigned z)
 as_it_is z s t = subst (λ (x : ℤ). T (non_neg x) × Fits w32 (nat_abs x) × (nat_abs x ≡ cast_unsigned z)) (sym (to_z-of_z s)) (own z s (ap (λ (x : ℤ). lt_z x (pos 0)) (sym (to_z-of_z s)) ∙ t))
 
-cast-result : tie.Need-overflow-cast-result
-cast-result c = sfits_widen tt (subst (SFits w32) (sym (to_z-of_z c.before.ranges.n)) c.before.ranges.n)
+pub overflow_cast-result : goal.overflow_cast-result
+overflow_cast-result c = sfits_widen tt (subst (SFits w32) (sym (to_z-of_z c.before.ranges.n)) c.before.ranges.n)
 
-add-result : tie.Need-overflow-add-result
-add-result c = let z = c.before.args.n in let s = c.before.ranges.n in subst (SFits w64) (sym (sum z s c.if1.true)) (in_i64 (cast_unsigned z) (in_u32 z s))
+pub overflow_add-result : goal.overflow_add-result
+overflow_add-result c = let z = c.before.args.n in let s = c.before.ranges.n in subst (SFits w64) (sym (sum z s c.if-n-lt0.true)) (in_i64 (cast_unsigned z) (in_u32 z s))
 
-cast-result-2 : tie.Need-overflow-cast-result-2
-cast-result-2 c = let z = c.before.args.n in let s = c.before.ranges.n in subst (λ (x : ℤ). T (non_neg x) × Fits w32 (nat_abs x)) (sym (read z s c.if1.true)) (tt, record { fits = in_u32 z s })
+pub overflow_cast-result-then-n-lt0 : goal.overflow_cast-result-then-n-lt0
+overflow_cast-result-then-n-lt0 c = let z = c.before.args.n in let s = c.before.ranges.n in subst (λ (x : ℤ). T (non_neg x) × Fits w32 (nat_abs x)) (sym (read z s c.if-n-lt0.true)) (tt, record { fits = in_u32 z s })
 
-cast-result-3 : tie.Need-overflow-cast-result-3
-cast-result-3 c = let w = as_it_is c.before.args.n c.before.ranges.n c.if1.false in (w.0, w.1)
+pub overflow_cast-result-else-n-lt0 : goal.overflow_cast-result-else-n-lt0
+overflow_cast-result-else-n-lt0 c = let w = as_it_is c.before.args.n c.before.ranges.n c.if-n-lt0.false in (w.0, w.1)
 
-returns : tie.Need-returns
-returns c = ap nat_abs (read c.before.args.n c.before.ranges.n c.if1.true)
+pub returns-then-n-lt0 : goal.returns-then-n-lt0
+returns-then-n-lt0 c = ap nat_abs (read c.before.args.n c.before.ranges.n c.if-n-lt0.true)
 
-returns_2 : tie.Need-returns-2
-returns_2 c = (as_it_is c.before.args.n c.before.ranges.n c.if1.false).2
-
-pub cast-unsigned-spec : {M : Type 1} → statement M
-cast-unsigned-spec = tie.close (tie.spec cast-result add-result cast-result-2 cast-result-3 returns returns_2)
+pub returns-else-n-lt0 : goal.returns-else-n-lt0
+returns-else-n-lt0 c = (as_it_is c.before.args.n c.before.ranges.n c.if-n-lt0.false).2

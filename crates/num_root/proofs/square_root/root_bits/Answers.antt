@@ -1,4 +1,3 @@
--- `num_root::square_root::root_bits` meets its contract. Assumes nothing.
 use mathlib.Core.Path.{◌≡◌, refl, sym, ap, ◌∙◌, subst}
 use mathlib.Core.Bool.{false}
 use mathlib.Core.Logic.{⊎_elim}
@@ -12,8 +11,8 @@ use lib.Ieee.Bits.{of_bits-fits}
 use lib.Ieee.Exact.{HasValue}
 use Rattle.base_binary32.proofs.Patterns.{units_of, pattern_value}
 use Rattle.num_root.proofs.Rooted.{lift, Lifted, lifted, finer, moved}
-use Rattle.num_root.proofs.square_root.root_bits.Statement.{statement}
-use Rattle.num_root.proofs.square_root.root_bits.Tie as tie
+use Rattle.num_root.proofs.square_root.root_bits.Goals.{Joined-e-eq0, then-e-eq0, else-e-eq0}
+use Rattle.num_root.proofs.square_root.root_bits.Goals as goal
 
 -- w and t are the parts of the value with the pattern b
 record Parts (b w t : ℕ) : Type 0 where
@@ -51,32 +50,23 @@ high b h e = record { lo = omega arith; hi = omega arith; least = omega arith; m
     go zero n = absurd (n refl)
     go (suc x) n = let m = b % 8388608 + 8388608 in moved m x 0 (omega arith) ∙ ap (λ (k : ℕ). k * 2 ^ (x + 149)) (mul-one m) ∙ ap (λ (k : ℕ). m * 2 ^ k) (omega arith)
 
-parts : (c : tie.Joined1) → Parts c.before.args.b c.if1.w c.if1.t
+parts : (c : Joined-e-eq0) → Parts c.before.args.b c.if-e-eq0.w c.if-e-eq0.t
 parts c =
     let b = c.before.args.b in
     let p = c.before.requires in
-    ⊎_elim (λ w. rw (w.1, w.2) (low b p.0 p.1 w.0.taken)) (λ w. rw (w.1, w.2) (high b p.1 w.0.left)) c.if1.branch
+    elim c.if-e-eq0.branch [ then-e-eq0 w ↦ rw (w.w-is, w.t-is) (low b p.0 p.1 w.if-e-eq0.true) | else-e-eq0 w ↦ rw (w.w-is, w.t-is) (high b p.1 w.if-e-eq0.false) ]
 
-add-w : tie.Need-overflow-add-w
-add-w c = search rules
+pub overflow_sub-z : goal.overflow_sub-z
+overflow_sub-z c = omega (arith, (digits c.before.args.b c.before.requires.0 c.if-e-eq0.true).least)
 
-add-t : tie.Need-overflow-add-t
-add-t c = search rules
+pub overflow_shl-w : goal.overflow_shl-w
+overflow_shl-w c = omega (arith, (digits c.before.args.b c.before.requires.0 c.if-e-eq0.true).most)
 
-sub-z : tie.Need-overflow-sub-z
-sub-z c = omega (arith, (digits c.before.args.b c.before.requires.0 c.if1.true).least)
+pub overflow_sub-t : goal.overflow_sub-t
+overflow_sub-t c = omega (arith, (digits c.before.args.b c.before.requires.0 c.if-e-eq0.true).most)
 
-shl-w : tie.Need-overflow-shl-w
-shl-w c = omega (arith, (digits c.before.args.b c.before.requires.0 c.if1.true).most)
+pub root_parts-requires : goal.root_parts-requires
+root_parts-requires c = let p = parts c in (p.lo, p.hi, p.least, p.most)
 
-sub-t : tie.Need-overflow-sub-t
-sub-t c = omega (arith, (digits c.before.args.b c.before.requires.0 c.if1.true).most)
-
-root-parts-requires : tie.Need-root-parts-requires
-root-parts-requires c κs = let p = parts c in (p.lo, p.hi, p.least, p.most)
-
-returns : tie.Need-returns
-returns c = let b = c.before.before.args.b in (c.root-parts.ensures.0, c.root-parts.ensures.1 (of_bits binary32 b) (of_bits-fits binary32 b) (parts c.before).value)
-
-pub root-bits-spec : {M : Type 1} → statement M
-root-bits-spec = tie.close (tie.spec add-w add-t sub-z shl-w sub-t root-parts-requires returns)
+pub returns : goal.returns
+returns c = let b = c.before.before.args.b in (c.root_parts.ensures.0, c.root_parts.ensures.1 (of_bits binary32 b) (of_bits-fits binary32 b) (parts c.before).value)
