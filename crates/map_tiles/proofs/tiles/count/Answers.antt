@@ -1,4 +1,3 @@
--- `map_tiles::tiles::count` meets its contract. Assumes nothing.
 use borrow.Author.Rules.{rules}
 use mathlib.Core.Path.{◌≡◌, refl, sym}
 use mathlib.Core.Bool.{Bool, true, false, true≢false}
@@ -12,8 +11,7 @@ use mir.Syntax.{w32}
 use mir.Val.{SFits, to_z, of_z}
 use mir.Facts.{to_z-of_z, Fits-nat_abs}
 use Rattle.map_tiles.specs.Map.{count}
-use Rattle.map_tiles.proofs.tiles.count.Statement.{statement}
-use Rattle.map_tiles.proofs.tiles.count.Tie as tie
+use Rattle.map_tiles.proofs.tiles.count.Goals as goal
 
 read : (z : ℤ) (b : Bool) → SFits w32 z → lt_z (to_z w32 (of_z w32 z)) (pos 0) ≡ b → lt_z z (pos 0) ≡ b
 read z b f h = rw (to_z-of_z f) at h
@@ -34,14 +32,11 @@ small : (z : ℤ) → lt_z z (pos 0) ≡ false → mag z < 2 ^ 31 → nat_abs z 
 small (pos n) h l = l
 small (negsuc n) h l = absurd (true≢false h)
 
-returns : tie.Need-returns
-returns c = (sym (below c.before.args.n (read c.before.args.n true c.before.ranges.n c.if1.true)), search rules)
+pub returns-then-n-lt0 : goal.returns-then-n-lt0
+returns-then-n-lt0 c = (sym (below c.before.args.n (read c.before.args.n true c.before.ranges.n c.if-n-lt0.true)), search rules)
 
-cast-result : tie.Need-overflow-cast-result
-cast-result c = let z = c.before.args.n in rw (to_z-of_z {z = z} c.before.ranges.n) (not_below z (read z false c.before.ranges.n c.if1.false), Fits-nat_abs tt c.before.ranges.n)
+pub overflow_cast-result : goal.overflow_cast-result
+overflow_cast-result c = let z = c.before.args.n in rw (to_z-of_z {z = z} c.before.ranges.n) (not_below z (read z false c.before.ranges.n c.if-n-lt0.false), Fits-nat_abs tt c.before.ranges.n)
 
-returns_2 : tie.Need-returns-2
-returns_2 c = let z = c.before.args.n in let l = read z false c.before.ranges.n c.if1.false in rw (to_z-of_z {z = z} c.before.ranges.n) (whole z l, small z l c.before.ranges.n.sfits)
-
-pub count_spec : {M : Type 1} → statement M
-count_spec = tie.close (tie.spec returns cast-result returns_2)
+pub returns : goal.returns
+returns c = let z = c.before.args.n in let l = read z false c.before.ranges.n c.if-n-lt0.false in rw (to_z-of_z {z = z} c.before.ranges.n) (whole z l, small z l c.before.ranges.n.sfits)

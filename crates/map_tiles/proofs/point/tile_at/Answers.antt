@@ -1,4 +1,3 @@
--- `map_tiles::point::tile_at` meets its contract. Assumes nothing.
 use mathlib.Core.Path.{◌≡◌, refl, sym, ap, ◌∙◌}
 use Prim.Native.Nat.{ℕ, ◌-◌, ◌/◌, ◌≤◌, ◌<◌, min}
 use native.Mathlib.Omega.{arith}
@@ -10,8 +9,7 @@ use Rattle.num_convert.specs.Whole.{round_to_i32}
 use Rattle.map_corners.specs.Tile.{tile_of, tile_at}
 use Rattle.map_tiles.specs.Map.{count}
 use borrow.Author.Rules.{rules}
-use Rattle.map_tiles.proofs.point.tile_at.Statement.{statement}
-use Rattle.map_tiles.proofs.point.tile_at.Tie as tie
+use Rattle.map_tiles.proofs.point.tile_at.Goals as goal
 
 tile_count : (w : ℕ) (z : ℤ) → tile_of w z ≡ min (count z / 32) (w - 1)
 unfolding tile_of
@@ -32,25 +30,8 @@ outside w x n e h = sym (tile_count w (round_to_i32 x) ∙ ap (λ (k : ℕ). min
     cut : (t w : ℕ) → w ≤ t → min t (w - 1) ≡ w - 1
     cut t w h = omega arith
 
-round-to-i32-requires : tie.Need-round-to-i32-requires
-round-to-i32-requires c κs = search rules
+pub returns-then-t-side : goal.returns-then-t-side
+returns-then-t-side c = (inside _ _ _ (c.before.count-t.ensures.0 ∙ ap count (to_z-of_z {w = w32} (search rules) ∙ c.before.before.round_to_i32.ensures)) c.if-t-side.true, c.if-t-side.true)
 
-count-requires : tie.Need-count-requires
-count-requires c κs = search rules
-
-cast-result : tie.Need-overflow-cast-result
-cast-result c = search rules
-
-returns : tie.Need-returns
-returns c = (inside _ _ _ (c.before.count.ensures.0 ∙ ap count (to_z-of_z {w = w32} (search rules) ∙ c.before.before.round-to-i32.ensures)) c.if1.true, c.if1.true)
-
-sub-result : tie.Need-overflow-sub-result
-sub-result c = search rules
-
-returns_2 : tie.Need-returns-2
-returns_2 c = (outside _ _ _ (c.before.count.ensures.0 ∙ ap count (to_z-of_z {w = w32} (search rules) ∙ c.before.before.round-to-i32.ensures)) c.if1.false, omega arith)
-
-pub tile-at-spec : {M : Type 1} → statement M
-tile-at-spec =
-    tie.close
-    (tie.spec round-to-i32-requires count-requires cast-result returns sub-result returns_2)
+pub returns : goal.returns
+returns c = (outside _ _ _ (c.before.count-t.ensures.0 ∙ ap count (to_z-of_z {w = w32} (search rules) ∙ c.before.before.round_to_i32.ensures)) c.if-t-side.false, omega arith)

@@ -1,0 +1,39 @@
+use Rattle.std.proofs.Common.{◌≡◌, ◌-◌, cond, sym, ap, ◌∙◌, ⊎_elim, arith}
+use lib.Ieee.{Float, binary32, mul}
+use Rattle.base_turns.specs.Turns.{more, fold}
+use Rattle.base_turns.proofs.Loop.{Left, always, fold_first, fold_end, turn_on}
+use Rattle.num_ramp.specs.Power.{bit, root_turn, roots}
+use Rattle.num_ramp.proofs.Bits.{set, clear}
+use Rattle.num_ramp.proofs.power.roots.Goals.{else-k-i-eq1, then-k-i-eq1}
+use Rattle.num_ramp.proofs.power.roots.Goals as goal
+
+pub loop-i-init : goal.loop-i-init
+loop-i-init c = fold_first
+
+pub root-r-requires : goal.root-r-requires
+root-r-requires c = tt
+
+pub overflow_sub-i : goal.overflow_sub-i
+overflow_sub-i c = omega arith
+
+pub overflow_shr-k : goal.overflow_shr-k
+overflow_shr-k c = omega arith
+
+pub overflow_step-i : goal.overflow_step-i
+overflow_step-i c = omega arith
+
+pub loop-i-smaller : goal.loop-i-smaller
+loop-i-smaller c = omega arith
+
+pub loop-i-preserved : goal.loop-i-preserved
+loop-i-preserved c =
+    let l = c.before.before.before.loop-i in
+    let k = c.before.before.before.before.args.k in
+    let r = c.before.root-r.result in
+    let a = mul binary32 l.p r in
+    let e : cond (bit k (15 - l.i)) a l.p ≡ c.if-k-i-eq1.p = elim c.if-k-i-eq1.branch [ then-k-i-eq1 w ↦ set k (15 - l.i) a l.p w.if-k-i-eq1.true ∙ sym w.p-is | else-k-i-eq1 w ↦ clear k (15 - l.i) a l.p w.if-k-i-eq1.false ∙ sym w.p-is ] in
+    turn_on l.invariant (omega arith) (simp (← c.before.root-r.ensures) (ap (λ (p : Float). more (p, r)) e))
+
+pub returns : goal.returns
+unfolding roots
+returns c = sym (ap (λ (s : Float × Float). s.0) (fold_end c.before.loop-i.invariant c.loop-i-test.false))
