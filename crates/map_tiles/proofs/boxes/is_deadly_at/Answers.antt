@@ -4,4 +4,4 @@ use Rattle.map_tiles.proofs.boxes.is_deadly_at.Goals as goal
 
 pub returns : goal.returns
 unfolding tile_in
-returns c = simp (← c.before.tile_in.ensures, ← c.is_deadly.ensures)
+returns c = simp (← c.before.before.tile_in.ensures, ← c.is_deadly.ensures)
