@@ -9,7 +9,7 @@ use mir.Syntax.{w32}
 use mir.Val.{to_z, of_z}
 
 pub again : {z : ℤ} → mag z < 2 ^ 31 → to_z w32 (of_z w32 z) ≡ z
-again h = to_z-of_z (record { sfits = h })
+again h = to_z-of_z {w = w32} (record { sfits = h })
 
 abbrev pub AllI32 : List ℤ → Type 0
 AllI32 [] = Unit {0}

@@ -1,15 +1,13 @@
--- `game_records::core_numbers` meets its contract: each number is read back from its bits. Assumes nothing.
 use mathlib.Core.List.{[], ◌∷◌}
 use Rattle.game_records.specs.Numbers.{core_numbers}
 use Rattle.game_records.proofs.Bits.{again}
-use Rattle.game_records.proofs.core_numbers.Statement.{statement}
-use Rattle.game_records.proofs.core_numbers.Tie as tie
+use Rattle.game_records.proofs.core_numbers.Goals as goal
 
-returns : tie.Need-returns
+pub returns : goal.returns
 unfolding core_numbers
 returns c =
     let n = c.before.args.core in
-    let t0 = c.struct_told.given in
+    let t0 = c.struct_told-1.given in
     let t1 = t0.1 in
     let t2 = t1.1 in
     let t3 = t2.1 in
@@ -41,6 +39,3 @@ returns c =
     ∷ again {z = n.hook_dx} t13.0.1 i
     ∷ again {z = n.hook_dy} t14.0.1 i
     ∷ []
-
-pub core-numbers-spec : {M : Type 1} → statement M
-core-numbers-spec = tie.close (tie.spec returns)
