@@ -7,7 +7,7 @@ use native.Mathlib.Omega.{arith}
 use borrow.Author.Tests.{ltb-true, ltb-false}
 use denote.Floats.{is_true}
 use lib.Dec.{T, ltb, leb, ltb→lt, nltb→le, le→leb}
-use lib.IntN.{ℤ, pos, negsuc, neg_ℤ, nat_abs, sub_ℕ, ◌+ℤ◌, ◌-ℤ◌, ◌*ℤ◌, +ℤ_idl}
+use lib.IntN.{ℤ, pos, negsuc, neg_ℤ, nat_abs, sub_ℕ, ◌-ℤ◌, ◌*ℤ◌, +ℤ_idl}
 use lib.Signed.{lt_z, le_z}
 use Rattle.aim_tables.proofs.Parts.{up, down, neg_up, neg_down}
 

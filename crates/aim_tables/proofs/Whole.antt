@@ -73,7 +73,7 @@ pub widened : (z : ℤ) → SFits w32 z → SFits w64 (to_z w32 (of_z w32 z))
 widened z f = rw (to_z-of_z f) (sfits_widen tt f)
 
 pub wide : (z : ℤ) → SFits w32 z → to_z w64 (of_z w64 (to_z w32 (of_z w32 z))) ≡ z
-wide z f = ap (λ (x : ℤ). to_z w64 (of_z w64 x)) (to_z-of_z f) ∙ to_z-of_z (sfits_widen tt f)
+wide z f = ap (λ (x : ℤ). to_z w64 (of_z w64 x)) (to_z-of_z f) ∙ to_z-of_z {w = w64} (sfits_widen {w = w32} {w' = w64} {z = z} (tt {0}) f)
 
 -- ---- the opposite, as the machine makes it
 
