@@ -1,7 +1,7 @@
 -- How many entries a scan reads: down to the angle, which lies in the quarter that it begins. Assumes nothing.
 use mathlib.Core.Path.{◌≡◌, refl, sym, ap, ap₂, ◌∙◌, subst}
 use mathlib.Core.Bool.{Bool, true, false, cond, ◌&&◌, true≢false}
-use Prim.Native.Nat.{ℕ, zero, suc, ◌+◌, ◌-◌, ◌≤◌}
+use Prim.Native.Nat.{ℕ, zero, suc, ◌+◌, ◌≤◌}
 use native.Mathlib.Omega.{arith}
 use lib.Dec.{eqb, leb, leb→le, le→leb}
 use lib.IntN.{ℤ, pos, negsuc, nat_abs, pos-ne-negsuc}
