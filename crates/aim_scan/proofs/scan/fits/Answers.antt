@@ -1,4 +1,3 @@
--- `aim_scan::scan::fits` meets its contract. Assumes nothing.
 use mathlib.Core.Path.{◌≡◌}
 use mathlib.Core.List.{List}
 use Prim.Native.Nat.{ℕ, ◌^◌, ◌≤◌}
@@ -10,15 +9,13 @@ use lib.ListN.{get_or}
 use mir.Syntax.{w32, w64}
 use mir.Val.{SFits, to_z, of_z}
 use mir.Facts.{to_z-of_z}
-use borrow.Author.Rules.{rules}
 use Rattle.aim_tables.proofs.Whole.{sfits_abs, mul_abs, widened, wide}
 use Rattle.aim_tables.specs.Tables.{cos_t, sin_t}
 use Rattle.aim_tables.specs.Rules.{cos_at, sin_at}
 use Rattle.aim_tables.proofs.Rules.{small}
 use Rattle.aim_rule.specs.Angle.{side}
 use Rattle.aim_scan.proofs.Difference.{le_difference}
-use Rattle.aim_scan.proofs.scan.fits.Statement.{statement}
-use Rattle.aim_scan.proofs.scan.fits.Tie as tie
+use Rattle.aim_scan.proofs.scan.fits.Goals as goal
 
 -- an entry of a lent table, as it is read, cast and multiplied
 module _ (l t : List ℤ) (n : ℕ) (e : l ≡ t) (h : nat_abs (get_or t n (pos 0)) ≤ 2 ^ 30) where
@@ -34,37 +31,25 @@ module _ (l t : List ℤ) (n : ℕ) (e : l ≡ t) (h : nat_abs (get_or t n (pos 
   product : (z : ℤ) → nat_abs z ≤ 2 ^ 31 → SFits w64 (z *ℤ get_or t n (pos 0))
   product z k = sfits_abs (z *ℤ get_or t n (pos 0)) (lt_of_le_of_lt (mul_abs z (get_or t n (pos 0)) k h) (lit< tt))
 
-mul-result : tie.Need-overflow-mul-result
-mul-result c = search rules
+pub overflow_cast-result : goal.overflow_cast-result
+overflow_cast-result c = let a = c.before in cast a.args.sin.now sin_t a.args.n a.requires.3 (small a.args.n (omega arith)).1
 
-element-copy-out-result : tie.Need-element-copy-out-result
-element-copy-out-result c = search rules
-
-cast-result : tie.Need-overflow-cast-result
-cast-result c = let a = c.before in cast a.args.sin.now sin_t a.args.n a.requires.3 (small a.args.n (omega arith)).1
-
-mul-result-2 : tie.Need-overflow-mul-result-2
-mul-result-2 c =
+pub overflow_mul-result : goal.overflow_mul-result
+overflow_mul-result c =
     let a = c.before in
     let z = (small a.args.n (omega arith)).1 in
     rw (to_z-of_z a.ranges.x, read a.args.sin.now sin_t a.args.n a.requires.3 z) (product a.args.sin.now sin_t a.args.n a.requires.3 z a.args.x a.requires.0.x_small)
 
-mul-result-3 : tie.Need-overflow-mul-result-3
-mul-result-3 c = search rules
+pub overflow_cast-result-2 : goal.overflow_cast-result-2
+overflow_cast-result-2 c = let a = c.before.before in cast a.args.cos.now cos_t a.args.n a.requires.2 (small a.args.n (omega arith)).0
 
-element-copy-out-result-2 : tie.Need-element-copy-out-result-2
-element-copy-out-result-2 c = search rules
-
-cast-result-2 : tie.Need-overflow-cast-result-2
-cast-result-2 c = let a = c.before.before in cast a.args.cos.now cos_t a.args.n a.requires.2 (small a.args.n (omega arith)).0
-
-mul-result-4 : tie.Need-overflow-mul-result-4
-mul-result-4 c =
+pub overflow_mul-result-2 : goal.overflow_mul-result-2
+overflow_mul-result-2 c =
     let a = c.before.before in
     let z = (small a.args.n (omega arith)).0 in
     rw (to_z-of_z a.ranges.y, read a.args.cos.now cos_t a.args.n a.requires.2 z) (product a.args.cos.now cos_t a.args.n a.requires.2 z a.args.y a.requires.0.y_small)
 
-returns : tie.Need-returns
+pub returns : goal.returns
 unfolding side
 returns c =
     let a = c.before.before in
@@ -78,17 +63,3 @@ returns c =
       to_z-of_z (product a.args.cos.now cos_t a.args.n a.requires.2 z.0 a.args.y a.requires.0.y_small),
     )
     (le_difference (a.args.y *ℤ cos_at a.args.n) (a.args.x *ℤ sin_at a.args.n))
-
-pub fits-spec : {M : Type 1} → statement M
-fits-spec =
-    tie.close
-    (tie.spec
-    mul-result
-    element-copy-out-result
-    cast-result
-    mul-result-2
-    mul-result-3
-    element-copy-out-result-2
-    cast-result-2
-    mul-result-4
-    returns)
