@@ -1,11 +1,9 @@
--- `aim_angle::angle::along_x` meets its contract. Assumes nothing.
 use Rattle.std.proofs.Common.{◌≡◌, ℕ, zero, suc, ◌<◌, true, false, ℤ, pos, negsuc, sym, refl, true≢false, arith, lit≤, to_z-of_z, ltb-true}
 use lib.Signed.{lt_z}
 use lib.Dec.{eqb-suc-zero}
 use Rattle.aim_rule.specs.Scan.{upright_angle}
 use Rattle.aim_rule.proofs.Quarters.{axis_right, axis_left}
-use Rattle.aim_angle.proofs.angle.along_x.Statement.{statement}
-use Rattle.aim_angle.proofs.angle.along_x.Tie as tie
+use Rattle.aim_angle.proofs.angle.along_x.Goals as goal
 
 not_below : (x : ℕ) → x < 0 → ⊥
 not_below x h = omega arith
@@ -21,11 +19,8 @@ right (pos zero) h = refl
 right (pos (suc x)) h = rw (eqb-suc-zero x) (sym (axis_right x))
 right (negsuc x) h = absurd (true≢false h)
 
-returns : tie.Need-returns
-returns c = (left c.before.args.x (rw (to_z-of_z c.before.ranges.x) at c.if1.true), lit≤ tt)
+pub returns-then-x-lt0 : goal.returns-then-x-lt0
+returns-then-x-lt0 c = (left c.before.args.x (rw (to_z-of_z c.before.ranges.x) at c.if-x-lt0.true), lit≤ tt)
 
-returns_2 : tie.Need-returns-2
-returns_2 c = (right c.before.args.x (rw (to_z-of_z c.before.ranges.x) at c.if1.false), lit≤ tt)
-
-pub along-x-spec : {M : Type 1} → statement M
-along-x-spec = tie.close (tie.spec returns returns_2)
+pub returns-else-x-lt0 : goal.returns-else-x-lt0
+returns-else-x-lt0 c = (right c.before.args.x (rw (to_z-of_z c.before.ranges.x) at c.if-x-lt0.false), lit≤ tt)

@@ -1,12 +1,10 @@
--- `aim_angle::near::turned` meets its contract. Assumes nothing.
 use Rattle.std.proofs.Common.{◌≡◌, ℕ, suc, ◌/◌, ◌^◌, ◌<◌, ◌≤◌, ℤ, pos, negsuc, ◌-ℤ◌, nat_abs, refl, ap, ap₂, le_trans, lt_of_le_of_lt, arith, lit<, lit≤, to_z-of_z, w64, SFits, to_z, of_z}
 use lib.Signed.{quot_z, nat_abs-le}
 use borrow.Author.Rules.{sfits_of}
 use Rattle.aim_tables.proofs.Whole as Whole
 use Rattle.aim_tables.proofs.Whole.{sfits_abs, nat_abs_neg, opposite_size}
 use Rattle.aim_angle.specs.Near.{turned}
-use Rattle.aim_angle.proofs.near.turned.Statement.{statement}
-use Rattle.aim_angle.proofs.near.turned.Tie as tie
+use Rattle.aim_angle.proofs.near.turned.Goals as goal
 
 wide : {n : ℕ} → n ≤ 2 ^ 30 → n ≤ 2 ^ 31
 wide h = le_trans h (lit≤ tt)
@@ -34,32 +32,28 @@ quot_fits z f = sfits_abs (quot_z z (pos 1073741824)) (small (nat_abs (quot_z z 
 quotient : (z w : ℤ) → SFits w64 z → z ≡ w → to_z w64 (of_z w64 (quot_z (to_z w64 (of_z w64 z)) (pos 1073741824))) ≡ quot_z w (pos 1073741824)
 quotient z w f e = rw (to_z-of_z f, to_z-of_z (quot_fits z f)) (ap (λ (x : ℤ). quot_z x (pos 1073741824)) e)
 
-cross-requires : tie.Need-cross-requires
-cross-requires c κs = rw (to_z-of_z c.ranges.c, to_z-of_z c.ranges.s, to_z-of_z c.ranges.d, to_z-of_z c.ranges.t) (wide c.requires.0, narrow c.requires.2, wide c.requires.1, narrow c.requires.3)
+pub cross-cosine-requires : goal.cross-cosine-requires
+cross-cosine-requires c = rw (to_z-of_z c.ranges.c, to_z-of_z c.ranges.s, to_z-of_z c.ranges.d, to_z-of_z c.ranges.t) (wide c.requires.0, narrow c.requires.2, wide c.requires.1, narrow c.requires.3)
 
-sub-cross : tie.Need-overflow-sub-cross
-sub-cross c = rw (to_z-of_z c.before.ranges.c) (opposite_fits c.before.args.c c.before.requires.0)
+pub overflow_sub-c : goal.overflow_sub-c
+overflow_sub-c c = rw (to_z-of_z c.before.ranges.c) (opposite_fits c.before.args.c c.before.requires.0)
 
-cross-requires-2 : tie.Need-cross-requires-2
-cross-requires-2 c κs =
+pub cross-sine-requires : goal.cross-sine-requires
+cross-sine-requires c =
     let a = c.before in
     rw (to_z-of_z a.ranges.c, to_z-of_z a.ranges.s, to_z-of_z a.ranges.d, to_z-of_z a.ranges.t, to_z-of_z (opposite_fits a.args.c a.requires.0))
     (wide a.requires.1, narrow a.requires.2, wide (opposite_small a.args.c a.requires.0), narrow a.requires.3)
 
-div-t7 : tie.Need-nonzero-div-t7
-div-t7 c = rw (to_z-of_z (sfits_of c.before.cross.type-inv)) (lit< tt, quot_fits c.before.cross.result (sfits_of c.before.cross.type-inv))
+pub nonzero_div-result : goal.nonzero_div-result
+nonzero_div-result c = rw (to_z-of_z (sfits_of c.before.cross-cosine.type_inv)) (lit< tt, quot_fits c.before.cross-cosine.result (sfits_of c.before.cross-cosine.type_inv))
 
-div-t8 : tie.Need-nonzero-div-t8
-div-t8 c = rw (to_z-of_z (sfits_of c.cross2.type-inv)) (lit< tt, quot_fits c.cross2.result (sfits_of c.cross2.type-inv))
+pub nonzero_div-result-2 : goal.nonzero_div-result-2
+nonzero_div-result-2 c = rw (to_z-of_z (sfits_of c.cross-sine.type_inv)) (lit< tt, quot_fits c.cross-sine.result (sfits_of c.cross-sine.type_inv))
 
-returns : tie.Need-returns
+pub returns : goal.returns
 unfolding turned
 returns c =
     let a = c.before.before in
-    let cosine = simp (to_z-of_z a.ranges.c, to_z-of_z a.ranges.s, to_z-of_z a.ranges.d, to_z-of_z a.ranges.t) at c.before.cross.ensures in
-    let sine = simp (to_z-of_z a.ranges.c, to_z-of_z a.ranges.s, to_z-of_z a.ranges.d, to_z-of_z a.ranges.t, to_z-of_z (opposite_fits a.args.c a.requires.0)) at c.cross2.ensures in
-    ap₂ (λ (u v : ℤ). record { c = u; s = v }) (quotient c.before.cross.result _ (sfits_of c.before.cross.type-inv) cosine) (quotient c.cross2.result _ (sfits_of c.cross2.type-inv) sine)
-
-pub turned-spec : {M : Type 1} → statement M
-turned-spec =
-    tie.close (tie.spec cross-requires sub-cross cross-requires-2 div-t7 div-t8 returns)
+    let cosine = simp (to_z-of_z a.ranges.c, to_z-of_z a.ranges.s, to_z-of_z a.ranges.d, to_z-of_z a.ranges.t) at c.before.cross-cosine.ensures in
+    let sine = simp (to_z-of_z a.ranges.c, to_z-of_z a.ranges.s, to_z-of_z a.ranges.d, to_z-of_z a.ranges.t, to_z-of_z (opposite_fits a.args.c a.requires.0)) at c.cross-sine.ensures in
+    ap₂ (λ (u v : ℤ). record { c = u; s = v }) (quotient c.before.cross-cosine.result _ (sfits_of c.before.cross-cosine.type_inv) cosine) (quotient c.cross-sine.result _ (sfits_of c.cross-sine.type_inv) sine)
