@@ -1,4 +1,3 @@
--- `game_input::direction::MoveDirection::from_int` meets its contract. Assumes nothing.
 use mathlib.Core.Bool.{true, false, true≢false}
 use mathlib.Core.Path.{◌≡◌, refl, sym, ap, ◌∙◌}
 use Prim.Native.Nat.{zero, suc, ◌≤◌, ◌<◌}
@@ -9,8 +8,7 @@ use mir.Facts.{to_z-of_z}
 use borrow.Author.Tests.{ltb-true, ltb-false}
 use Rattle.game_input.specs.Direction.{from_int}
 use Rattle.game_input.specs.declared.direction.MoveDirection.TheVariants.{Left, None, Right}
-use Rattle.game_input.proofs.direction.MoveDirection.from_int.Statement.{statement}
-use Rattle.game_input.proofs.direction.MoveDirection.from_int.Tie as tie
+use Rattle.game_input.proofs.direction.MoveDirection.from_int.Goals as goal
 
 left : (i : ℤ) → lt_z i (pos 0) ≡ true → Left ≡ from_int i
 unfolding from_int
@@ -35,16 +33,13 @@ neither (pos (suc n)) t u = absurd (not_both (ltb-false 0 (suc n) u))
     not_both : suc n ≤ 0 → ⊥
     not_both h = omega arith
 
-returns : tie.Need-returns
-returns c = left c.before.args.i (ap (λ (z : ℤ). lt_z z (pos 0)) (sym (to_z-of_z c.before.ranges.i)) ∙ c.if1.true)
+pub returns-then-i-lt0 : goal.returns-then-i-lt0
+returns-then-i-lt0 c = left c.before.args.i (ap (λ (z : ℤ). lt_z z (pos 0)) (sym (to_z-of_z c.before.ranges.i)) ∙ c.if-i-lt0.true)
 
-returns_2 : tie.Need-returns-2
-returns_2 c = right c.before.before.args.i (ap (λ (z : ℤ). lt_z (pos 0) z) (sym (to_z-of_z c.before.before.ranges.i)) ∙ c.if2.true)
+pub returns-then-i-gt0 : goal.returns-then-i-gt0
+returns-then-i-gt0 c = right c.before.before.args.i (ap (λ (z : ℤ). lt_z (pos 0) z) (sym (to_z-of_z c.before.before.ranges.i)) ∙ c.if-i-gt0.true)
 
-returns-3 : tie.Need-returns-3
-returns-3 c =
+pub returns-else-i-gt0 : goal.returns-else-i-gt0
+returns-else-i-gt0 c =
     let s = c.before.before in
-    neither s.args.i (ap (λ (z : ℤ). lt_z z (pos 0)) (sym (to_z-of_z s.ranges.i)) ∙ c.before.if1.false) (ap (λ (z : ℤ). lt_z (pos 0) z) (sym (to_z-of_z s.ranges.i)) ∙ c.if2.false)
-
-pub from-int-spec : {M : Type 1} → statement M
-from-int-spec = tie.close (tie.spec returns returns_2 returns-3)
+    neither s.args.i (ap (λ (z : ℤ). lt_z z (pos 0)) (sym (to_z-of_z s.ranges.i)) ∙ c.before.if-i-lt0.false) (ap (λ (z : ℤ). lt_z (pos 0) z) (sym (to_z-of_z s.ranges.i)) ∙ c.if-i-gt0.false)
