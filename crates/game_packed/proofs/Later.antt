@@ -1,11 +1,11 @@
 -- The later bytes of a number, byte by byte, and that what they say fits. Assumes nothing.
 use Prim.Native.Nat.{ℕ, zero, suc, ◌+◌, ◌-◌, ◌*◌, ◌/◌, ◌%◌, ◌^◌, ◌≤◌, ◌<◌}
-use mathlib.Core.Bool.{Bool, true, false, cond, ◌||◌, ◌&&◌, true≢false}
+use mathlib.Core.Bool.{Bool, true, false, ◌||◌, ◌&&◌, true≢false}
 use mathlib.Core.List.{List, [], ◌∷◌}
 use mathlib.Core.Path.{◌≡◌, refl, sym, ap, ◌∙◌, subst}
 use native.Mathlib.Omega.{arith}
 use lib.Dec.{eqb, leb}
-use borrow.Author.Tests.{lt-ltb, le-ltb, eqb-false, leb-false, le-leb}
+use borrow.Author.Tests.{lt-ltb, le-ltb, eqb-false, leb-false}
 use Rattle.game_packed.specs.Unpacked.{signed, is_wrong, later_read, int_read}
 use Rattle.game_packed.specs.declared.number.IntRead.{IntRead}
 use Rattle.game_packed.specs.declared.number.IntRead.TheVariants as int

@@ -1,12 +1,11 @@
 -- The laws of packed records hold. Assumes nothing.
-use Prim.Native.Nat.{ℕ, ◌+◌}
+use Prim.Native.Nat.{ℕ}
 use mathlib.Core.List.{List, [], ◌∷◌, ◌++◌, append-nil}
 use mathlib.Core.Path.{◌≡◌, refl, sym, ap, ◌∙◌, subst}
 use native.Mathlib.Omega.{arith}
-use lib.IntN.{ℤ, pos}
+use lib.IntN.{pos}
 use lib.ListN.{length, replicate, length-append}
 use Rattle.game_records.specs.Numbers.{core_count, core_numbers, core_in}
-use Rattle.game_records.specs.declared.CharacterCore.{CharacterCore}
 use Rattle.game_records.proofs.Back.{core_numbers_back}
 use Rattle.game_packed.specs.Packed.{ints_bytes, core_bytes}
 use Rattle.game_packed.specs.Unpacked.{unpacked}

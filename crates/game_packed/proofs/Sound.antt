@@ -1,17 +1,17 @@
 -- What the reader accepts begins with what the writer makes of the record that it tells. Assumes nothing.
 use Prim.Native.Nat.{ℕ, zero, suc, ◌+◌, ◌*◌, ◌/◌, ◌%◌, ◌^◌, ◌≤◌, ◌<◌}
-use mathlib.Core.Bool.{Bool, true, false, cond, true≢false}
-use mathlib.Core.List.{List, [], ◌∷◌, ◌++◌, append_assoc, append-nil}
+use mathlib.Core.Bool.{Bool, true, false, cond}
+use mathlib.Core.List.{List, [], ◌∷◌, ◌++◌, append_assoc}
 use mathlib.Core.Path.{◌≡◌, refl, sym, ap, ap₂, ◌∙◌, subst}
 use native.Mathlib.Numerals.{add-one}
 use native.Mathlib.Omega.{arith}
 use lib.Dec.{eqb, ltb}
-use lib.IntN.{ℤ, pos, negsuc}
-use lib.ListN.{length, drop, set, replicate, length-append}
+use lib.IntN.{ℤ}
+use lib.ListN.{length, drop, set, length-append}
 use lib.Seq.{sets}
 use borrow.Author.Tests.{eqb-true, eqb-false, ltb-true, ltb-false}
 use Rattle.num_convert.specs.Casts.{IsI32}
-use Rattle.game_records.specs.Numbers.{core_count, core_numbers, core_in}
+use Rattle.game_records.specs.Numbers.{core_in}
 use Rattle.game_records.specs.declared.CharacterCore.{CharacterCore}
 use Rattle.game_packed.specs.Packed.{kept, sign_bit, more_bit, later_bytes, most_later, int_bytes, ints_bytes}
 use Rattle.game_packed.specs.Unpacked.{signed, is_wrong, later_read, int_read, on_read, ints_read}
