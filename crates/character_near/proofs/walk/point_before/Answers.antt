@@ -1,4 +1,3 @@
--- `character_near::walk::point_before` meets its contract. Assumes nothing.
 use Prim.Native.Nat.{ℕ, zero, suc, ◌-◌, ◌≤◌}
 use mathlib.Core.Path.{◌≡◌, refl, sym, ap, ◌∙◌}
 use native.Mathlib.Omega.{arith}
@@ -7,8 +6,7 @@ use borrow.Author.Rules.{rules}
 use Rattle.num_vec2.specs.declared.vec2.{vec2}
 use Rattle.map_lines.specs.Points.{point_at}
 use Rattle.character_near.specs.Near.{point_before}
-use Rattle.character_near.proofs.walk.point_before.Statement.{statement}
-use Rattle.character_near.proofs.walk.point_before.Tie as tie
+use Rattle.character_near.proofs.walk.point_before.Goals as goal
 
 start : (from to : vec2) (d : Float) (i : ℕ) → i ≡ 0 → from ≡ point_before from to d i
 start from to d i e = ap (point_before from to d) (sym e)
@@ -20,17 +18,14 @@ later from to d (suc i) h = ap (point_at from to d) (one_less i)
     one_less : (i : ℕ) → suc i - 1 ≡ i
     one_less i = omega arith
 
-returns : tie.Need-returns
-returns c = start _ _ _ c.before.args.i (omega arith)
+pub returns-then-i-eq0 : goal.returns-then-i-eq0
+returns-then-i-eq0 c = start _ _ _ c.args.i (omega arith)
 
-sub-point-at : tie.Need-overflow-sub-point-at
-sub-point-at c = omega arith
+pub overflow_sub-i : goal.overflow_sub-i
+overflow_sub-i c = omega arith
 
-point-at-requires : tie.Need-point-at-requires
-point-at-requires c κs = omega arith
+pub point_at-requires : goal.point_at-requires
+point_at-requires c = omega arith
 
-returns_2 : tie.Need-returns-2
-returns_2 c = c.point_at.ensures ∙ later _ _ _ c.before.before.args.i (omega arith)
-
-pub point-before-spec : {M : Type 1} → statement M
-point-before-spec = tie.close (tie.spec returns sub-point-at point-at-requires returns_2)
+pub returns : goal.returns
+returns c = c.point_at.ensures ∙ later _ _ _ c.args.i (omega arith)
