@@ -1,5 +1,4 @@
 use Rattle.map_totals.specs.Area.{solid_at}
-use Rattle.std.proofs.Common.{rules}
 use Rattle.map_area.proofs.building.solid_at.Goals as goal
 
 pub returns-then-is_solid_at : goal.returns-then-is_solid_at

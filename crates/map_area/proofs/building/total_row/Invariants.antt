@@ -1,9 +1,6 @@
-use Rattle.std.proofs.Common.{◌≡◌, ℕ, suc, ◌+◌, ◌-◌, ◌*◌, ◌≤◌, sym, ap, ◌∙◌, ap₂, suc-mul, add-one, arith, length-set, rules}
-use Rattle.map_totals.specs.Area.{solid_row, entry_at}
-use Rattle.map_tiles.proofs.Maps.{is_map_lem}
-use Rattle.map_totals.proofs.Tables.{place_within}
-use Rattle.map_totals.proofs.Areas.{map_small}
-use Rattle.map_area.proofs.Rows.{Upto, row_first, row_next, row_most, total-small, total-next}
+use Rattle.std.proofs.Common.{◌≡◌, ◌+◌, ◌-◌, ◌*◌, ◌≤◌}
+use Rattle.map_totals.specs.Area.{solid_row}
+use Rattle.map_area.proofs.Rows.{Upto}
 use Rattle.map_area.proofs.building.total_row.Given as goal
 
 abbrev pub invariant-loop-column : goal.invariant-loop-column

@@ -1,7 +1,6 @@
-use Rattle.std.proofs.Common.{◌≡◌, ℕ, ◌-◌, ◌*◌, ◌≤◌, sym, refl, ap, ◌∙◌, mul_comm, zero-mul, add-one, arith, take_all, rules}
+use Rattle.std.proofs.Common.{◌≡◌, ℕ, ◌*◌, sym, refl, ap, ◌∙◌, mul_comm, zero-mul, add-one, arith, take_all}
 use Rattle.map_totals.specs.Area.{totals_of}
 use Rattle.map_totals.proofs.Counts.{length_totals}
-use Rattle.map_area.proofs.Rows.{Upto}
 use Rattle.map_area.proofs.building.total_rows.Goals as goal
 
 pub loop-row-init : goal.loop-row-init
@@ -17,7 +16,7 @@ loop-row-preserved c =
     let a = c.args in
     let l = c.loop-row in
     let t = c.total_row in
-    (omega arith, refl, (t.auto.1.1.0 ∙ l.invariant.2.0, rw (add-one l.row) t.ensures))
+    (omega arith, refl, (t.auto.totals ∙ l.invariant.2.0, rw (add-one l.row) t.ensures))
 
 pub shape_of-totals : goal.shape_of-totals
 shape_of-totals c = c.loop-row.invariant.2.0 ∙ sym c.requires.1

@@ -1,6 +1,4 @@
-use Rattle.std.proofs.Common.{◌≡◌, ℕ, ◌-◌, ◌*◌, ◌≤◌, sym, refl, ap, ◌∙◌, mul_comm, zero-mul, add-one, arith, take_all, rules}
-use Rattle.map_totals.specs.Area.{totals_of}
-use Rattle.map_totals.proofs.Counts.{length_totals}
+use Rattle.std.proofs.Common.{◌≡◌, ◌-◌, ◌*◌, ◌≤◌}
 use Rattle.map_area.proofs.Rows.{Upto}
 use Rattle.map_area.proofs.building.total_rows.Given as goal
 

@@ -1,5 +1,5 @@
-use Rattle.std.proofs.Common.{◌≡◌, ℕ, suc, ◌-◌, ◌≤◌, length, get_or, set, sym, refl, ap, ◌∙◌, add-one, arith, length-set, rules}
-use Rattle.base_turns.proofs.Mapped.{replaced, replaced_on, replaced_end}
+use Rattle.std.proofs.Common.{◌≡◌, ◌-◌, ◌≤◌, length}
+use Rattle.base_turns.proofs.Mapped.{replaced}
 use Rattle.map_totals.specs.Area.{added}
 use Rattle.map_area.proofs.changing.add_all.Given as goal
 

@@ -1,6 +1,5 @@
-use Rattle.std.proofs.Common.{◌≡◌, ℕ, ◌+◌, ◌-◌, ◌*◌, ◌≤◌, List, map, length, sym, ap, ◌∙◌, arith, rules}
+use Rattle.std.proofs.Common.{◌≡◌, ℕ, ◌+◌, ◌-◌, ◌*◌, List, map, length, sym, ap, ◌∙◌, arith}
 use borrow.Rule.Slice.PartMut.{mid_of, put_mid}
-use Rattle.map_tiles.specs.Map.{sides_of}
 use Rattle.map_totals.specs.Area.{added}
 use Rattle.map_area.proofs.Adding.{partly, partly_first, partly_last, partly-next, row_ends, length_partly}
 use Rattle.map_area.proofs.changing.add_from.Goals as goal
@@ -52,7 +51,7 @@ loop-r-preserved c =
     let t = c.add_all in
     let from : ℕ = l.r * a.sides.width + a.column in
     let many : ℕ = l.r * a.sides.width + a.sides.width - from in
-    let e : put_mid from many l.totals t.new.0 ≡ partly a.sides a.totals.now a.column a.row a.n (l.r + 1) =
+    let e : put_mid from many l.totals t.new.entries ≡ partly a.sides a.totals.now a.column a.row a.n (l.r + 1) =
     ap (put_mid from many l.totals) t.ensures
     ∙ ap (λ (x : List ℕ). put_mid from many x (map (added a.n) (mid_of from many x))) l.invariant.3
     ∙ partly-next a.sides a.totals.now a.column a.row a.n l.r c.requires.0 c.loop-r-test.true l.invariant.0 in

@@ -1,8 +1,6 @@
-use Rattle.std.proofs.Common.{◌≡◌, ℕ, ◌+◌, ◌-◌, ◌*◌, ◌≤◌, List, map, length, sym, ap, ◌∙◌, arith, rules}
-use borrow.Rule.Slice.PartMut.{mid_of, put_mid}
+use Rattle.std.proofs.Common.{◌≡◌, ◌-◌, ◌*◌, ◌≤◌, length}
 use Rattle.map_tiles.specs.Map.{sides_of}
-use Rattle.map_totals.specs.Area.{added}
-use Rattle.map_area.proofs.Adding.{partly, partly_first, partly_last, partly-next, row_ends, length_partly}
+use Rattle.map_area.proofs.Adding.{partly}
 use Rattle.map_area.proofs.changing.add_from.Given as goal
 
 abbrev pub invariant-loop-r : goal.invariant-loop-r

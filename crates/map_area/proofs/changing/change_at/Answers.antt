@@ -48,5 +48,5 @@ returns c =
     let b = c.solid_at-before in
     let d = c.solid_at-after in
     let n = c.wrapping_sub_u32 in
-    let e : n.result ≡ (solid_at a.sides after a.column a.row + minus (solid_at a.sides a.tiles.now a.column a.row)) % 2 ^ 32 = less d.result b.result n.result (omega arith) (omega arith) (omega arith) n.ensures ∙ simp (← d.ensures, ← b.ensures) in
+    let e : n.result ≡ (solid_at a.sides after a.column a.row + minus (solid_at a.sides a.tiles.now a.column a.row)) % 2 ^ 32 = less d.result b.result n.result (omega arith) (omega arith) (omega arith) n.ensures.value ∙ simp (← d.ensures, ← b.ensures) in
     ap (λ (t : List ℕ). record { number = 0; tiles = after; totals = t }) (sym (c.add_from.ensures ∙ ap (changed_totals a.sides a.totals.now a.column a.row) e))

@@ -1,4 +1,4 @@
-use Rattle.std.proofs.Common.{arith, rules}
+use Rattle.std.proofs.Common.{arith}
 use Rattle.map_totals.specs.Area.{minus, count_in}
 use Rattle.map_area.proofs.Wraps.{less, wraps}
 use Rattle.map_area.proofs.counting.count_in.Goals as goal
@@ -15,6 +15,6 @@ returns c =
     let z = c.wrapping_add_u32 in
     rw (← all.ensures, ← beside.ensures, ← above.ensures, ← both.ensures)
     (wraps all.result (minus beside.result) (minus above.result) both.result x.result y.result z.result
-    (less all.result beside.result x.result (omega arith) (omega arith) (omega arith) x.ensures)
-    (less x.result above.result y.result (omega arith) (omega arith) (omega arith) y.ensures)
-    z.ensures)
+    (less all.result beside.result x.result (omega arith) (omega arith) (omega arith) x.ensures.value)
+    (less x.result above.result y.result (omega arith) (omega arith) (omega arith) y.ensures.value)
+    z.ensures.value)

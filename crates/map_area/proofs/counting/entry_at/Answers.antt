@@ -1,4 +1,4 @@
-use Rattle.std.proofs.Common.{arith, rules}
+use Rattle.std.proofs.Common.{arith}
 use Rattle.map_totals.specs.Area.{entry_at}
 use Rattle.map_totals.proofs.Tables.{entry_within, entry_place, entry_above}
 use Rattle.map_area.proofs.counting.entry_at.Goals as goal

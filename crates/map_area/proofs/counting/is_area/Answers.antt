@@ -1,5 +1,4 @@
-use Rattle.std.proofs.Common.{◌≡◌, ℤ, ◌∙◌, ap₂, to_z-of_z, rules}
-use borrow.Author.Tests.{not-true, not-false}
+use Rattle.std.proofs.Common.{◌≡◌, ℤ, ◌∙◌, ap₂, to_z-of_z}
 use Rattle.map_totals.specs.Calls.{is_span, is_area}
 use Rattle.map_area.proofs.counting.is_area.Goals as goal
 

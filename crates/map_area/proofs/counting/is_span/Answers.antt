@@ -1,4 +1,4 @@
-use Rattle.std.proofs.Common.{◌≡◌, ℕ, ◌+◌, Bool, true, false, leb, ℤ, pos, negsuc, refl, ap, ◌∙◌, ap₂, true≢false, arith, to_z-of_z, w32, SFits, to_z, of_z, rules, ltb-false, ltb-true, le-leb}
+use Rattle.std.proofs.Common.{◌≡◌, ℕ, ◌+◌, Bool, true, false, leb, ℤ, pos, negsuc, refl, ap, ◌∙◌, ap₂, true≢false, arith, to_z-of_z, w32, SFits, to_z, of_z, ltb-false, ltb-true, le-leb}
 use borrow.Author.Tests.{lt-leb}
 use lib.Signed.{lt_z}
 use Rattle.map_tiles.specs.Map.{count}
