@@ -9,6 +9,7 @@ use Rattle.num_vec2.specs.declared.vec2.{vec2}
 use Rattle.character_aside.specs.First.{FirstTouch}
 use Rattle.character_near.specs.Soonest.{Soonest}
 use Rattle.character_near.proofs.Walks.{soonest_none, soonest_on, soonest_past}
+use Rattle.character_near.proofs.soonest.soonest_touch.Goals.{then-r-turn, else-r-turn}
 use Rattle.character_near.proofs.soonest.soonest_touch.Goals as goal
 
 -- in other words
@@ -52,10 +53,10 @@ pub loop-k-preserved : goal.loop-k-preserved
 loop-k-preserved c =
     let s = c.loop-k.invariant.0 in
     let f = first c.new-q.ensures c.first_touch-r.ensures in
-    ⊎_elim
-    (λ w. (reached (sym w.1) (sym w.2) (soonest_on _ _ _ _ _ _ s f w.0.taken), omega arith))
-    (λ w. (reached (sym w.1) (sym w.2) (soonest_past _ _ _ _ _ _ s f w.0.left), omega arith))
-    c.if-r-turn.branch
+    elim c.if-r-turn.branch
+    [ then-r-turn w ↦ (reached (sym w.turn-is) (sym w.place-is) (soonest_on _ _ _ _ _ _ s f w.if-r-turn.true), omega arith)
+    | else-r-turn w ↦ (reached (sym w.turn-is) (sym w.place-is) (soonest_past _ _ _ _ _ _ s f w.if-r-turn.false), omega arith)
+    ]
 
 pub returns : goal.returns
 returns c = asked_all (omega arith) c.loop-k.invariant.0

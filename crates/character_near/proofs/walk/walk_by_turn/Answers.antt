@@ -61,7 +61,7 @@ walk-preserved c =
     let w = c.walk in
     let l = c.loop-k in
     let a = c.args in
-    (l.invariant.0 ∙ w.invariant.0, turn_on w.invariant.1 c.walk-test.true (passed a.count a.xs.now a.ys.now a.from a.to a.distance w.i w.new-q c.mix-p.result c.mix-p.ensures (turn_end l.invariant.1 c.loop-k-test.false)))
+    (l.invariant.0 ∙ w.invariant.0, turn_on w.invariant.1 c.walk-test.true (passed a.count a.xs.now a.ys.now a.from a.to a.distance w.i w.last c.mix-p.result c.mix-p.ensures (turn_end l.invariant.1 c.loop-k-test.false)))
 
 pub returns-after-walk : goal.returns-after-walk
 unfolding walk_near
@@ -75,4 +75,4 @@ returns-then-touches c =
     let a = c.args in
     let m = c.mix-p in
     sym (ap (or_to a.to) (turn_off {r = c.rest_at-rest.result} w.invariant.1 c.walk-test.true
-    (stopped a.count a.xs.now a.ys.now a.from a.to a.distance w.i w.new-q m.result m.ensures c.rest_at-rest.result (turn_off {r = c.rest_at-rest.result} l.invariant.1 c.loop-k-test.true (simp (← c.new-q.ensures, ← c.touches.ensures, c.if-touches.true, ← c.rest_at-rest.ensures))))))
+    (stopped a.count a.xs.now a.ys.now a.from a.to a.distance w.i w.last m.result m.ensures c.rest_at-rest.result (turn_off {r = c.rest_at-rest.result} l.invariant.1 c.loop-k-test.true (simp (← c.new-q.ensures, ← c.touches.ensures, c.if-touches.true, ← c.rest_at-rest.ensures))))))
