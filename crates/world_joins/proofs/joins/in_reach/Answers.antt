@@ -1,4 +1,3 @@
--- `world_joins::joins::in_reach` meets its contract. Assumes nothing.
 use mathlib.Core.Path.{◌≡◌, refl, sym, ◌∙◌}
 use mathlib.Core.Bool.{Bool, true, false, true≢false}
 use Prim.Native.Nat.{ℕ, suc, ◌≤◌, ◌<◌}
@@ -9,8 +8,7 @@ use lib.Signed.{le_z}
 use mir.Facts.{to_z-of_z}
 use borrow.Author.Tests.{le-leb, lt-leb, leb-true, leb-false}
 use Rattle.world.specs.Calls.{is_in_reach}
-use Rattle.world_joins.proofs.joins.in_reach.Statement.{statement}
-use Rattle.world_joins.proofs.joins.in_reach.Tie as tie
+use Rattle.world_joins.proofs.joins.in_reach.Goals as goal
 
 below : (k : ℕ) → leb k 99999 ≡ leb (suc k) 100000
 below k = go (leb k 99999) refl
@@ -29,11 +27,8 @@ unfolding is_in_reach
 lower (pos k) e = absurd (true≢false e)
 lower (negsuc k) e = below k
 
-returns : tie.Need-returns
-returns c = rw (to_z-of_z c.before.ranges.z) (upper c.before.args.z (rw (to_z-of_z c.before.ranges.z) at c.if1.true))
+pub returns-then-z-geminus100000 : goal.returns-then-z-geminus100000
+returns-then-z-geminus100000 c = rw (to_z-of_z c.ranges.z) (upper c.args.z (rw (to_z-of_z c.ranges.z) at c.if-z-geminus100000.true))
 
-returns_2 : tie.Need-returns-2
-returns_2 c = rw (to_z-of_z c.before.ranges.z) (lower c.before.args.z (rw (to_z-of_z c.before.ranges.z) at c.if1.false))
-
-pub in-reach-spec : {M : Type 1} → statement M
-in-reach-spec = tie.close (tie.spec returns returns_2)
+pub returns-else-z-geminus100000 : goal.returns-else-z-geminus100000
+returns-else-z-geminus100000 c = rw (to_z-of_z c.ranges.z) (lower c.args.z (rw (to_z-of_z c.ranges.z) at c.if-z-geminus100000.false))

@@ -1,4 +1,3 @@
--- `world_joins::seats::place_of` meets its contract. Assumes nothing.
 use mathlib.Core.Path.{◌≡◌, refl, sym, ap}
 use mathlib.Core.Bool.{Bool, true, false, cond, true≢false}
 use Prim.Native.Nat.{ℕ, ◌≤◌, ◌<◌, ◌^◌}
@@ -12,8 +11,7 @@ use mir.Syntax.{w64}
 use mir.Val.{Fits}
 use borrow.Author.Tests.{lt-ltb, le-ltb, ltb-true}
 use Rattle.world.specs.Calls.{place_of}
-use Rattle.world_joins.proofs.seats.place_of.Statement.{statement}
-use Rattle.world_joins.proofs.seats.place_of.Tie as tie
+use Rattle.world_joins.proofs.seats.place_of.Goals as goal
 
 below : (n : ℕ) (z : ℤ) → lt_z z (pos 0) ≡ true → n ≡ place_of n z
 unfolding place_of
@@ -34,17 +32,14 @@ whole : (z : ℤ) → lt_z z (pos 0) ≡ false → mag z < 2 ^ 31 → T (non_neg
 whole (pos k) e h = (tt, Fits-of_lt {w = w64} (lt_of_lt_of_le h (lit≤ tt)))
 whole (negsuc k) e h = absurd (true≢false e)
 
-returns : tie.Need-returns
-returns c = below _ c.before.args.z (rw (to_z-of_z c.before.ranges.z) at c.if1.true)
+pub returns-then-z-lt0 : goal.returns-then-z-lt0
+returns-then-z-lt0 c = below _ c.args.z (rw (to_z-of_z c.ranges.z) at c.if-z-lt0.true)
 
-cast-k : tie.Need-overflow-cast-k
-cast-k c = rw (to_z-of_z c.before.ranges.z) (whole c.before.args.z (rw (to_z-of_z c.before.ranges.z) at c.if1.false) c.before.ranges.z.sfits)
+pub overflow_cast-k : goal.overflow_cast-k
+overflow_cast-k c = rw (to_z-of_z c.ranges.z) (whole c.args.z (rw (to_z-of_z c.ranges.z) at c.if-z-lt0.false) c.ranges.z.sfits)
 
-returns_2 : tie.Need-returns-2
-returns_2 c = rw (to_z-of_z c.before.before.ranges.z) (inside _ c.before.before.args.z (rw (to_z-of_z c.before.before.ranges.z) at c.before.if1.false) (rw (to_z-of_z c.before.before.ranges.z) at c.if2.true))
+pub returns-then-k-count : goal.returns-then-k-count
+returns-then-k-count c = rw (to_z-of_z c.ranges.z) (inside _ c.args.z (rw (to_z-of_z c.ranges.z) at c.if-z-lt0.false) (rw (to_z-of_z c.ranges.z) at c.if-k-count.true))
 
-returns-3 : tie.Need-returns-3
-returns-3 c = outside _ c.before.before.args.z (rw (to_z-of_z c.before.before.ranges.z) at c.before.if1.false) (rw (to_z-of_z c.before.before.ranges.z) at c.if2.false)
-
-pub place-of-spec : {M : Type 1} → statement M
-place-of-spec = tie.close (tie.spec returns cast-k returns_2 returns-3)
+pub returns-else-k-count : goal.returns-else-k-count
+returns-else-k-count c = outside _ c.args.z (rw (to_z-of_z c.ranges.z) at c.if-z-lt0.false) (rw (to_z-of_z c.ranges.z) at c.if-k-count.false)
