@@ -6,6 +6,7 @@ use mir.Facts.{to_z-of_z}
 use mathlib.Core.Path.{◌≡◌, sym, ap, ◌∙◌, subst}
 use Rattle.world.specs.Calls.{place_of, is_in_reach, join}
 use borrow.Author.Rules.{rules}
+use Rattle.world_joins.proofs.joins.join.Goals.{else-in_reach-via-then-in_reach+else-in_reach-2, else-in_reach-via-else-in_reach}
 use Rattle.world_joins.proofs.joins.join.Goals as goal
 
 pub join_at-requires : goal.join_at-requires
@@ -26,12 +27,12 @@ returns-then-at-lt-SEATS c =
     let a = c in
     let p : c.place_of-at.result ≡ place_of seats a.args.id = c.place_of-at.ensures ∙ ap (place_of seats) (to_z-of_z a.ranges.id) in
     let x : c.in_reach.result ≡ is_in_reach a.args.x = c.in_reach.ensures ∙ ap is_in_reach (to_z-of_z a.ranges.x) in
-    ⊎_elim
-    (λ w.
-    let y : _ ≡ is_in_reach a.args.y = w.1.ensures ∙ ap is_in_reach (to_z-of_z a.ranges.y) in
-    simp (← c.is_map.ensures, c.if-is_map.true, ← p, lt-ltb _ _ c.if-at-lt-SEATS.true, ← x, w.0.taken, ← y, w.2.left, ← c.refused.ensures))
-    (λ w. simp (← c.is_map.ensures, c.if-is_map.true, ← p, lt-ltb _ _ c.if-at-lt-SEATS.true, ← x, w.left, ← c.refused.ensures))
-    c.else-in_reach.branch
+    elim c.else-in_reach.branch
+    [ else-in_reach-via-then-in_reach+else-in_reach-2 w ↦
+      let y : _ ≡ is_in_reach a.args.y = w.in_reach-then-in_reach.ensures ∙ ap is_in_reach (to_z-of_z a.ranges.y) in
+      simp (← c.is_map.ensures, c.if-is_map.true, ← p, lt-ltb _ _ c.if-at-lt-SEATS.true, ← x, w.if-in_reach.true, ← y, w.if-in_reach-2.false, ← c.refused.ensures)
+    | else-in_reach-via-else-in_reach w ↦ simp (← c.is_map.ensures, c.if-is_map.true, ← p, lt-ltb _ _ c.if-at-lt-SEATS.true, ← x, w.if-in_reach.false, ← c.refused.ensures)
+    ]
 
 pub returns-then-is_map : goal.returns-then-is_map
 unfolding join

@@ -28,27 +28,28 @@ use Rattle.world.specs.Step.{tick_turn, tick_all}
 use Rattle.world_ticks.specs.Ticks.{ticks_of}
 use Rattle.world_ticks.proofs.Pulled.{pulled_there}
 use Rattle.world_ticks.proofs.ticking.tick_all.Goals.{After-held_seat-held}
+use Rattle.world_ticks.proofs.ticking.tick_all.Goals.{then-slot+in-To, else-slot}
 use Rattle.world_ticks.proofs.ticking.tick_all.Goals as goal
 
 module _ (s : Sides) (ts : List ℕ) (t : Tuning) (j : ℕ) (ss : List Slot) (k : OwnTick) (e : with_pull seats ss j t k ≡ tick_at seats (slot_at ss j).character j ss s ts (slot_at ss j).input t) where
   -- a tick: the pull is written at the held seat, then what is left of the own slot
   pub record Ticks (us : List Slot) : Type 0 where
     pub me : Character
-    pub onGround : Bool
+    pub on_ground : Bool
     pub held : ℕ
     pub pull : HookPull
     pub other : Slot
     pub mine : Slot
-    pub left : k ≡ own.To me onGround
+    pub left : k ≡ own.To me on_ground
     pub seat : held ≡ held_seat seats me.hook j
     pub pulls : pull ≡ pull_at me.pos j held (slot_at ss held).present (slot_at ss held).character.pos (slot_at ss held).character.vel t
     pub pulled : other ≡ pulled_slot (slot_at ss held) pull held
-    pub ticked : mine ≡ ticked_slot (slot_at (set ss held other) j) (record { me = me; pull = pull; grounded = onGround })
+    pub ticked : mine ≡ ticked_slot (slot_at (set ss held other) j) (record { me = me; pull = pull; grounded = on_ground })
     pub slots : us ≡ set (set ss held other) j mine
 
   module _ (us : List Slot) (r : Ticks us) where
     abbrev after : AfterTick
-    after = record { me = r.me; pull = r.pull; grounded = r.onGround }
+    after = record { me = r.me; pull = r.pull; grounded = r.on_ground }
 
     answer : tick_at seats (slot_at ss j).character j ss s ts (slot_at ss j).input t ≡ To after
     answer =
@@ -134,13 +135,13 @@ loop-id-preserved c =
     let a = c.args in
     let places = c.places_of-places.result in
     let h = c.loop-id-test.true in
-    ⊎_elim
-    (λ w.
-    let e = w.6.ensures l.all l.invariant.1 in
-    let r : Ticks a.sides a.tiles.now a.tuning l.id l.all w.6.result e c.if-slot.all = record { me = w.8.given.0.0; onGround = w.8.given.0.1.0; held = w.10.result; pull = w.12.result; other = w.13.result; mine = w.15.result; left = w.8.given.1; seat = w.10.ensures; pulls = w.12.ensures; pulled = w.13.ensures; ticked = w.15.ensures; slots = w.16 } in
-    (turn_on l.invariant.0 h (ticks a.sides a.tiles.now a.tuning l.id l.all w.6.result e c.if-slot.all r w.0.taken), stand a.sides a.tiles.now a.tuning l.id l.all w.6.result e c.if-slot.all r places.present places.xs places.ys l.invariant.1))
-    (λ w. (turn_on l.invariant.0 h (nobody a.sides a.tiles.now a.tuning l.id l.all c.if-slot.all w.0.left w.1), rw w.1 l.invariant.1))
-    c.if-slot.branch
+    elim c.if-slot.branch
+    [ then-slot+in-To w ↦
+      let e = w.tick_among-own.ensures l.all l.invariant.1 in
+      let r : Ticks a.sides a.tiles.now a.tuning l.id l.all w.tick_among-own.result e c.if-slot.all = record { me = w.in-To.me; on_ground = w.in-To.grounded; held = w.held_seat-held.result; pull = w.pull_by-pull.result; other = w.pulled.result; mine = w.ticked.result; left = w.in-To.is; seat = w.held_seat-held.ensures; pulls = w.pull_by-pull.ensures; pulled = w.pulled.ensures; ticked = w.ticked.ensures; slots = w.all-is } in
+      (turn_on l.invariant.0 h (ticks a.sides a.tiles.now a.tuning l.id l.all w.tick_among-own.result e c.if-slot.all r w.if-slot.true), stand a.sides a.tiles.now a.tuning l.id l.all w.tick_among-own.result e c.if-slot.all r places.present places.xs places.ys l.invariant.1)
+    | else-slot w ↦ (turn_on l.invariant.0 h (nobody a.sides a.tiles.now a.tuning l.id l.all c.if-slot.all w.if-slot.false w.all-is), rw w.all-is l.invariant.1)
+    ]
 
 pub returns : goal.returns
 returns c = sym (ap (ticks_of c.args.slots) (turn_end c.loop-id.invariant.0 c.loop-id-test.false))
