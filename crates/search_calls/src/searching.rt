@@ -43,7 +43,7 @@ fn first_of(
         let outcome = step_with(&mut next, sides, tiles, goal, buttons);
         let found = if more == 0 {
             outcome.arrives
-        } else if outcome.goes_on_lem {
+        } else if outcome.goes_on {
             first_of(&next, sides, tiles, goal, more - 1, way, at + 2)
         } else {
             false

@@ -23,7 +23,7 @@ pub const CHOICES: usize = 6;
 #[derive(Clone, Copy)]
 pub struct StepOutcome {
     pub arrives: bool,
-    pub goes_on_lem: bool,
+    pub goes_on: bool,
 }
 
 // By rising direction, then by rising jump.
@@ -118,11 +118,11 @@ pub fn step_with(
         let at = place_of(SEATS, goal.id);
         return StepOutcome {
             arrives: record_is_at(&records, at, goal),
-            goes_on_lem: is_set(world[seat_place(at)]),
+            goes_on: is_set(world[seat_place(at)]),
         };
     }
     StepOutcome {
         arrives: false,
-        goes_on_lem: false,
+        goes_on: false,
     }
 }

@@ -17,7 +17,7 @@ use map_tiles::{Sides, is_map};
 use map_walks::BoxWalk;
 use num_vec2::vec2;
 use world::Recorded;
-use world_step::record_of_lem;
+use world_step::record_of;
 
 // The record that a step takes of a seat that is alone, as its last record and its input have it.
 pub fn step_alone(
@@ -47,13 +47,13 @@ fn record_alone(me: Character, way: Way, sides: Sides, tiles: &[u8], tuning: Tun
 {
     match way {
         Way::TooFar => Recorded::Refused(TOO_FAR),
-        Way::Still(hook) => record_of_lem(move_alone(
+        Way::Still(hook) => record_of(move_alone(
             hooked_alone(me, hook, tuning),
             sides,
             tiles,
             tuning,
         )),
-        Way::Along(_, _, hook) => record_of_lem(move_alone(
+        Way::Along(_, _, hook) => record_of(move_alone(
             hooked_alone(me, hook, tuning),
             sides,
             tiles,

@@ -56,12 +56,12 @@ pub fn run_line(
             let ran = call_as(Role::Referee, world, sides, tiles, line);
             let next = put_told(buf, at, call as i32, ran);
             let after = ran.world;
-            goes_on_lem(call + 1, past, after, next)
+            goes_on(call + 1, past, after, next)
         }
     }
 }
 
-pub fn goes_on_lem(call: u32, place: usize, world: World, next: usize) -> Turned
+pub fn goes_on(call: u32, place: usize, world: World, next: usize) -> Turned
     ensures { result ≡ goes_on call place world next }
 {
     Turned {

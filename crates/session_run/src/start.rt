@@ -5,7 +5,7 @@ ghost use Rattle.text_map.specs.Map.{most_tiles};
 ghost use Rattle.text_writing.specs.Output.{most_line};
 ghost use Rattle.session_run.specs.Start.{Began};
 
-use crate::session_lines::{Turned, ended, goes_on_lem};
+use crate::session_lines::{Turned, ended, goes_on};
 use game_refusals::BAD_TEXT;
 use map_tiles::Sides;
 use text_map::{MOST_BYTES, MapPart, read_map};
@@ -51,7 +51,7 @@ pub fn begin(text: &[u8], tiles: &mut [u8], buf: &mut [u8]) -> Begun
                 height: height as u32,
             },
             count: width * height,
-            first: goes_on_lem(1, next, fresh(), end),
+            first: goes_on(1, next, fresh(), end),
         },
     }
 }

@@ -13,7 +13,7 @@ pub fn read(world: World, query: Query) -> Reading
     ensures { result ≡ read_of seats world query }
 {
     match query {
-        Query::Record(id) => record_of_lem(seated(world, id)),
+        Query::Record(id) => record_of(seated(world, id)),
         Query::FloorMark(id) => mark_of(seated(world, id)),
         Query::PlayerInput(id) => input_of(seated(world, id)),
         Query::Tuning(index) => tuning_now(world, index),
@@ -34,7 +34,7 @@ fn seated(world: World, id: i32) -> Seated
     Seated::Refused(BAD_ID)
 }
 
-fn record_of_lem(seated: Seated) -> Reading
+fn record_of(seated: Seated) -> Reading
     ensures { result ≡ of_seated record_now seated }
 {
     match seated {

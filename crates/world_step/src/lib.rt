@@ -7,5 +7,5 @@ mod removing;
 mod steps;
 
 pub use calling::run_call;
-pub use moving::{record_of_lem, unpublished};
+pub use moving::{record_of, unpublished};
 pub use steps::{refused, step};

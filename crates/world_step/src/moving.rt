@@ -62,7 +62,7 @@ pub fn move_all(slots: [Slot; SEATS], sides: Sides, tiles: &[u8], tuning: Tuning
         let slot = all[j];
         if slot.present {
             let me = slot.character;
-            match record_of_lem(me.move_among(j, &present, &xs, &ys, sides, tiles, tuning)) {
+            match record_of(me.move_among(j, &present, &xs, &ys, sides, tiles, tuning)) {
                 Recorded::Refused(number) => {
                     return refused(slots, number);
                 }
@@ -100,7 +100,7 @@ fn refused(slots: [Slot; SEATS], number: u32) -> Moves
 }
 
 // The record of what a move left, or the number that refuses it.
-pub fn record_of_lem(moved: MovedAt) -> Recorded
+pub fn record_of(moved: MovedAt) -> Recorded
     ensures { result ≡ record_of moved }
 {
     match moved {

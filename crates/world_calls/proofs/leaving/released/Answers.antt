@@ -1,4 +1,3 @@
--- `world_calls::leaving::released` meets its contract. Assumes nothing.
 use mathlib.Core.Bool.{false}
 use mathlib.Core.Path.{◌≡◌}
 use Prim.Native.Nat.{ℕ}
@@ -13,8 +12,8 @@ use Rattle.character.specs.Character.{with_hook}
 use Rattle.character.specs.Slot.{with_character}
 use Rattle.character.specs.declared.Slot.{Slot}
 use Rattle.world.specs.Calls.{released, released_slot}
-use Rattle.world_calls.proofs.leaving.released.Statement.{statement}
-use Rattle.world_calls.proofs.leaving.released.Tie as tie
+use borrow.Enum.Refused.{opened}
+use Rattle.world_calls.proofs.leaving.released.Goals as goal
 
 -- on plain values: nobody is held; another is; k is
 module _ (x : Slot) (k : ℕ) where
@@ -30,37 +29,13 @@ module _ (x : Slot) (k : ℕ) where
   unfolding released holds
   held c t e d = rw (e, eq-eqb c.0 k d)
 
-enum-known-hook : tie.Need-enum-known-hook
-enum-known-hook c = search rules
+pub returns-in_default : goal.returns-in_default
+returns-in_default c =
+    let a = c.args in
+    nobody a.slot a.at (not_grabbed (λ d t. eqb d.0 a.at) false a.slot.character.hook (opened c.in_default.in_default-own.keys2))
 
-returns : tie.Need-returns
-returns c =
-    let a = c.before.before.args in
-    nobody a.slot a.at (not_grabbed (λ d t. eqb d.0 a.at) false a.slot.character.hook c.match.keys2)
+pub returns-then-cid-at : goal.returns-then-cid-at
+returns-then-cid-at c = another _ _ _ _ c.in-Grabbed.is c.if-cid-at.true
 
-cast-if1 : tie.Need-overflow-cast-if1
-cast-if1 c = search rules
-
-returns_2 : tie.Need-returns-2
-returns_2 c = another _ _ _ _ c.before.before.before.hook.given.1 c.if1.true
-
-with-hook-requires : tie.Need-with-hook-requires
-with-hook-requires c κs = search rules
-
-with-character-requires : tie.Need-with-character-requires
-with-character-requires c κs = search rules
-
-returns-3 : tie.Need-returns-3
-returns-3 c = simp (c.with-character.ensures, c.before.with-hook.ensures) (held _ _ _ _ c.before.before.before.before.before.hook.given.1 c.before.before.if1.false)
-
-pub released-spec : {M : Type 1} → statement M
-released-spec =
-    tie.close
-    (tie.spec
-    enum-known-hook
-    returns
-    cast-if1
-    returns_2
-    with-hook-requires
-    with-character-requires
-    returns-3)
+pub returns : goal.returns
+returns c = simp (c.with_character.ensures, c.with_hook.ensures) (held _ _ _ _ c.in-Grabbed.is c.if-cid-at.false)
