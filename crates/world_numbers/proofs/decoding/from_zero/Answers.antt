@@ -1,4 +1,3 @@
--- `world_numbers::decoding::from_zero` meets its contract. Assumes nothing.
 use mathlib.Core.Bool.{true, false, true≢false}
 use mathlib.Core.Path.{◌≡◌, refl, ◌∙◌}
 use Prim.Native.Nat.{◌<◌}
@@ -8,8 +7,7 @@ use lib.Signed.{lt_z}
 use mir.Facts.{to_z-of_z}
 use borrow.Author.Tests.{ltb-true}
 use Rattle.world_numbers.specs.Decoding.{from_zero}
-use Rattle.world_numbers.proofs.decoding.from_zero.Statement.{statement}
-use Rattle.world_numbers.proofs.decoding.from_zero.Tie as tie
+use Rattle.world_numbers.proofs.decoding.from_zero.Goals as goal
 
 below : (z : ℤ) → lt_z z (pos 0) ≡ true → pos 0 ≡ from_zero z
 unfolding from_zero
@@ -21,11 +19,8 @@ unfolding from_zero
 above (pos k) e = refl
 above (negsuc k) e = absurd (true≢false e)
 
-returns : tie.Need-returns
-returns c = below c.before.args.z (rw (to_z-of_z c.before.ranges.z) at c.if1.true)
+pub returns-then-z-lt0 : goal.returns-then-z-lt0
+returns-then-z-lt0 c = below c.args.z (rw (to_z-of_z c.ranges.z) at c.if-z-lt0.true)
 
-returns_2 : tie.Need-returns-2
-returns_2 c = to_z-of_z c.before.ranges.z ∙ above c.before.args.z (rw (to_z-of_z c.before.ranges.z) at c.if1.false)
-
-pub from-zero-spec : {M : Type 1} → statement M
-from-zero-spec = tie.close (tie.spec returns returns_2)
+pub returns-else-z-lt0 : goal.returns-else-z-lt0
+returns-else-z-lt0 c = to_z-of_z c.ranges.z ∙ above c.args.z (rw (to_z-of_z c.ranges.z) at c.if-z-lt0.false)

@@ -1,4 +1,3 @@
--- `world_numbers::decoding::is_set` meets its contract. Assumes nothing.
 use mathlib.Core.Bool.{not}
 use mathlib.Core.Path.{◌≡◌, refl, sym, ap, ◌∙◌}
 use Prim.Native.Nat.{ℕ, zero, suc}
@@ -10,8 +9,7 @@ use mir.Syntax.{w32}
 use mir.Val.{SFits, to_z, of_z}
 use borrow.Author.Tests.{ne_eqb}
 use Rattle.world_numbers.specs.Decoding.{is_set}
-use Rattle.world_numbers.proofs.decoding.is_set.Statement.{statement}
-use Rattle.world_numbers.proofs.decoding.is_set.Tie as tie
+use Rattle.world_numbers.proofs.decoding.is_set.Goals as goal
 
 -- a number whose bits are 0 is 0
 zero_bits : (z : ℤ) → SFits w32 z → of_z w32 z ≡ 0 → z ≡ pos 0
@@ -23,8 +21,5 @@ present_is (pos zero) f = refl
 present_is (pos (suc k)) f = ap not (ne_eqb _ 0 (λ e. let h = zero_bits (pos (suc k)) f e in let n : ◌≡◌ {A = ℕ} (suc k) 0 = cc in omega arith))
 present_is (negsuc k) f = ap not (ne_eqb _ 0 (λ e. let h = zero_bits (negsuc k) f e in let n : ◌≡◌ {A = ℕ} 1 0 = cc in omega arith))
 
-returns : tie.Need-returns
+pub returns : goal.returns
 returns c = present_is c.args.z c.ranges.z
-
-pub is-set-spec : {M : Type 1} → statement M
-is-set-spec = tie.close (tie.spec returns)
