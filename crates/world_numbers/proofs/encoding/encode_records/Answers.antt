@@ -21,7 +21,7 @@ loop-i-preserved c =
     let l = c in
     let i = l.loop-i.i in
     let m : length l.args.records ≡ seats = search rules in
-    (omega arith, k.auto.0 ∙ l.loop-i.invariant.1, next_row record_numbers record_count record_long [] l.args.records _ i (record_count * i) (record_count * (i + 1)) l.loop-i.numbers k.new.0 r.result (omega arith) (omega arith) l.loop-i.invariant.2 r.ensures k.ensures (omega arith))
+    (omega arith, k.auto.numbers ∙ l.loop-i.invariant.1, next_row record_numbers record_count record_long [] l.args.records _ i (record_count * i) (record_count * (i + 1)) l.loop-i.numbers k.new.numbers r.result (omega arith) (omega arith) l.loop-i.invariant.2 r.ensures k.ensures (omega arith))
 
 pub returns : goal.returns
 unfolding records_encoding
