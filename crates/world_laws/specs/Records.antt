@@ -1,5 +1,5 @@
 -- The numbers of a record: what each is made of, and its range. Definitions only; proofs/Records.antt and proofs/Shape.antt prove it.
-use Rattle.std.specs.Prelude.{ℕ, ◌≤◌, ◌<◌, Bool, true, false, List, [], ◌∷◌, ◌⊎◌, ◌≡◌, Float, ℤ, pos, negsuc, ◌≤ℤ◌}
+use Rattle.std.specs.Prelude.{ℕ, ◌<◌, Bool, true, false, List, [], ◌∷◌, ◌⊎◌, ◌≡◌, Float, ℤ, pos, negsuc, ◌≤ℤ◌}
 use Rattle.std.specs.Float.{binary32}
 use Rattle.std.specs.Float.Ieee.{mul}
 use Rattle.num_convert.specs.Casts.{cast_signed}
