@@ -1,4 +1,4 @@
-// The slots of a world, lent as one slice and stepped there. The borrow checker covers no function over a reference to structs: `load`, `store` and `step_lent` are proved by hand.
+// The slots of a world, lent as one slice and stepped there.
 #![tactic(auto)]
 
 ghost use Rattle.std.specs.Prelude.{◌≡◌, length};
