@@ -1,4 +1,3 @@
--- `world_buffers::leaving::is_attached` meets its contract. Assumes nothing.
 use mathlib.Core.Path.{◌≡◌, refl}
 use Prim.Native.Nat.{ℕ}
 use native.Mathlib.Omega.{arith}
@@ -9,16 +8,12 @@ use mir.Val.{SFits, of_z}
 use borrow.Author.Tests.{ne_eqb}
 use Rattle.character_hook.proofs.States.{by_bits}
 use Rattle.world_buffers.specs.Leaving.{is_attached}
-use Rattle.world_buffers.proofs.leaving.is_attached.Statement.{statement}
-use Rattle.world_buffers.proofs.leaving.is_attached.Tie as tie
+use Rattle.world_buffers.proofs.leaving.is_attached.Goals as goal
 
 state_is : (z : ℤ) → SFits w32 z → eqb (of_z w32 z) 5 ≡ is_attached z
 unfolding is_attached
 state_is (pos n) f = refl
 state_is (negsuc n) f = ne_eqb _ 5 (λ e. let h = by_bits (negsuc n) 5 f e in let z : ◌≡◌ {A = ℕ} 0 1 = cc in omega arith)
 
-returns : tie.Need-returns
+pub returns : goal.returns
 returns c = state_is c.args.state c.ranges.state
-
-pub is-attached-spec : {M : Type 1} → statement M
-is-attached-spec = tie.close (tie.spec returns)
