@@ -22,7 +22,6 @@ use Rattle.character_hook.specs.Dragging.{dragged}
 use Rattle.character_hook.specs.Flying.{flown}
 use Rattle.character_hook.specs.Hooking.{grab, hold}
 use Rattle.character_hook.specs.declared.hook.Hook.{Hook}
-use Rattle.character_hook.specs.declared.hooking.Nearest.{Nearest}
 use Rattle.character_hook.specs.declared.hooking.Nearest.TheVariants as near
 use Rattle.character_hook.specs.declared.flying.Way.{Way}
 use Rattle.character_hook.specs.declared.flying.Way.TheVariants as way
