@@ -1,0 +1,6 @@
+use Rattle.send_rule.specs.Send.{filled}
+use Rattle.send_calls.proofs.sender.send_one.Goals as goal
+
+pub returns : goal.returns
+unfolding filled
+returns c = simp (c.item.ensures, c.item-items.ensures)
