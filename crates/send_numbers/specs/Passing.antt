@@ -1,4 +1,4 @@
--- What is passed along as a list of numbers: each thing begins with its kind. Definitions only; the way back is `readPassed` (send_numbers/specs/Reading.antt).
+-- What is passed along as a list of numbers: each thing begins with its kind. Definitions only; the way back is `read_passed` (send_numbers/specs/Reading.antt).
 use Rattle.std.specs.Prelude.{ℕ, ◌+◌, ◌*◌, List, [], ◌∷◌, ◌++◌, ℤ, pos}
 use Rattle.num_convert.specs.Casts.{cast_signed}
 use Rattle.game_records.specs.Numbers.{core_count, input_count, core_numbers, input_numbers}
