@@ -27,7 +27,7 @@ module _ {n : ℕ} {text : List ℕ} {s : Sides} {ts : List ℕ} where
   line-counts (LineRan.call c past before there is put) live = ap (λ (t : Turned). t.session.call) is
 
   -- lines do not lower the number that is due
-  lines_count : {b f : Session} {d e : List ℕ} {at k : ℕ} → LinesRan n text s ts b d at f e k → f.done ≡ false → b.call ≤ f.call
+  lines_count : {b : Session} {d : List ℕ} {at : ℕ} {f : Session} {e : List ℕ} {k : ℕ} → LinesRan n text s ts b d at f e k → f.done ≡ false → b.call ≤ f.call
   lines_count LinesRan.none live = omega arith
   lines_count (LinesRan.then f m k r e before on l) live = omega (arith, lines_count before on, line-counts l live)
 

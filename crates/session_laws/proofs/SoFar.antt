@@ -59,8 +59,8 @@ module _ {n : ℕ} {text : List ℕ} {s : Sides} {ts : List ℕ} where
       (w, written, subst (λ (t : Turned). SoFar n text s ts t.session (out ++ w)) (sym is) (going (cs ++ (c ∷ [])) refl (passed_call p c past refl there) (omega (arith, length-append cs (c ∷ []))) more))
 
   -- any number of lines more
-  after_lines : {b f : Session} {out d e : List ℕ} {k : ℕ} → SoFar n text s ts b out → LinesRan n text s ts b d 0 f e k → (w : List ℕ) × Put d 0 w e k × SoFar n text s ts f (out ++ w)
-  after_lines {b} {out = out} {d = d} h LinesRan.none = ([], record { bytes = put_none d 0; place = refl }, subst (SoFar n text s ts b) (sym (append-nil out)) h)
+  after_lines : {b : Session} {d : List ℕ} {f : Session} {out e : List ℕ} {k : ℕ} → SoFar n text s ts b out → LinesRan n text s ts b d 0 f e k → (w : List ℕ) × Put d 0 w e k × SoFar n text s ts f (out ++ w)
+  after_lines {b} {d} {out = out} h LinesRan.none = ([], record { bytes = put_none d 0; place = refl }, subst (SoFar n text s ts b) (sym (append-nil out)) h)
   after_lines {out = out} h (LinesRan.then f m k r e before live l) =
       let (w, p, g) = after_lines h before in
       let (v, q, i) = after_line g live l in

@@ -36,7 +36,7 @@ module _ {n : ℕ} {text : List ℕ} {s : Sides} {ts : List ℕ} where
   line_within (LineRan.call c past before there is written) l = put_within l written
 
   -- what lines wrote
-  pub lines_within : {b f : Session} {d e : List ℕ} {at k : ℕ} → LinesRan n text s ts b d at f e k → at ≤ length d → k ≤ length e
+  pub lines_within : {b : Session} {d : List ℕ} {at : ℕ} {f : Session} {e : List ℕ} {k : ℕ} → LinesRan n text s ts b d at f e k → at ≤ length d → k ≤ length e
   lines_within LinesRan.none l = l
   lines_within (LinesRan.then f m k r e before live ran) l = line_within ran (lines_within before l)
 
