@@ -1,9 +1,9 @@
-use Prim.Native.Nat.{◌*◌}
+use Prim.Native.Nat.{ℕ, ◌-◌, ◌*◌, ◌≤◌, ◌<◌}
 use mathlib.Core.List.{List}
 use mathlib.Core.Path.{◌≡◌, sym, ap, ◌∙◌}
 use native.Mathlib.Omega.{arith}
 use lib.IntN.{ℤ}
-use lib.ListN.{length, drop}
+use lib.ListN.{length, take, drop}
 use mir.Facts.{to_z-of_z}
 use borrow.Author.Rules.{rules}
 use Rattle.base_rows.proofs.Puts.{put_end}
@@ -18,19 +18,12 @@ use Rattle.world_numbers.proofs.RowsIn.{to_end}
 use Rattle.send_numbers.specs.Copies.{copy_in, copy_count, screen_decoding}
 use Rattle.send_numbers.proofs.CopiesBack.{copy_is}
 use Rattle.send_buffers.proofs.Taken.{shown_wrong_screen, shown-wrong-record, shown-no-seat, shown-none, shown-is}
-use Rattle.send_buffers.proofs.screens.shown_in.Goals.{After-copy_at-shown, After-place_of-at}
 use Rattle.send_buffers.proofs.screens.shown_in.Goals as goal
 
--- the place that the id names, and the copy that is read there
-place_is : (c : After-place_of-at) → c.place_of-at.result ≡ place_of seats c.args.id
-place_is c = c.place_of-at.ensures ∙ ap (place_of seats) (to_z-of_z c.ranges.id)
-
-copy_is_read : (c : After-copy_at-shown) → copy_at (screen_decoding seats c.args.screen.now).copies c.place_of-at.result ≡ c.copy_at-shown.result
+-- the copy that is read at a place
+copy_is_read : (l : List ℤ) (k : ℕ) (r : Copy) → k < seats → tuning_count ≤ length l → r ≡ copy_in (drop (copy_count * k) (take (length l - tuning_count) (drop tuning_count l))) → copy_at (screen_decoding seats l).copies k ≡ r
 unfolding screen_decoding
-copy_is_read c =
-    let l = c.args.screen.now in
-    let k = c.place_of-at.result in
-    copy_is seats k (drop tuning_count l) c.if-at-ge-SEATS.false ∙ ap (λ (m : List ℤ). copy_in (drop (copy_count * k) m)) (sym (to_end tuning_count l (omega arith))) ∙ sym c.copy_at-shown.ensures
+copy_is_read l k r h m e = copy_is seats k (drop tuning_count l) h ∙ ap (λ (m : List ℤ). copy_in (drop (copy_count * k) m)) (sym (to_end tuning_count l m)) ∙ sym e
 
 pub returns-then-screen-ne-SCREEN : goal.returns-then-screen-ne-SCREEN
 returns-then-screen-ne-SCREEN c = let a = c.args in shown_wrong_screen a.screen.now a.id a.«record».now c.if-screen-ne-SCREEN.true
@@ -39,22 +32,22 @@ pub returns-then-record-ne-CORE : goal.returns-then-record-ne-CORE
 returns-then-record-ne-CORE c = let a = c.args in shown-wrong-record a.screen.now a.id a.«record».now c.if-screen-ne-SCREEN.false c.if-record-ne-CORE.true
 
 pub returns-then-at-ge-SEATS : goal.returns-then-at-ge-SEATS
-returns-then-at-ge-SEATS c = let b = c.before in let a = b.args in shown-no-seat a.screen.now a.id a.«record».now b.if-screen-ne-SCREEN.false b.if-record-ne-CORE.false b.place_of-at.result (place_is b) c.if-at-ge-SEATS.true
+returns-then-at-ge-SEATS c = let b = c in let a = b.args in shown-no-seat a.screen.now a.id a.«record».now b.if-screen-ne-SCREEN.false b.if-record-ne-CORE.false b.place_of-at.result (c.place_of-at.ensures ∙ ap (place_of seats) (to_z-of_z c.ranges.id)) c.if-at-ge-SEATS.true
 
 pub returns-then-shown : goal.returns-then-shown
 returns-then-shown c =
-    let d = c.before.before.before.before.before.before in
-    let b = d.before.before.before in
+    let d = c in
+    let b = c in
     let a = b.args in
-    let s = copy_is_read d in
+    let s = copy_is_read c.args.screen.now c.place_of-at.result c.copy_at-shown.result c.if-at-ge-SEATS.false (omega arith) c.copy_at-shown.ensures in
     let r = c.core_numbers-core in
     let n : length r.result ≡ core_count = ap length r.ensures ∙ core_long _ in
     let g = b.if-record-ne-CORE.false in
-    shown-is a.screen.now a.id a.«record».now b.if-screen-ne-SCREEN.false g b.place_of-at.result (place_is b) c.copy.new.numbers d.if-at-ge-SEATS.false (ap (λ (x : Copy). x.kept) s ∙ c.if-shown.true) (c.copy.ensures ∙ put_end _ 0 _ (omega arith) ∙ r.ensures ∙ ap (λ (x : Copy). core_numbers x.core) (sym s))
+    shown-is a.screen.now a.id a.«record».now b.if-screen-ne-SCREEN.false g b.place_of-at.result (c.place_of-at.ensures ∙ ap (place_of seats) (to_z-of_z c.ranges.id)) c.copy.new.numbers d.if-at-ge-SEATS.false (ap (λ (x : Copy). x.kept) s ∙ c.if-shown.true) (c.copy.ensures ∙ put_end _ 0 _ (omega arith) ∙ r.ensures ∙ ap (λ (x : Copy). core_numbers x.core) (sym s))
 
 pub returns : goal.returns
 returns c =
-    let d = c.before in
-    let b = d.before.before.before in
+    let d = c in
+    let b = c in
     let a = b.args in
-    shown-none a.screen.now a.id a.«record».now b.if-screen-ne-SCREEN.false b.if-record-ne-CORE.false b.place_of-at.result (place_is b) d.if-at-ge-SEATS.false (ap (λ (x : Copy). x.kept) (copy_is_read d) ∙ c.if-shown.false)
+    shown-none a.screen.now a.id a.«record».now b.if-screen-ne-SCREEN.false b.if-record-ne-CORE.false b.place_of-at.result (c.place_of-at.ensures ∙ ap (place_of seats) (to_z-of_z c.ranges.id)) d.if-at-ge-SEATS.false (ap (λ (x : Copy). x.kept) (copy_is_read c.args.screen.now c.place_of-at.result c.copy_at-shown.result c.if-at-ge-SEATS.false (omega arith) c.copy_at-shown.ensures) ∙ c.if-shown.false)

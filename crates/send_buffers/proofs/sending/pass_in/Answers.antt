@@ -15,7 +15,7 @@ returns-then-passed-ne-PASSED c = let a = c.args in let e = no_room a.world.now 
 pub keep_sent-requires : goal.keep_sent-requires
 keep_sent-requires c =
     let s = c.send-called in
-    (c.if-sender-ne-SENDER.false, c.if-passed-ne-PASSED.false, count_fits _ s.result.sending s.ensures.1 (simp length-map at s.type_inv.1.1.1.0.1.1.1.1.0.1.0.1))
+    (c.if-sender-ne-SENDER.false, c.if-passed-ne-PASSED.false, count_fits _ s.result.sending s.ensures.1 s.type_inv.1.1.1.0.1.1.1.1.0.1.0.1)
 
 pub returns : goal.returns
 returns c =

@@ -8,4 +8,4 @@ pub returns-then-sender-ne-SENDER : goal.returns-then-sender-ne-SENDER
 returns-then-sender-ne-SENDER c = fresh_wrong _ _ c.args.sender.now c.if-sender-ne-SENDER.true
 
 pub returns : goal.returns
-returns c = let k = c.encode_copies in fresh_right _ _ c.args.sender.now k.new.numbers c.if-sender-ne-SENDER.false (k.ensures ∙ ap copies_encoding c.no_Copies.ensures)
+returns c = let k = c.encode_copies in fresh_right _ _ c.args.sender.now k.new.numbers c.if-sender-ne-SENDER.false (k.ensures ∙ ap copies_encoding c.no_copies.ensures)
