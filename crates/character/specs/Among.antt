@@ -1,7 +1,7 @@
 -- A tick in two parts: what it leaves of its own character, for which places are enough, and whom its hook pulls. Definitions only.
 use Rattle.std.specs.Prelude.{ℕ, Bool, true, cond, List, eqb, ltb}
 use Rattle.num_vec2.specs.declared.vec2.{vec2}
-use Rattle.character_hook.specs.Hook.{id_of, onGrabbed}
+use Rattle.character_hook.specs.Hook.{id_of, on_grabbed}
 use Rattle.character_hook.specs.declared.hook.Hook.{Hook}
 use Rattle.character_meeting.specs.Meeting.{is_beyond, pull_on}
 use Rattle.character_meeting.specs.declared.meeting.HookPull.{HookPull}
@@ -16,7 +16,7 @@ use Rattle.character.specs.declared.tick.TickedAt.TheVariants as at
 
 -- the seat of whom a hook holds; the own one where it holds nobody who has a seat
 unfoldable pub held_seat : ℕ → Hook → ℕ → ℕ
-held_seat n h own = onGrabbed (λ cid ticks. cond (ltb cid.0 n) cid.0 own) own h
+held_seat n h own = on_grabbed (λ cid ticks. cond (ltb cid.0 n) cid.0 own) own h
 
 -- whether a meeting with whoever is at q may change a velocity: near, or at the held seat
 unfoldable pub may_meet : vec2 → vec2 → ℕ → ℕ → Bool
@@ -29,4 +29,4 @@ pull_at p own held present q u t = cond (eqb held own) Nobody (cond present (pul
 -- the whole tick: the own character with whom its hook pulls
 abbrev pub with_pull : ℕ → List Slot → ℕ → Tuning → OwnTick → TickedAt
 with_pull n ss id t own.TooFar = at.TooFar
-with_pull n ss id t (own.To me onGround) = at.To (record { me = me; pull = pull_of n ss id me.pos me.hook t; grounded = onGround })
+with_pull n ss id t (own.To me on_ground) = at.To (record { me = me; pull = pull_of n ss id me.pos me.hook t; grounded = on_ground })

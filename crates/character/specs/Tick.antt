@@ -7,7 +7,7 @@ use Rattle.num_convert.specs.Number.{c0}
 use Rattle.num_vec2.specs.Vec2.{vnew}
 use Rattle.num_vec2.specs.declared.vec2.{vec2}
 use Rattle.game_input.specs.declared.direction.MoveDirection.TheVariants.{Left}
-use Rattle.character_hook.specs.Hook.{id_of, onGrabbed}
+use Rattle.character_hook.specs.Hook.{id_of, on_grabbed}
 use Rattle.character_hook.specs.declared.hook.CharacterId.{CharacterId}
 use Rattle.character_hook.specs.declared.hook.Hook.{Hook}
 use Rattle.character_hook.specs.declared.hook.Hook.TheVariants.{Retracted}
@@ -54,15 +54,15 @@ slot_at ss j = get_or ss j nowhere
 
 -- direction and angle, gravity and jump, the hook's button, walking and friction
 unfoldable pub steer : Character → Bool → PlayerInput → Tuning → Character
-steer c onGround i t =
+steer c on_ground i t =
     let direction = move_direction i in
-    let jumped = jump (record { vel_y = add binary32 c.vel.y t.gravity; jumped_already = c.jumped_already; used_airjump = c.used_airjump }) (jumps i) onGround t in
+    let jumped = jump (record { vel_y = add binary32 c.vel.y t.gravity; jumped_already = c.jumped_already; used_airjump = c.used_airjump }) (jumps i) on_ground t in
     record {
       pos = c.pos;
-      vel = vnew (walk c.vel.x direction (control_of onGround t)) jumped.vel_y;
+      vel = vnew (walk c.vel.x direction (control_of on_ground t)) jumped.vel_y;
       hook = fire c.hook (hooks i) c.pos (target_dir i);
       jumped_already = jumped.jumped_already;
-      used_airjump = landed onGround jumped.used_airjump;
+      used_airjump = landed on_ground jumped.used_airjump;
       angle = aim i;
       move_direction = direction;
     }
@@ -101,7 +101,7 @@ pull_from n ss id p t cid ticks =
 
 -- whom the hook pulls, and the velocity that it leaves them
 unfoldable pub pull_of : ℕ → List Slot → ℕ → vec2 → Hook → Tuning → HookPull
-pull_of n ss id p h t = onGrabbed (pull_from n ss id p t) pull.Nobody h
+pull_of n ss id p h t = on_grabbed (pull_from n ss id p t) pull.Nobody h
 
 -- the slots with that velocity
 unfoldable pub after_pull : List Slot → HookPull → List Slot
@@ -115,20 +115,20 @@ pulled_slot s (pull.Of cid v) j = cond (eqb cid.0 j) (with_character s (with_vel
 
 -- after the flight: the drag of an attached hook, the count of a held one, the others, the clamp, and whom the hook pulls
 unfoldable pub hooked : ℕ → Character → Bool → Hook → ℕ → List Slot → Tuning → AfterTick
-hooked n c onGround h id ss t =
+hooked n c on_ground h id ss t =
     let vel = meet_all n ss id c.pos (dragged h c.pos c.vel c.move_direction t) (hold h t.hook_hold) t in
-    record { me = with_vel (with_hook c (hold h t.hook_hold)) (clamp_speed vel); pull = pull_of n ss id c.pos (hold h t.hook_hold) t; grounded = onGround }
+    record { me = with_vel (with_hook c (hold h t.hook_hold)) (clamp_speed vel); pull = pull_of n ss id c.pos (hold h t.hook_hold) t; grounded = on_ground }
 
 -- a hook that would fly too far refuses the tick
 abbrev pub ticked : ℕ → Character → Bool → ℕ → List Slot → Tuning → HookFlight → TickedAt
-ticked n c onGround id ss t TooFar = at.TooFar
-ticked n c onGround id ss t (To h) = at.To (hooked n c onGround h id ss t)
+ticked n c on_ground id ss t TooFar = at.TooFar
+ticked n c on_ground id ss t (To h) = at.To (hooked n c on_ground h id ss t)
 
 unfoldable pub tick_at : ℕ → Character → ℕ → List Slot → Sides → List ℕ → PlayerInput → Tuning → TickedAt
 tick_at n c id ss s ts i t =
-    let onGround = grounded s ts c.pos in
-    let steered = steer c onGround i t in
-    ticked n steered onGround id ss t (flight n steered.hook c.pos id ss s ts t)
+    let on_ground = grounded s ts c.pos in
+    let steered = steer c on_ground i t in
+    ticked n steered on_ground id ss t (flight n steered.hook c.pos id ss s ts t)
 
 -- what its own tick leaves of a slot: the character, and the floor mark
 abbrev pub ticked_slot : Slot → AfterTick → Slot

@@ -5,14 +5,14 @@ use Prim.Native.Nat.{ℕ}
 use types.Run.{OneOf, miss}
 use denote.Enum.Declared.{tag_of}
 use Rattle.character_hook.specs.contracts.hook.Hook.{the_type}
-use Rattle.character_hook.specs.Hook.{onFlying, onAttached, onGrabbed}
+use Rattle.character_hook.specs.Hook.{on_flying, on_attached, on_grabbed}
 use Rattle.character_hook.specs.declared.hook.CharacterId.{CharacterId}
 use Rattle.character_hook.specs.declared.hook.Hook.{Hook}
 use Rattle.character_hook.specs.declared.hook.Hook.TheVariants.{Retracted, Idle, Flying, Grabbed, Attached, Retracting0, Retracting1, Retracting2}
 use Rattle.num_vec2.specs.declared.vec2.{vec2}
 
 module _ {A : Type 0} (f : vec2 → vec2 → A) (e : A) where
-  pub not_flying : (h : Hook) → OneOf (0 ∷ 1 ∷ 3 ∷ 4 ∷ 5 ∷ 6 ∷ 7 ∷ []) (tag_of the_type h) → onFlying f e h ≡ e
+  pub not_flying : (h : Hook) → OneOf (0 ∷ 1 ∷ 3 ∷ 4 ∷ 5 ∷ 6 ∷ 7 ∷ []) (tag_of the_type h) → on_flying f e h ≡ e
   not_flying Retracted k = refl
   not_flying Idle k = refl
   not_flying (Flying p d) k = absurd (miss (0 ∷ 1 ∷ 3 ∷ 4 ∷ 5 ∷ 6 ∷ 7 ∷ []) 2 tt k)
@@ -23,7 +23,7 @@ module _ {A : Type 0} (f : vec2 → vec2 → A) (e : A) where
   not_flying (Retracting2 p) k = refl
 
 module _ {A : Type 0} (f : CharacterId → ℕ → A) (e : A) where
-  pub not_grabbed : (h : Hook) → OneOf (0 ∷ 1 ∷ 2 ∷ 4 ∷ 5 ∷ 6 ∷ 7 ∷ []) (tag_of the_type h) → onGrabbed f e h ≡ e
+  pub not_grabbed : (h : Hook) → OneOf (0 ∷ 1 ∷ 2 ∷ 4 ∷ 5 ∷ 6 ∷ 7 ∷ []) (tag_of the_type h) → on_grabbed f e h ≡ e
   not_grabbed Retracted k = refl
   not_grabbed Idle k = refl
   not_grabbed (Flying p d) k = refl
@@ -34,7 +34,7 @@ module _ {A : Type 0} (f : CharacterId → ℕ → A) (e : A) where
   not_grabbed (Retracting2 p) k = refl
 
 module _ {A : Type 0} (f : vec2 → A) (e : A) where
-  pub not_attached : (h : Hook) → OneOf (0 ∷ 1 ∷ 2 ∷ 3 ∷ 5 ∷ 6 ∷ 7 ∷ []) (tag_of the_type h) → onAttached f e h ≡ e
+  pub not_attached : (h : Hook) → OneOf (0 ∷ 1 ∷ 2 ∷ 3 ∷ 5 ∷ 6 ∷ 7 ∷ []) (tag_of the_type h) → on_attached f e h ≡ e
   not_attached Retracted k = refl
   not_attached Idle k = refl
   not_attached (Flying p d) k = refl

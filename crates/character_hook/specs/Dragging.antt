@@ -8,7 +8,7 @@ use Rattle.num_vec2.specs.Vec2.{vnew, vadd, vsub, vmul, vlength, vnormalize, vdi
 use Rattle.num_vec2.specs.declared.vec2.{vec2}
 use Rattle.game_input.specs.Direction.{as_float}
 use Rattle.game_input.specs.declared.direction.MoveDirection.{MoveDirection}
-use Rattle.character_hook.specs.Hook.{onAttached}
+use Rattle.character_hook.specs.Hook.{on_attached}
 use Rattle.character_hook.specs.declared.hook.Hook.{Hook}
 use Rattle.game_tuning.specs.declared.Tuning.{Tuning}
 
@@ -41,4 +41,4 @@ drag p v q d t =
 
 -- an attached hook drags, no other
 unfoldable pub dragged : Hook → vec2 → vec2 → MoveDirection → Tuning → vec2
-dragged h p v d t = onAttached (λ q. drag p v q d t) v h
+dragged h p v d t = on_attached (λ q. drag p v q d t) v h

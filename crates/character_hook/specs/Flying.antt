@@ -1,7 +1,7 @@
 -- The flight of a hook in `tick` of lib.rs, as far as nobody else is in it. Definitions only.
 use Rattle.std.specs.Prelude.{ℕ, List}
 use Rattle.num_vec2.specs.declared.vec2.{vec2}
-use Rattle.character_hook.specs.Hook.{onFlying}
+use Rattle.character_hook.specs.Hook.{on_flying}
 use Rattle.character_hook.specs.declared.hook.Hook.{Hook}
 use Rattle.game_tuning.specs.declared.Tuning.{Tuning}
 use Rattle.map_tiles.specs.declared.tiles.Sides.{Sides}
@@ -20,4 +20,4 @@ struck_on from f (line.Met hit) = Along from f.to (strike f.hook hit)
 
 -- a flying hook goes its way; any other leaves early, and one that comes back does so
 unfoldable pub flown : Hook → vec2 → Sides → List ℕ → Tuning → Way
-flown h p s ts t = onFlying (λ from d. struck_on from (fly from d p t) (walk_line s ts from (fly from d p t).to)) (Still (retract h)) h
+flown h p s ts t = on_flying (λ from d. struck_on from (fly from d p t) (walk_line s ts from (fly from d p t).to)) (Still (retract h)) h

@@ -36,49 +36,49 @@ net_pos (Retracting1 p) = p
 net_pos (Retracting2 p) = p
 
 -- f of a Flying hook's position and direction, e of any other
-abbrev pub onFlying {ℓ} : {A : Type ℓ} → (vec2 → vec2 → A) → A → Hook → A
-onFlying f e Retracted = e
-onFlying f e Idle = e
-onFlying f e (Flying p d) = f p d
-onFlying f e (Grabbed c t) = e
-onFlying f e (Attached p) = e
-onFlying f e (Retracting0 p) = e
-onFlying f e (Retracting1 p) = e
-onFlying f e (Retracting2 p) = e
+abbrev pub on_flying {ℓ} : {A : Type ℓ} → (vec2 → vec2 → A) → A → Hook → A
+on_flying f e Retracted = e
+on_flying f e Idle = e
+on_flying f e (Flying p d) = f p d
+on_flying f e (Grabbed c t) = e
+on_flying f e (Attached p) = e
+on_flying f e (Retracting0 p) = e
+on_flying f e (Retracting1 p) = e
+on_flying f e (Retracting2 p) = e
 
 -- f of where an Attached hook is, e of any other
-abbrev pub onAttached {ℓ} : {A : Type ℓ} → (vec2 → A) → A → Hook → A
-onAttached f e Retracted = e
-onAttached f e Idle = e
-onAttached f e (Flying p d) = e
-onAttached f e (Grabbed c t) = e
-onAttached f e (Attached p) = f p
-onAttached f e (Retracting0 p) = e
-onAttached f e (Retracting1 p) = e
-onAttached f e (Retracting2 p) = e
+abbrev pub on_attached {ℓ} : {A : Type ℓ} → (vec2 → A) → A → Hook → A
+on_attached f e Retracted = e
+on_attached f e Idle = e
+on_attached f e (Flying p d) = e
+on_attached f e (Grabbed c t) = e
+on_attached f e (Attached p) = f p
+on_attached f e (Retracting0 p) = e
+on_attached f e (Retracting1 p) = e
+on_attached f e (Retracting2 p) = e
 
 -- f of who a Grabbed hook holds and for how long, e of any other
-abbrev pub onGrabbed {ℓ} : {A : Type ℓ} → (CharacterId → ℕ → A) → A → Hook → A
-onGrabbed f e Retracted = e
-onGrabbed f e Idle = e
-onGrabbed f e (Flying p d) = e
-onGrabbed f e (Grabbed c t) = f c t
-onGrabbed f e (Attached p) = e
-onGrabbed f e (Retracting0 p) = e
-onGrabbed f e (Retracting1 p) = e
-onGrabbed f e (Retracting2 p) = e
+abbrev pub on_grabbed {ℓ} : {A : Type ℓ} → (CharacterId → ℕ → A) → A → Hook → A
+on_grabbed f e Retracted = e
+on_grabbed f e Idle = e
+on_grabbed f e (Flying p d) = e
+on_grabbed f e (Grabbed c t) = f c t
+on_grabbed f e (Attached p) = e
+on_grabbed f e (Retracting0 p) = e
+on_grabbed f e (Retracting1 p) = e
+on_grabbed f e (Retracting2 p) = e
 
 -- where a Flying hook is bound
 unfoldable pub net_dir : Hook → vec2
-net_dir h = onFlying (λ p d. d) (vnew c0 c0) h
+net_dir h = on_flying (λ p d. d) (vnew c0 c0) h
 
 -- for how many ticks somebody is held
 unfoldable pub tick_of : Hook → ℕ
-tick_of h = onGrabbed (λ c t. t) 0 h
+tick_of h = on_grabbed (λ c t. t) 0 h
 
 -- who is held, as the bits of an i32; -1 for nobody
 unfoldable pub net_hooked_player : Hook → ℤ
-net_hooked_player h = onGrabbed (λ c t. cast_signed c.0) (negsuc 0) h
+net_hooked_player h = on_grabbed (λ c t. cast_signed c.0) (negsuc 0) h
 
 -- a hooked player of -1 is nobody
 abbrev pub nobody : ℤ → Bool
@@ -87,7 +87,7 @@ nobody (negsuc k) = eqb k 0
 
 -- whether it holds the character k
 unfoldable pub holds : Hook → ℕ → Bool
-holds h k = onGrabbed (λ c t. eqb c.0 k) false h
+holds h k = on_grabbed (λ c t. eqb c.0 k) false h
 
 -- state 5 of a record: Attached where nobody is held, else the player's bits and the tick's as u32
 unfoldable pub attached_or_grabbed : vec2 → ℤ → Tick → Hook

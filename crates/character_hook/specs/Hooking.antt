@@ -5,7 +5,7 @@ use Rattle.num_convert.specs.Number.{c1_5}
 use Rattle.game_constants.specs.Constants.{character_size}
 use Rattle.num_vec2.specs.Vec2.{vadd, vsub, vmul, vnormalize, vdistance, closest_point_on_line}
 use Rattle.num_vec2.specs.declared.vec2.{vec2}
-use Rattle.character_hook.specs.Hook.{onGrabbed}
+use Rattle.character_hook.specs.Hook.{on_grabbed}
 use Rattle.character_hook.specs.declared.hook.CharacterId.{CharacterId}
 use Rattle.character_hook.specs.declared.hook.Hook.{Hook}
 use Rattle.character_hook.specs.declared.hook.Hook.TheVariants.{Retracted, Idle, Flying, Grabbed, Attached, Retracting0, Retracting1, Retracting2}
@@ -83,4 +83,4 @@ abbrev pub held : ℤ → CharacterId → ℕ → Hook
 held z c t = cond (ltb (hold_of z) (t + 1)) Retracted (Grabbed c (t + 1))
 
 unfoldable pub hold : Hook → ℤ → Hook
-hold h z = onGrabbed (held z) h h
+hold h z = on_grabbed (held z) h h

@@ -29,7 +29,7 @@ use Rattle.character.specs.declared.Slot.{Slot}
 use Rattle.character.specs.declared.tick.HookFlight.{HookFlight}
 use Rattle.character.specs.declared.tick.HookFlight.TheVariants.{TooFar, To}
 use Rattle.character.specs.Tick.{slot_at, steer, caught, flight, meet_turn, meet_all, pull_from, pull_of, hooked, ticked, tick_at}
-use Rattle.character_laws.proofs.Choices.{either, on_grabbed}
+use Rattle.character_laws.proofs.Choices.{either, on_grabbed_lem}
 use Rattle.character_laws.proofs.Others.{Then}
 
 same : (v : vec2) (b : Bool) → cond b v v ≡ v
@@ -64,7 +64,7 @@ module _ (t : Tuning) (collision : ne t.player_collision c0 ≡ false) (hooking 
   unfolding pull_of
   pull-alone n ss id p h =
       let Is : HookPull → Type 0 = λ k. k ≡ Nobody in
-      on_grabbed Is Nobody refl (pull_from n ss id p t) h (λ c k. let o = slot_at ss c.0 in either Is (ltb c.0 n) (either Is (eqb c.0 id) refl (either Is o.present (pull_on_alone p c o.character.pos o.character.vel) refl)) refl)
+      on_grabbed_lem Is Nobody refl (pull_from n ss id p t) h (λ c k. let o = slot_at ss c.0 in either Is (ltb c.0 n) (either Is (eqb c.0 id) refl (either Is o.present (pull_on_alone p c o.character.pos o.character.vel) refl)) refl)
 
   -- a hook passes everybody
   caught-alone : (n : ℕ) (w : Way) (id : ℕ) (ss us : List Slot) → caught n w id ss t.player_hooking ≡ caught n w id us t.player_hooking

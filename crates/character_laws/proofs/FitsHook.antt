@@ -158,10 +158,10 @@ caught_place n (way.Along from to h) id ss hooking f = either FitsPlace (ne hook
 pub tick_place : (n : ℕ) (c : Character) (id : ℕ) (ss : List Slot) (s : Sides) (ts : List ℕ) (i : PlayerInput) (t : Tuning) → FitsPair c.pos → FitsPlace c.hook → Then (λ a. FitsPair a.me.pos × FitsPlace a.me.hook) (tick_at n c id ss s ts i t)
 unfolding tick_at steer hooked
 tick_place n c id ss s ts i t p f =
-    let onGround = grounded s ts c.pos in
-    let d = steer c onGround i t in
-    go d onGround p (flight n d.hook c.pos id ss s ts t) (caught_place n (flown d.hook c.pos s ts t) id ss t.player_hooking (flown_place d.hook c.pos s ts t (fire_place c.hook _ c.pos _ f)))
+    let on_ground = grounded s ts c.pos in
+    let d = steer c on_ground i t in
+    go d on_ground p (flight n d.hook c.pos id ss s ts t) (caught_place n (flown d.hook c.pos s ts t) id ss t.player_hooking (flown_place d.hook c.pos s ts t (fire_place c.hook _ c.pos _ f)))
   where
-    go : (d : Character) (onGround : Bool) → FitsPair d.pos → (f : HookFlight) → FitsFlight f → Then (λ a. FitsPair a.me.pos × FitsPlace a.me.hook) (ticked n d onGround id ss t f)
-    go d onGround q reach.TooFar k = tt
-    go d onGround q (reach.To h) k = (q, hold_place t.hook_hold h k)
+    go : (d : Character) (on_ground : Bool) → FitsPair d.pos → (f : HookFlight) → FitsFlight f → Then (λ a. FitsPair a.me.pos × FitsPlace a.me.hook) (ticked n d on_ground id ss t f)
+    go d on_ground q reach.TooFar k = tt
+    go d on_ground q (reach.To h) k = (q, hold_place t.hook_hold h k)

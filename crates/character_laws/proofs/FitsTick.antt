@@ -40,7 +40,7 @@ use Rattle.character.specs.declared.tick.HookFlight.{HookFlight}
 use Rattle.character.specs.declared.tick.HookFlight.TheVariants.{TooFar, To}
 use Rattle.character.specs.Character.{with_vel}
 use Rattle.character.specs.Tick.{slot_at, nowhere, steer, flight, meet_turn, meet_all, pull_from, pull_of, after_pull, hooked, ticked, tick_at}
-use Rattle.character_laws.proofs.Choices.{either, on_attached, on_grabbed}
+use Rattle.character_laws.proofs.Choices.{either, on_attached_lem, on_grabbed_lem}
 use Rattle.character_laws.proofs.Others.{Then}
 use Rattle.character_laws.proofs.Slots.{set_every}
 
@@ -84,7 +84,7 @@ drag_fits p v q d t h =
 
 dragged_fits : (h : Hook) (p v : vec2) (d : MoveDirection) (t : Tuning) → FitsPair v → FitsPair (dragged h p v d t)
 unfolding dragged
-dragged_fits h p v d t k = on_attached FitsPair v k (λ q. drag p v q d t) h (λ q. drag_fits p v q d t k)
+dragged_fits h p v d t k = on_attached_lem FitsPair v k (λ q. drag p v q d t) h (λ q. drag_fits p v q d t k)
 
 -- ---- two that meet
 
@@ -118,20 +118,20 @@ module _ (tunings : List ℤ) where
   unfolding tuning_at hundredths_to_f32
   tuning_fits i = div-fits binary32 (i32_to_f32 (get_or tunings i (pos 0))) c100
 
-  control_fits : (onGround : Bool) → T (fits binary32 (control_of onGround t).max_speed)
+  control_fits : (on_ground : Bool) → T (fits binary32 (control_of on_ground t).max_speed)
   unfolding control_of tuning_of
   control_fits true = tuning_fits 0
   control_fits false = tuning_fits 5
 
-  jump_fits : (j : JumpState) (pressed onGround : Bool) → T (fits binary32 j.vel_y) → T (fits binary32 (jump j pressed onGround t).vel_y)
+  jump_fits : (j : JumpState) (pressed on_ground : Bool) → T (fits binary32 j.vel_y) → T (fits binary32 (jump j pressed on_ground t).vel_y)
   unfolding jump tuning_of
-  jump_fits j pressed onGround h =
+  jump_fits j pressed on_ground h =
       let P : JumpState → Type 0 = λ k. T (fits binary32 k.vel_y) in
-      either P pressed (either P j.jumped_already h (either P onGround (neg-fits binary32 _ (tuning_fits 3)) (either P j.used_airjump h (neg-fits binary32 _ (tuning_fits 4))))) h
+      either P pressed (either P j.jumped_already h (either P on_ground (neg-fits binary32 _ (tuning_fits 3)) (either P j.used_airjump h (neg-fits binary32 _ (tuning_fits 4))))) h
 
-  steer_fits : (c : Character) (onGround : Bool) (i : PlayerInput) → FitsPair c.vel → FitsPair (steer c onGround i t).vel
+  steer_fits : (c : Character) (on_ground : Bool) (i : PlayerInput) → FitsPair c.vel → FitsPair (steer c on_ground i t).vel
   unfolding steer
-  steer_fits c onGround i h = (walk_fits c.vel.x _ _ (control_fits onGround) h.0, jump_fits _ _ onGround (add-fits binary32 c.vel.y t.gravity))
+  steer_fits c on_ground i h = (walk_fits c.vel.x _ _ (control_fits on_ground) h.0, jump_fits _ _ on_ground (add-fits binary32 c.vel.y t.gravity))
 
   pulled_fits : (p q u : vec2) (distance : Float) → FitsPair u → FitsPair (meeting.pulled p q u distance t)
   unfolding meeting.pulled tuning_of
@@ -150,7 +150,7 @@ module _ (tunings : List ℤ) where
   meet_fits p v h q cid k =
       let w = meeting.push p v q (vdistance p q) t.player_collision in
       let b : FitsPair w = push_fits p v q (vdistance p q) t.player_collision k in
-      on_grabbed FitsPair w b (meeting.drag_if p w q t cid) h (λ c n. either FitsPair (eqb c.0 cid.0) (held_fits p w q b) b)
+      on_grabbed_lem FitsPair w b (meeting.drag_if p w q t cid) h (λ c n. either FitsPair (eqb c.0 cid.0) (held_fits p w q b) b)
 
   turn_fits : (ss : List Slot) (id : ℕ) (p : vec2) (h : Hook) (j : ℕ) (v : vec2) → FitsPair v → FitsPair (meet_turn ss id p h t j v)
   turn_fits ss id p h j v k = let o = slot_at ss j in either FitsPair (eqb j id) k (either FitsPair o.present (meet_fits p v h o.character.pos (id_of j) k) k)
@@ -166,7 +166,7 @@ module _ (tunings : List ℤ) where
   pull_of_fits : (n : ℕ) (ss : List Slot) (id : ℕ) (p : vec2) (h : Hook) → FitsSlots ss → FitsPull (pull_of n ss id p h t)
   unfolding pull_of
   pull_of_fits n ss id p h l =
-      on_grabbed FitsPull pull.Nobody tt (pull_from n ss id p t) h (λ c k. let o = slot_at ss c.0 in either FitsPull (ltb c.0 n) (either FitsPull (eqb c.0 id) tt (either FitsPull o.present (pull_on_fits p c o.character.pos o.character.vel (l c.0)) tt)) tt)
+      on_grabbed_lem FitsPull pull.Nobody tt (pull_from n ss id p t) h (λ c k. let o = slot_at ss c.0 in either FitsPull (ltb c.0 n) (either FitsPull (eqb c.0 id) tt (either FitsPull o.present (pull_on_fits p c o.character.pos o.character.vel (l c.0)) tt)) tt)
 
   ticked_fits : (n : ℕ) (c : Character) (g : Bool) (id : ℕ) (ss : List Slot) (f : HookFlight) → FitsPair c.vel → FitsSlots ss → Then FitsAfter (ticked n c g id ss t f)
   unfolding hooked

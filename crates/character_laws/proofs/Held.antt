@@ -29,7 +29,7 @@ use Rattle.map_walks.specs.declared.moves.BoxWalk.{BoxWalk}
 use Rattle.map_walks.specs.declared.moves.BoxWalk.TheVariants as box
 use Rattle.character_motion.specs.Controls.{grounded}
 use Rattle.character_walk.specs.Walking.{ramped_move}
-use Rattle.character_hook.specs.Hook.{id_of, onGrabbed, holds, net_state, net_hooked_player, attached_or_grabbed, hook_from_net}
+use Rattle.character_hook.specs.Hook.{id_of, on_grabbed, holds, net_state, net_hooked_player, attached_or_grabbed, hook_from_net}
 use Rattle.character_hook.specs.Hooking.{fired, fire, fly, strike, closer, nearer, grab, retract, hold}
 use Rattle.character_hook.specs.Flying.{struck_on, flown}
 use Rattle.character_hook.specs.declared.hook.Hook.{Hook}
@@ -55,7 +55,7 @@ use Rattle.character_laws.proofs.Others.{Then}
 
 -- ---- nobody is held but who has P
 abbrev pub Only : (ℕ → Type 0) → Hook → Type 0
-Only P h = onGrabbed (λ c t. P c.0) (Unit {0}) h
+Only P h = on_grabbed (λ c t. P c.0) (Unit {0}) h
 
 pub only_holds : (P : ℕ → Type 0) (h : Hook) (k : ℕ) → Only P h → holds h k ≡ true → P k
 unfolding holds
@@ -182,13 +182,13 @@ module _ (P : ℕ → Type 0) where
     pub tick-only : (n : ℕ) (c : Character) (id : ℕ) (s : Sides) (ts : List ℕ) (i : PlayerInput) (t : Tuning) → Only P c.hook → Then (λ a. Only P a.me.hook) (tick_at n c id ss s ts i t)
     unfolding tick_at steer hooked
     tick-only n c id s ts i t k =
-        let onGround = grounded s ts c.pos in
-        let d = steer c onGround i t in
-        go d onGround (flight n d.hook c.pos id ss s ts t) (caught-only n (flown d.hook c.pos s ts t) id t.player_hooking (flown_only d.hook c.pos s ts t (fire_only c.hook _ c.pos _ k)))
+        let on_ground = grounded s ts c.pos in
+        let d = steer c on_ground i t in
+        go d on_ground (flight n d.hook c.pos id ss s ts t) (caught-only n (flown d.hook c.pos s ts t) id t.player_hooking (flown_only d.hook c.pos s ts t (fire_only c.hook _ c.pos _ k)))
       where
-        go : (d : Character) (onGround : Bool) (f : HookFlight) → FlightOnly f → Then (λ a. Only P a.me.hook) (ticked n d onGround id ss t f)
-        go d onGround reach.TooFar q = tt
-        go d onGround (reach.To h) q = hold_only t.hook_hold h q
+        go : (d : Character) (on_ground : Bool) (f : HookFlight) → FlightOnly f → Then (λ a. Only P a.me.hook) (ticked n d on_ground id ss t f)
+        go d on_ground reach.TooFar q = tt
+        go d on_ground (reach.To h) q = hold_only t.hook_hold h q
 
   -- ---- a record, and back: who is held is read as nobody else
   player_only : (m : ℕ) (p : vec2) (t : Tick) → P m → Only P (attached_or_grabbed p (cast_signed m) t)

@@ -27,7 +27,7 @@ use Rattle.character.specs.declared.tick.TickedAt.{TickedAt}
 use Rattle.character.specs.declared.tick.TickedAt.TheVariants as at
 use Rattle.character.specs.Character.{with_vel}
 use Rattle.character.specs.Tick.{slot_at, nowhere, steer, flight, pull_from, pull_of, after_pull, hooked, ticked, tick_at}
-use Rattle.character_laws.proofs.Choices.{either, on_grabbed}
+use Rattle.character_laws.proofs.Choices.{either, on_grabbed_lem}
 use Rattle.character_laws.proofs.Slots.{set_every}
 
 -- a fact of what a tick leaves that is not refused
@@ -60,7 +60,7 @@ There ss (Of k v) = (slot_at ss k.0).present ≡ true
 
 pull_there : (n : ℕ) (ss : List Slot) (id : ℕ) (p : vec2) (h : Hook) (t : Tuning) → There ss (pull_of n ss id p h t)
 unfolding pull_of pull_on
-pull_there n ss id p h t = on_grabbed (There ss) Nobody tt (pull_from n ss id p t) h (λ k ticks. go k (ltb k.0 n) (eqb k.0 id) (slot_at ss k.0).present refl)
+pull_there n ss id p h t = on_grabbed_lem (There ss) Nobody tt (pull_from n ss id p t) h (λ k ticks. go k (ltb k.0 n) (eqb k.0 id) (slot_at ss k.0).present refl)
   where
     go : (k : CharacterId) (a b d : Bool) → (slot_at ss k.0).present ≡ d → There ss (cond a (cond b Nobody (cond d (pull_on p k (slot_at ss k.0).character.pos (slot_at ss k.0).character.vel t) Nobody)) Nobody)
     go k false b d e = tt

@@ -8,7 +8,7 @@ use Rattle.num_convert.specs.Number.{c0}
 use Rattle.num_vec2.specs.declared.vec2.{vec2}
 use Rattle.num_vec2.specs.Vec2.{vdistance}
 use Rattle.game_tuning.specs.declared.Tuning.{Tuning}
-use Rattle.character_hook.specs.Hook.{onGrabbed, holds}
+use Rattle.character_hook.specs.Hook.{on_grabbed, holds}
 use Rattle.character_hook.specs.declared.hook.CharacterId.{CharacterId}
 use Rattle.character_hook.specs.declared.hook.Hook.{Hook}
 use Rattle.character_hook.specs.declared.hook.Hook.TheVariants.{Retracted, Idle, Flying, Grabbed, Attached, Retracting0, Retracting1, Retracting2}
@@ -28,7 +28,7 @@ far_push p v q collision h = rw (far_from c1225 c35 rooted_1225 p q (subst T (sy
     same false = refl
 
 -- the drag of a hook that does not hold the character cid
-not_dragged : (p v q : vec2) (t : Tuning) (cid : CharacterId) (h : Hook) → holds h cid.0 ≡ false → v ≡ onGrabbed (drag_if p v q t cid) v h
+not_dragged : (p v q : vec2) (t : Tuning) (cid : CharacterId) (h : Hook) → holds h cid.0 ≡ false → v ≡ on_grabbed (drag_if p v q t cid) v h
 unfolding holds
 not_dragged p v q t cid Retracted k = refl
 not_dragged p v q t cid Idle k = refl

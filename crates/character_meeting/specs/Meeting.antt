@@ -6,7 +6,7 @@ use Rattle.num_convert.specs.Number.{c0, c1, saturated_add, c1_5, c0_75}
 use Rattle.game_constants.specs.Constants.{character_size}
 use Rattle.num_vec2.specs.Vec2.{vnew, vadd, vsub, vmul, vlength, vnormalize, vdistance, vdot}
 use Rattle.num_vec2.specs.declared.vec2.{vec2}
-use Rattle.character_hook.specs.Hook.{onGrabbed}
+use Rattle.character_hook.specs.Hook.{on_grabbed}
 use Rattle.character_hook.specs.declared.hook.CharacterId.{CharacterId}
 use Rattle.character_hook.specs.declared.hook.Hook.{Hook}
 use Rattle.game_tuning.specs.declared.Tuning.{Tuning}
@@ -100,4 +100,4 @@ drag_if p v q t cid hooked ticks = cond (eqb hooked.0 cid.0) (held p v q t) v
 
 -- p, v and the hook are of the character that ticks, q of the character cid: the own velocity after a collision, then the drag
 unfoldable pub meet : vec2 → vec2 → Hook → vec2 → CharacterId → Tuning → vec2
-meet p v h q cid t = let w = push p v q (vdistance p q) t.player_collision in onGrabbed (drag_if p w q t cid) w h
+meet p v h q cid t = let w = push p v q (vdistance p q) t.player_collision in on_grabbed (drag_if p w q t cid) w h

@@ -31,17 +31,17 @@ control_of false t = record { max_speed = t.air_control_speed; accel = t.air_con
 
 -- a button that is pressed anew jumps: from the ground, or from the air where the air jump is not used
 unfoldable pub jump : JumpState → Bool → Bool → Tuning → JumpState
-jump j pressed onGround t =
+jump j pressed on_ground t =
     cond pressed
     (cond j.jumped_already j
-    (cond onGround (record { vel_y = neg t.ground_jump_impulse; jumped_already = true; used_airjump = j.used_airjump })
+    (cond on_ground (record { vel_y = neg t.ground_jump_impulse; jumped_already = true; used_airjump = j.used_airjump })
     (cond j.used_airjump (record { vel_y = j.vel_y; jumped_already = true; used_airjump = j.used_airjump })
     (record { vel_y = neg t.air_jump_impulse; jumped_already = true; used_airjump = true }))))
     (record { vel_y = j.vel_y; jumped_already = false; used_airjump = j.used_airjump })
 
 -- on the ground the air jump is not used
 unfoldable pub landed : Bool → Bool → Bool
-landed onGround used = cond onGround false used
+landed on_ground used = cond on_ground false used
 
 -- friction where there is no direction
 abbrev pub slowed : MoveDirection → Float → Float → Float

@@ -44,6 +44,6 @@ on_deadly s ts p = any_corner deadly s ts p character_box
 unfoldable pub vquantize : vec2 → vec2
 vquantize p = vnew (quantize p.x) (quantize p.y)
 
--- `anyCorner` by the columns and rows that the corners are in
+-- `any_corner` by the columns and rows that the corners are in
 unfoldable pub corner_tiles : (Tile → Bool) → Sides → List ℕ → ℕ → ℕ → ℕ → ℕ → Bool
 corner_tiles f s ts left right top bottom = f (tile_in s ts right bottom) || f (tile_in s ts left top) || f (tile_in s ts right top) || f (tile_in s ts left bottom)

@@ -28,7 +28,7 @@ unfoldable pub box_turns : Float → ℕ
 box_turns dist = cond (lt least_dist dist) (count (round_to_i32 dist) + 1) 0
 
 abbrev pub body_of : Float → Float → Float → Float → Body
-body_of x y velX velY = record { pos = vnew x y; vel = vnew velX velY }
+body_of x y vel_x vel_y = record { pos = vnew x y; vel = vnew vel_x vel_y }
 
 -- what a turn leaves that meets something solid at new: a coordinate that is in the way stays, and its speed is lost; where neither is, both
 unfoldable pub blocked : Sides → List ℕ → Body → vec2 → vec2 → Body

@@ -72,27 +72,27 @@ module _ (n k : ℕ) (l : k < n) (s : Sides) (ts : List ℕ) (t : Tuning) where
     abbrev ticked : Hook → List Slot
     ticked h = set ss k (own h)
 
-    abbrev afterFlight : HookFlight → Turn (List Slot) ℕ
-    afterFlight TooFar = stop too_far
-    afterFlight (To h) = more (ticked h)
+    abbrev after_flight : HookFlight → Turn (List Slot) ℕ
+    after_flight TooFar = stop too_far
+    after_flight (To h) = more (ticked h)
 
     abbrev flies : HookFlight
     flies = flown_to (flown steered.hook x.character.pos s ts t)
 
-    lands : (f : HookFlight) → after_tick ss k (ticked_to steered grounds t f) ≡ afterFlight f
+    lands : (f : HookFlight) → after_tick ss k (ticked_to steered grounds t f) ≡ after_flight f
     unfolding after_pull
     lands TooFar = refl
     lands (To h) = ap (λ (y : Slot). more (set ss k (ticked_slot y (record { me = hooked_alone steered h t; pull = pull.Nobody; grounded = grounds })))) at
 
-    own-tick : tick_turn n s ts t k ss ≡ afterFlight flies
+    own-tick : tick_turn n s ts t k ss ≡ after_flight flies
     own-tick = ap (λ (y : Slot). cond y.present (after_tick ss k (tick_at n y.character k ss s ts y.input t)) (more ss)) at ∙ ap (λ (b : Bool). cond b (after_tick ss k (tick_at n x.character k ss s ts x.input t)) (more ss)) there ∙ ap (after_tick ss k) (tick_lonely n k ss lone x.character s ts x.input t) ∙ lands flies
 
     -- nobody comes
-    landed-lonely : (f : HookFlight) (u : List Slot) → afterFlight f ≡ more u → Lonely k u
+    landed-lonely : (f : HookFlight) (u : List Slot) → after_flight f ≡ more u → Lonely k u
     landed-lonely TooFar u e = let z : ◌≡◌ {A = ℕ} 0 1 = cc in absurd (omega arith)
     landed-lonely (To h) u e = let z : ticked h ≡ u = cc in subst (Lonely k) z (set_lonely ss (own h) full lone)
 
-    ticks-alone : tick_all n ss s ts t ≡ afterFlight flies
+    ticks-alone : tick_all n ss s ts t ≡ after_flight flies
     unfolding tick_all
     ticks-alone = one_acts (tick_turn n s ts t) n 0 k ss (omega arith) (omega arith) (tick_none ss lone) (λ u e. tick_none u (landed-lonely flies u (sym own-tick ∙ e))) ∙ own-tick
 
@@ -124,7 +124,7 @@ module _ (n k : ℕ) (l : k < n) (s : Sides) (ts : List ℕ) (t : Tuning) where
           let mine : slot_at us k ≡ with_character (own h) (from_net core) = set_there (ticked h) (with_character (slot_at (ticked h) k) (from_net core)) size ∙ ap (λ (y : Slot). with_character y (from_net core)) (set_there ss (own h) full) in
           (refl, ap (λ (p : Published). p.core) (get_or-set_same (replicate n unpublished) k (record { present = true; core = core }) unpublished (omega (arith, l, length-replicate n unpublished))), ap (is_in k) (listed_ids n (dying n s ts us)) ∙ dying_are n s ts us k l ∙ ap (λ (y : Slot). y.present && on_deadly s ts y.character.pos) mine ∙ ap (λ (b : Bool). b && on_deadly s ts (from_net core).pos) there)
 
-    answers : (w : World) (f : HookFlight) → ToldAlone s ts k (step_answer n w s ts (next (λ us. move_all n us s ts t) (afterFlight f))) (record_alone s ts t steered f)
+    answers : (w : World) (f : HookFlight) → ToldAlone s ts k (step_answer n w s ts (next (λ us. move_all n us s ts t) (after_flight f))) (record_alone s ts t steered f)
     answers w TooFar = refl
     answers w (To h) = subst (λ (a : Turn Moving ℕ). ToldAlone s ts k (step_answer n w s ts a) (taken h)) (sym (moves-alone h)) (told h w (taken h))
 

@@ -37,7 +37,7 @@ use Rattle.character.specs.declared.tick.HookFlight.{HookFlight}
 use Rattle.character.specs.declared.tick.HookFlight.TheVariants.{TooFar, To}
 use Rattle.character.specs.declared.tick.TickedAt.{TickedAt}
 use Rattle.character.specs.declared.tick.TickedAt.TheVariants as at
-use Rattle.character_laws.proofs.Choices.{either, on_grabbed}
+use Rattle.character_laws.proofs.Choices.{either, on_grabbed_lem}
 use Rattle.world.proofs.Seats.{by_test}
 use Rattle.send_alone.specs.Alone.{flown_to, hooked_alone, rest_alone, after_box_alone, move_alone}
 use Rattle.send_alone.proofs.Only.{none_acts}
@@ -79,7 +79,7 @@ module _ (n k : ℕ) (ss : List Slot) (lone : Lonely k ss) where
   unfolding pull_of
   pull-nobody p h t =
       let Is : HookPull → Type 0 = λ x. x ≡ pull.Nobody in
-      on_grabbed Is pull.Nobody refl (pull_from n ss k p t) h (λ c m. either Is (ltb c.0 n) (skips c.0 pull.Nobody _) refl)
+      on_grabbed_lem Is pull.Nobody refl (pull_from n ss k p t) h (λ c m. either Is (ltb c.0 n) (skips c.0 pull.Nobody _) refl)
 
   hooked-nobody : (c : Character) (g : Bool) (h : Hook) (t : Tuning) → hooked n c g h k ss t ≡ record { me = hooked_alone c h t; pull = pull.Nobody; grounded = g }
   unfolding hooked

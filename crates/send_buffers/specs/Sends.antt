@@ -73,7 +73,7 @@ pub record LeftBySendStep : Type 0 where
   pub left : LeftByStep
   pub sent : SenderBuffers
 
--- a step as `stepIn` makes it, told in t
+-- a step as `step_in` makes it, told in t
 unfoldable pub send_step_in : Sides → List ℕ → List ℤ → StepBuffers → SenderBuffers → LeftBySendStep
 send_step_in s ts l t b =
     cond (has world_count l && has records_count t.records && has seats t.removed && has_room b)

@@ -57,31 +57,31 @@ module _ (n : ℕ) (s : Sides) (ts : List ℕ) where
   -- ---- the screen after what is passed along
   module _ (w : World) (cs : List Copy) where
     -- a screen with these copies, under the tunings of w
-    abbrev pub screenOf : List Copy → Screen
-    screenOf us = record { copies = us; tunings = w.tunings }
+    abbrev pub screen_of : List Copy → Screen
+    screen_of us = record { copies = us; tunings = w.tunings }
 
     abbrev Received : Sent → Type 0
-    Received m = receive_all n s ts (screenOf cs) m.passed ≡ screenOf m.copies
+    Received m = receive_all n s ts (screen_of cs) m.passed ≡ screen_of m.copies
 
     turn : (a : Stepped) (i : ℕ) (m : Sent) → Received m → Received (send_turn w a i m)
-    turn a i m h = by_test Received ((slot_at w.slots i).present && due (copy_at m.copies i) (taken_at a i)) (λ e. receive-append (screenOf cs) m.passed (message_of w a i ∷ []) ∙ ap (λ (z : Screen). receive n s ts z (message_of w a i)) h) (λ e. h)
+    turn a i m h = by_test Received ((slot_at w.slots i).present && due (copy_at m.copies i) (taken_at a i)) (λ e. receive-append (screen_of cs) m.passed (message_of w a i ∷ []) ∙ ap (λ (z : Screen). receive n s ts z (message_of w a i)) h) (λ e. h)
 
     -- after the mark and the messages
-    pub messages-received : (a : Stepped) → receive_all n s ts (screenOf cs) (send_messages n s ts w a cs).passed ≡ screenOf (send_messages n s ts w a cs).copies
+    pub messages-received : (a : Stepped) → receive_all n s ts (screen_of cs) (send_messages n s ts w a cs).passed ≡ screen_of (send_messages n s ts w a cs).copies
     unfolding send_messages
     messages-received a = fold-kept (send_turn w a) Received (turn a) n 0 (record { copies = step_copies n s ts w.tunings cs; passed = passed.Mark ∷ [] }) refl
 
     -- after the removals
-    pub removals-received : (a : Stepped) (ks : List ℕ) → receive_all n s ts (screenOf cs) (send_removals ks (send_messages n s ts w a cs)).passed ≡ screenOf (dropped ks (send_messages n s ts w a cs).copies)
-    removals-received a ks = receive-append (screenOf cs) (send_messages n s ts w a cs).passed (map passed.Removal ks) ∙ ap (λ (z : Screen). receive_all n s ts z (map passed.Removal ks)) (messages-received a) ∙ receive_removals ks (screenOf (send_messages n s ts w a cs).copies)
+    pub removals-received : (a : Stepped) (ks : List ℕ) → receive_all n s ts (screen_of cs) (send_removals ks (send_messages n s ts w a cs)).passed ≡ screen_of (dropped ks (send_messages n s ts w a cs).copies)
+    removals-received a ks = receive-append (screen_of cs) (send_messages n s ts w a cs).passed (map passed.Removal ks) ∙ ap (λ (z : Screen). receive_all n s ts z (map passed.Removal ks)) (messages-received a) ∙ receive_removals ks (screen_of (send_messages n s ts w a cs).copies)
 
     abbrev Next : Call → Sent → Type 0
-    Next c m = receive_all n s ts (screenOf cs) m.passed ≡ record { copies = m.copies; tunings = (ran n s ts w c).world.tunings }
+    Next c m = receive_all n s ts (screen_of cs) m.passed ≡ record { copies = m.copies; tunings = (ran n s ts w c).world.tunings }
 
     abbrev Tuned : World → Type 0
     Tuned v = v.tunings ≡ w.tunings
 
-    onto : (us : List Copy) (t : List ℤ) → t ≡ w.tunings → screenOf us ≡ record { copies = us; tunings = t }
+    onto : (us : List Copy) (t : List ℤ) → t ≡ w.tunings → screen_of us ≡ record { copies = us; tunings = t }
     onto us t e = ap (λ (x : List ℤ). record { copies = us; tunings = x }) (sym e)
 
     accepted-received : (c : Call) → (ran n s ts w c).number ≡ 0 → Next c (send_accepted n s ts w cs c)

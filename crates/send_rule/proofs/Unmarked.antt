@@ -19,7 +19,7 @@ use Rattle.map_tiles.specs.Map.{is_map}
 use Rattle.map_tiles.specs.declared.tiles.Sides.{Sides}
 use Rattle.map_walks.specs.declared.moves.BoxWalk.{BoxWalk}
 use Rattle.map_walks.specs.declared.moves.BoxWalk.TheVariants as box
-use Rattle.character_hook.specs.Hook.{onGrabbed}
+use Rattle.character_hook.specs.Hook.{on_grabbed}
 use Rattle.character_hook.specs.Hooking.{hold}
 use Rattle.character_hook.specs.Dragging.{dragged}
 use Rattle.character_hook.specs.Flying.{flown}
@@ -93,7 +93,7 @@ module _ (n : ℕ) (ss : List Slot) (id : ℕ) where
 
   pull_without : (p : vec2) (h : Hook) (t : Tuning) → pull_of n (without_marks ss) id p h t ≡ pull_of n ss id p h t
   unfolding pull_of
-  pull_without p h t = ap (λ (f : CharacterId → ℕ → HookPull). onGrabbed f pull.Nobody h) (fun_ext (λ c. fun_ext (λ k. rw (without_at ss c.0))))
+  pull_without p h t = ap (λ (f : CharacterId → ℕ → HookPull). on_grabbed f pull.Nobody h) (fun_ext (λ c. fun_ext (λ k. rw (without_at ss c.0))))
 
   ticked_without : (c : Character) (g : Bool) (t : Tuning) (f : HookFlight) → ticked n c g id (without_marks ss) t f ≡ ticked n c g id ss t f
   unfolding hooked

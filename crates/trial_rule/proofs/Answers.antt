@@ -165,20 +165,20 @@ module _ (n : ℕ) (s : Sides) (ts : List ℕ) where
     abbrev es : List Entrant
     es = entrants joins targets
 
-    abbrev joinBy : Entrant → Call
-    joinBy e = Join e.id e.x e.y
+    abbrev join_by : Entrant → Call
+    join_by e = Join e.id e.x e.y
 
     lent : Lent joins targets players es
     lent = entrants_lent joins targets players h g
 
-    call_at : (i : ℕ) → i < players → get_or (joins_of es) i (joinBy nobody) ≡ join_of joins i
-    call_at i l = get_or-map joinBy es i nobody ∙ ap joinBy (lent.each i l nobody)
+    call_at : (i : ℕ) → i < players → get_or (joins_of es) i (join_by nobody) ≡ join_of joins i
+    call_at i l = get_or-map join_by es i nobody ∙ ap join_by (lent.each i l nobody)
 
     calls-before : (i : ℕ) → i ≤ players → take i (joins_of es) ≡ joins_before joins i
     calls-before zero l = refl
     calls-before (suc i) l =
-        let m : length (joins_of es) ≡ players = length-map es joinBy ∙ lent.count in
-        take-suc (joins_of es) i (joinBy nobody) (omega (arith, m, l)) ∙ ap₂ (λ (cs : List Call) (c : Call). cs ++ (c ∷ [])) (calls-before i (omega arith)) (call_at i (omega arith))
+        let m : length (joins_of es) ≡ players = length-map es join_by ∙ lent.count in
+        take-suc (joins_of es) i (join_by nobody) (omega (arith, m, l)) ∙ ap₂ (λ (cs : List Call) (c : Call). cs ++ (c ∷ [])) (calls-before i (omega arith)) (call_at i (omega arith))
 
     number_at : (i : ℕ) → i < players → number_in (joins_of es) (fresh n) i ≡ join_number n s ts joins i
     number_at i l = ap₂ (λ (cs : List Call) (c : Call). (ran n s ts (after n s ts (fresh n) cs) c).number) (calls-before i (omega arith)) (call_at i l)

@@ -74,9 +74,9 @@ pub same_start : {x y : Trying} → ◌≡◌ {A = Turn Trying ℕ} (more x) (mo
 same_start r = cc
 
 pub independent : (n : ℕ) → Independent n
-independent n s ts joins targets steps tunings result otherTunings otherResult i j p q h k e =
+independent n s ts joins targets steps tunings result other_tunings other_result i j p q h k e =
     let a = rows_tell n s ts joins targets tunings steps result p in
-    let b = rows_tell n s ts joins targets otherTunings steps otherResult q in
+    let b = rows_tell n s ts joins targets other_tunings steps other_result q in
     let m : more a.start ≡ more b.start = sym a.accepted ∙ b.accepted in
     let t : a.start ≡ b.start = same_start m in
     a.rows i h ∙ ap₂ (λ (zs : List ℤ) (u : Trying). tried_numbers (tried n s ts (count steps) (tuned_to zs u))) e t ∙ sym (b.rows j k)

@@ -41,10 +41,10 @@ RowsTell n = (s : Sides) (ts : List ℕ) (joins targets tunings : List ℤ) (ste
 
 -- two trials of the same joins, targets and steps on one map: equal tunings have equal rows, whatever the other tunings are, and wherever each stands
 abbrev pub Independent : ℕ → Type 0
-Independent n = (s : Sides) (ts : List ℕ) (joins targets : List ℤ) (steps : ℤ) (tunings result otherTunings otherResult : List ℤ) (i j : ℕ) →
+Independent n = (s : Sides) (ts : List ℕ) (joins targets : List ℤ) (steps : ℤ) (tunings result other_tunings other_result : List ℤ) (i j : ℕ) →
     let a = trial_in n s ts joins targets tunings steps result in
-    let b = trial_in n s ts joins targets otherTunings steps otherResult in
-    a.number ≡ 0 → b.number ≡ 0 → i < tunings_in tunings → j < tunings_in otherTunings → row_of tuning_count i tunings ≡ row_of tuning_count j otherTunings → row_of (row_count n) i a.result ≡ row_of (row_count n) j b.result
+    let b = trial_in n s ts joins targets other_tunings steps other_result in
+    a.number ≡ 0 → b.number ≡ 0 → i < tunings_in tunings → j < tunings_in other_tunings → row_of tuning_count i tunings ≡ row_of tuning_count j other_tunings → row_of (row_count n) i a.result ≡ row_of (row_count n) j b.result
 
 -- ---- the steps of a run
 

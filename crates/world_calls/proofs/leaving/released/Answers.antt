@@ -5,7 +5,7 @@ use lib.Dec.{eqb}
 use borrow.Author.Rules.{rules}
 use borrow.Author.Tests.{eq-eqb, ne_eqb}
 use Rattle.character_hook.proofs.Variants.{not_grabbed}
-use Rattle.character_hook.specs.Hook.{onGrabbed, holds}
+use Rattle.character_hook.specs.Hook.{on_grabbed, holds}
 use Rattle.character_hook.specs.declared.hook.CharacterId.{CharacterId}
 use Rattle.character_hook.specs.declared.hook.Hook.TheVariants.{Retracted, Grabbed}
 use Rattle.character.specs.Character.{with_hook}
@@ -17,7 +17,7 @@ use Rattle.world_calls.proofs.leaving.released.Goals as goal
 
 -- on plain values: nobody is held; another is; k is
 module _ (x : Slot) (k : ℕ) where
-  nobody : onGrabbed (λ c t. eqb c.0 k) false x.character.hook ≡ false → x ≡ released_slot x k
+  nobody : on_grabbed (λ c t. eqb c.0 k) false x.character.hook ≡ false → x ≡ released_slot x k
   unfolding released holds
   nobody e = rw e
 
