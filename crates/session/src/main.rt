@@ -1,9 +1,10 @@
 // The session program: reads a text from standard input, runs its calls and writes a line for each answer and record.
 #![tactic(auto)]
 
-use libc::{STDIN_FILENO, STDOUT_FILENO};
 use session_files::play_file;
+use std::io;
 
-fn main() {
-    play_file(STDIN_FILENO, STDOUT_FILENO);
+fn main(rt: HostRuntime) -> io::Result<()> {
+    play_file(&mut rt.reader(), &mut io::writer(&rt))?;
+    Ok(())
 }

@@ -1,14 +1,18 @@
-// A session between two files: what is read of the one is played, and what that writes goes to the other.
+// A session between a reader and a writer: what is read of the one is played, and what that writes goes to the other.
 #![tactic(auto)]
 
-ghost use Rattle.std.specs.Prelude.{ℕ, ◌*◌, ◌≤◌, List, ◌≡◌, length, take};
+ghost use Rattle.std.specs.Prelude.{ℕ, ◌+◌, ◌*◌, ◌<◌, ◌≤◌, List, ◌++◌, ◌≡◌, length, take, IfOk};
+ghost use Rattle.std.specs.Io.KnownBytes.{Appends, Consumes, IsAtEnd};
 ghost use Rattle.character.specs.Tick.{seats};
 ghost use Rattle.text_writing.specs.Output.{most_line};
 ghost use Rattle.session_run.specs.Start.{most_read};
-ghost use Rattle.session_laws.specs.Played.{PlayedOut, Started, TextPlayed};
+ghost use Rattle.session_laws.specs.Played.{PlayedOut, Started, TextPlayed, all_written};
 
+use base_input::read_full;
 use map_tiles::Sides;
 use session_run::{MOST_CALLS, MOST_READ, Session, Turned, begin, run_lines};
+use std::io;
+use std::io::{Read, Write};
 use text_map::MOST_TILES;
 
 // How many bytes were read, and the session that they came to.
@@ -18,29 +22,35 @@ pub struct FilePlayed {
     pub session: Session,
 }
 
-// Plays the text in the file `input`, writes its output to the file `output`, and answers the number of the call that was due at the end.
-pub fn play_file(input: i32, output: i32) -> u32
-    ensures { (text : List ℕ) × (f : Session) × TextPlayed seats text f × (result ≡ f.call) }
+// Plays the text that `input` holds, writes its output to `output`, and answers the number of the call that was due at the end.
+pub fn play_file<R: Read, W: Write>(input: &mut R, output: &mut W) -> io::Result<u32>
+    ensures { IfOk result (λ call. (text : List ℕ) × (f : Session) × (p : TextPlayed seats text f) × (call ≡ f.call) × Appends (W.contents output.old) (W.contents output.new) (all_written p)) }
 {
     let mut text = [0u8; MOST_READ];
-    let played = read_and_play(&mut text, input, output);
+    let played = read_and_play(&mut text, input, output)?;
     let ended = played.session;
-    ended.call
+    Ok(ended.call)
 }
 
 // The same, with the bytes that were read at the start of `text`.
-pub fn read_and_play(text: &mut [u8], input: i32, output: i32) -> FilePlayed
+pub fn read_and_play<R: Read, W: Write>(
+    text: &mut [u8],
+    input: &mut R,
+    output: &mut W,
+) -> io::Result<FilePlayed>
     requires { length text.old ≡ most_read }
-    ensures { (result.count ≤ length text.new) × TextPlayed seats (take result.count text.new) result.session }
+    ensures played { IfOk result (λ r. (r.count ≤ length text.new) × (p : TextPlayed seats (take r.count text.new) r.session) × Appends (W.contents output.old) (W.contents output.new) (all_written p)) }
+    ensures read { IfOk result (λ r. Consumes (R.remaining input.old) (R.remaining input.new) (take r.count text.new)) }
+    ensures end { IfOk result (λ r. r.count < length text.new → IsAtEnd (R.remaining input.new)) }
 {
-    let count = io::read_full(input, text);
-    let session = play_text(&text[0..count], output);
-    FilePlayed { count, session }
+    let count = read_full(input, text)?;
+    let session = play_text(&text[0..count], output)?;
+    Ok(FilePlayed { count, session })
 }
 
 // Plays a text.
-pub fn play_text(text: &[u8], output: i32) -> Session
-    ensures { TextPlayed seats text.now result }
+pub fn play_text<W: Write>(text: &[u8], output: &mut W) -> io::Result<Session>
+    ensures { IfOk result (λ f. (p : TextPlayed seats text.now f) × Appends (W.contents output.old) (W.contents output.new) (all_written p)) }
 {
     let mut tiles = [0u8; MOST_TILES];
     let mut buf = [0u8; 65536];
@@ -52,26 +62,26 @@ pub fn play_text(text: &[u8], output: i32) -> Session
 }
 
 // Writes what is in the buffer and runs the calls that come next, and returns the session that has ended: it does so in fewer turns.
-fn play(
+fn play<W: Write>(
     text: &[u8],
     sides: Sides,
     tiles: &[u8],
     first: Turned,
     buf: &mut [u8],
-    output: i32,
-) -> Session
+    output: &mut W,
+) -> io::Result<Session>
     requires { Started seats text.now sides tiles.now first buf.old × (most_line * seats ≤ length buf.old) }
-    ensures { PlayedOut seats text.now sides tiles.now first.session result }
+    ensures { IfOk result (λ f. (p : PlayedOut seats text.now sides tiles.now first.session f) × Appends (W.contents output.old) (W.contents output.new) (take first.next buf.old ++ p.out)) }
 {
     let mut turned = first;
     for _ in 0..MOST_CALLS {
         let end = turned.next;
-        io::write_all(output, &buf[0..end]);
+        output.write_all(&buf[0..end])?;
         let session = turned.session;
         if session.done {
-            return session;
+            return Ok(session);
         }
         turned = run_lines(text, sides, tiles, session, buf);
     }
-    turned.session
+    Ok(turned.session)
 }

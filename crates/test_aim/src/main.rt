@@ -4,6 +4,8 @@
 #![tactic(auto)]
 
 use num_convert::{cast_signed, hundredths_to_f32};
+use std::io;
+use std::io::{Read, Write};
 use test_common::{
     Counts, MOST_LINES, Outcome, byte_at, float_of, is_float, is_int, nth, read_line, rest,
 };
@@ -13,25 +15,27 @@ const LINE: usize = 47;
 
 const PATTERNS: usize = 2;
 
-fn main() {
-    let counts = count_all();
-    counts.print();
+fn main(rt: HostRuntime) -> io::Result<()> {
+    let mut output = io::writer(&rt);
+    let counts = count_all(&mut rt.reader(), &mut output)?;
+    counts.print(&mut output)?;
+    Ok(())
 }
 
-fn count_all() -> Counts {
+fn count_all<R: Read, W: Write>(input: &mut R, output: &mut W) -> io::Result<Counts> {
     let mut counts = Counts::new();
     for _ in 0..MOST_LINES {
-        counts = counts.with(next_line());
+        counts = counts.with(next_line(input, output)?);
     }
-    counts
+    Ok(counts)
 }
 
-fn next_line() -> Outcome {
+fn next_line<R: Read, W: Write>(input: &mut R, output: &mut W) -> io::Result<Outcome> {
     let mut line = [0u8; LINE];
-    if !read_line(&mut line) {
-        return Outcome::End;
+    if !read_line(input, &mut line)? {
+        return Ok(Outcome::End);
     }
-    Outcome::of(line_agrees(&line), &line)
+    Outcome::of(output, line_agrees(&line), &line)
 }
 
 fn line_agrees(line: &[u8]) -> bool {

@@ -10,6 +10,8 @@ use drawing::{MOST, digest_tiles, digest_totals, draw_tiles, draw_totals};
 use map_area::{area, build, change};
 use map_tiles::Sides;
 use num_convert::cast_signed;
+use std::io;
+use std::io::{Read, Write};
 use test_common::{Counts, MOST_LINES, Outcome, after, byte_at, nth, read_line, rest};
 
 // The length of a line; where its words begin.
@@ -40,25 +42,27 @@ const ANSWER: usize = 11;
 // What stands where a count goes before it is written.
 const NO_COUNT: u32 = 0x5555_5555;
 
-fn main() {
-    let counts = count_all();
-    counts.print();
+fn main(rt: HostRuntime) -> io::Result<()> {
+    let mut output = io::writer(&rt);
+    let counts = count_all(&mut rt.reader(), &mut output)?;
+    counts.print(&mut output)?;
+    Ok(())
 }
 
-fn count_all() -> Counts {
+fn count_all<R: Read, W: Write>(input: &mut R, output: &mut W) -> io::Result<Counts> {
     let mut counts = Counts::new();
     for _ in 0..MOST_LINES {
-        counts = counts.with(next_line());
+        counts = counts.with(next_line(input, output)?);
     }
-    counts
+    Ok(counts)
 }
 
-fn next_line() -> Outcome {
+fn next_line<R: Read, W: Write>(input: &mut R, output: &mut W) -> io::Result<Outcome> {
     let mut line = [0u8; LINE];
-    if !read_line(&mut line) {
-        return Outcome::End;
+    if !read_line(input, &mut line)? {
+        return Ok(Outcome::End);
     }
-    Outcome::of(line_agrees(&line), &line)
+    Outcome::of(output, line_agrees(&line), &line)
 }
 
 fn line_agrees(line: &[u8]) -> bool {

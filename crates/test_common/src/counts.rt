@@ -1,9 +1,11 @@
 // Counting the lines that are answered as recorded.
-ghost use Rattle.std.specs.Prelude.{◌≡◌, if◌then◌else◌, ◌==◌};
+ghost use Rattle.std.specs.Prelude.{[], ◌≡◌, if◌then◌else◌, ◌==◌, IfOk, OnOk};
+ghost use Rattle.std.specs.Io.KnownBytes.{Appends};
 ghost use Rattle.test_common.specs.Counts.{counted};
 ghost use Rattle.test_common.specs.declared.counts.Outcome.TheVariants.{Agrees, Differs};
 
-use libc::STDOUT_FILENO;
+use std::io;
+use std::io::Write;
 use std::num::wrapping_add_u64;
 
 // What came of reading a line.
@@ -16,14 +18,15 @@ pub enum Outcome {
 
 impl Outcome {
     // A line that is answered otherwise is printed.
-    pub fn of(agrees: bool, line: &[u8]) -> Outcome
-        ensures { result ≡ (if agrees then Agrees else Differs) }
+    pub fn of<W: Write>(output: &mut W, agrees: bool, line: &[u8]) -> io::Result<Outcome>
+        ensures outcome { IfOk result (λ r. r ≡ (if agrees then Agrees else Differs)) }
+        ensures printed { OnOk result (Appends (W.contents output.old) (W.contents output.new) (if agrees then [] else line.now)) }
     {
         if agrees {
-            return Outcome::Agrees;
+            return Ok(Outcome::Agrees);
         }
-        io::write_all(STDOUT_FILENO, line);
-        Outcome::Differs
+        output.write_all(line)?;
+        Ok(Outcome::Differs)
     }
 }
 
@@ -57,13 +60,10 @@ impl Counts {
     }
 
     // Tells how many agree, and answers whether all do.
-    pub fn print(self) -> bool
-        ensures { result ≡ (self.good == self.lines) }
+    pub fn print<W: Write>(self, output: &mut W) -> io::Result<bool>
+        ensures { IfOk result (λ r. r ≡ (self.good == self.lines)) }
     {
-        io::print_decimal(STDOUT_FILENO, self.good);
-        io::write_all(STDOUT_FILENO, b" of ");
-        io::print_decimal(STDOUT_FILENO, self.lines);
-        io::write_all(STDOUT_FILENO, b" agree\n");
-        self.good == self.lines
+        writeln!(output, "{} of {} agree", self.good, self.lines)?;
+        Ok(self.good == self.lines)
     }
 }

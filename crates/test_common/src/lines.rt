@@ -1,17 +1,21 @@
-// The lines of standard input, and what stands in one.
-ghost use Rattle.std.specs.Prelude.{◌≡◌, length, take, drop, slice_index};
+// The lines of an input, and what stands in one.
+ghost use Rattle.std.specs.Prelude.{◌≡◌, length, take, drop, slice_index, IfOk, IsTrue};
+ghost use Rattle.std.specs.Io.KnownBytes.{Consumes};
 
-use libc::STDIN_FILENO;
+use base_input::read_full;
+use std::io;
+use std::io::Read;
 
 // A proved loop has to end, so a program reads at most as many lines.
 pub const MOST_LINES: usize = 65536;
 
 // Reads the next line, which is as long as the row; whether there was one.
-pub fn read_line(line: &mut [u8]) -> bool
-    ensures { length line.new ≡ length line.old }
+pub fn read_line<R: Read>(input: &mut R, line: &mut [u8]) -> io::Result<bool>
+    ensures as_long { length line.new ≡ length line.old }
+    ensures there { IfOk result (λ r. IsTrue r → Consumes (R.remaining input.old) (R.remaining input.new) line.new) }
 {
     let n = line.len();
-    io::read_full(STDIN_FILENO, line) == n
+    Ok(read_full(input, line)? == n)
 }
 
 // The byte with the number i; 0 past the end.

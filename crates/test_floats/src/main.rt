@@ -3,6 +3,8 @@
 #![tactic(auto)]
 
 use num_convert::cast_signed;
+use std::io;
+use std::io::{Read, Write};
 use test_common::{
     Counts, MOST_LINES, Outcome, byte_at, float_of, hex, is_float, is_int, read_line, rest, word,
 };
@@ -14,25 +16,27 @@ const ARGUMENT: usize = 2;
 
 const ANSWER: usize = 11;
 
-fn main() {
-    let counts = count_all();
-    counts.print();
+fn main(rt: HostRuntime) -> io::Result<()> {
+    let mut output = io::writer(&rt);
+    let counts = count_all(&mut rt.reader(), &mut output)?;
+    counts.print(&mut output)?;
+    Ok(())
 }
 
-fn count_all() -> Counts {
+fn count_all<R: Read, W: Write>(input: &mut R, output: &mut W) -> io::Result<Counts> {
     let mut counts = Counts::new();
     for _ in 0..MOST_LINES {
-        counts = counts.with(next_line());
+        counts = counts.with(next_line(input, output)?);
     }
-    counts
+    Ok(counts)
 }
 
-fn next_line() -> Outcome {
+fn next_line<R: Read, W: Write>(input: &mut R, output: &mut W) -> io::Result<Outcome> {
     let mut line = [0u8; LINE];
-    if !read_line(&mut line) {
-        return Outcome::End;
+    if !read_line(input, &mut line)? {
+        return Ok(Outcome::End);
     }
-    Outcome::of(line_agrees(&line), &line)
+    Outcome::of(output, line_agrees(&line), &line)
 }
 
 fn line_agrees(line: &[u8]) -> bool {

@@ -5,6 +5,8 @@
 use game_packed::{MOST_PACKED, Unpacked, pack, unpack};
 use game_records::{CharacterCore, core_numbers};
 use game_refusals::{BAD_BYTES, BYTES_END};
+use std::io;
+use std::io::{Read, Write};
 use test_common::{
     Counts, MOST_LINES, Outcome, after, are_numbers, byte_at, first, hex, nth, read_line, rest,
 };
@@ -25,25 +27,27 @@ const RECORD: usize = 2;
 
 const ACCEPTED: u32 = 0;
 
-fn main() {
-    let counts = count_all();
-    counts.print();
+fn main(rt: HostRuntime) -> io::Result<()> {
+    let mut output = io::writer(&rt);
+    let counts = count_all(&mut rt.reader(), &mut output)?;
+    counts.print(&mut output)?;
+    Ok(())
 }
 
-fn count_all() -> Counts {
+fn count_all<R: Read, W: Write>(input: &mut R, output: &mut W) -> io::Result<Counts> {
     let mut counts = Counts::new();
     for _ in 0..MOST_LINES {
-        counts = counts.with(next_line());
+        counts = counts.with(next_line(input, output)?);
     }
-    counts
+    Ok(counts)
 }
 
-fn next_line() -> Outcome {
+fn next_line<R: Read, W: Write>(input: &mut R, output: &mut W) -> io::Result<Outcome> {
     let mut line = [0u8; LINE];
-    if !read_line(&mut line) {
-        return Outcome::End;
+    if !read_line(input, &mut line)? {
+        return Ok(Outcome::End);
     }
-    Outcome::of(line_agrees(&line), &line)
+    Outcome::of(output, line_agrees(&line), &line)
 }
 
 fn line_agrees(line: &[u8]) -> bool {
@@ -91,5 +95,5 @@ fn write_agrees(core: CharacterCore, bytes: &[u8]) -> bool {
     let made = packed.bytes;
     let zeros = [0u8; MOST_PACKED];
     let count = packed.count;
-    check::same(first(&made, count), bytes) && check::same(rest(&made, count), rest(&zeros, count))
+    first(&made, count) == bytes && rest(&made, count) == rest(&zeros, count)
 }

@@ -15,6 +15,8 @@ use game_refusals::TOO_FAR;
 use game_tuning::TUNINGS;
 use map_tiles::Sides;
 use num_convert::cast_signed;
+use std::io;
+use std::io::{Read, Write};
 use test_common::{
     AFTER_MAP, Counts, MOST_LINES, Outcome, after, byte_at, first, is_point, nth, point, read_line,
     rest, sides_of, tile_count, tiles_of,
@@ -50,25 +52,27 @@ const VELOCITIES: usize = CHARACTER + SLOT_WORDS - 1;
 // The number of an answer that is not refused.
 const ACCEPTED: u32 = 0;
 
-fn main() {
-    let counts = count_all();
-    counts.print();
+fn main(rt: HostRuntime) -> io::Result<()> {
+    let mut output = io::writer(&rt);
+    let counts = count_all(&mut rt.reader(), &mut output)?;
+    counts.print(&mut output)?;
+    Ok(())
 }
 
-fn count_all() -> Counts {
+fn count_all<R: Read, W: Write>(input: &mut R, output: &mut W) -> io::Result<Counts> {
     let mut counts = Counts::new();
     for _ in 0..MOST_LINES {
-        counts = counts.with(next_line());
+        counts = counts.with(next_line(input, output)?);
     }
-    counts
+    Ok(counts)
 }
 
-fn next_line() -> Outcome {
+fn next_line<R: Read, W: Write>(input: &mut R, output: &mut W) -> io::Result<Outcome> {
     let mut line = [0u8; LINE];
-    if !read_line(&mut line) {
-        return Outcome::End;
+    if !read_line(input, &mut line)? {
+        return Ok(Outcome::End);
     }
-    Outcome::of(line_agrees(&line), &line)
+    Outcome::of(output, line_agrees(&line), &line)
 }
 
 fn line_agrees(line: &[u8]) -> bool {

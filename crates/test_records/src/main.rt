@@ -4,6 +4,8 @@
 
 use character::{Character, Net, Quantized};
 use game_records::{CORE, core_numbers, core_of};
+use std::io;
+use std::io::{Read, Write};
 use test_common::{
     Counts, MOST_LINES, Outcome, are_numbers, byte_at, read_line, read_numbers, rest, word,
 };
@@ -24,25 +26,27 @@ const ACCEPTED: u32 = 0;
 
 const TICK_TOO_LARGE: u32 = 10;
 
-fn main() {
-    let counts = count_all();
-    counts.print();
+fn main(rt: HostRuntime) -> io::Result<()> {
+    let mut output = io::writer(&rt);
+    let counts = count_all(&mut rt.reader(), &mut output)?;
+    counts.print(&mut output)?;
+    Ok(())
 }
 
-fn count_all() -> Counts {
+fn count_all<R: Read, W: Write>(input: &mut R, output: &mut W) -> io::Result<Counts> {
     let mut counts = Counts::new();
     for _ in 0..MOST_LINES {
-        counts = counts.with(next_line());
+        counts = counts.with(next_line(input, output)?);
     }
-    counts
+    Ok(counts)
 }
 
-fn next_line() -> Outcome {
+fn next_line<R: Read, W: Write>(input: &mut R, output: &mut W) -> io::Result<Outcome> {
     let mut line = [0u8; LINE];
-    if !read_line(&mut line) {
-        return Outcome::End;
+    if !read_line(input, &mut line)? {
+        return Ok(Outcome::End);
     }
-    Outcome::of(line_agrees(&line), &line)
+    Outcome::of(output, line_agrees(&line), &line)
 }
 
 fn line_agrees(line: &[u8]) -> bool {

@@ -5,36 +5,44 @@
 mod searching;
 
 use searching::searched;
+use std::io;
+use std::io::{Read, Write};
 use test_asking::{LINE, Told, agrees, asked, begin, called};
 use test_common::{
     AFTER_MAP, Counts, MOST_LINES, Outcome, first, read_line, rest, tile_count, tiles_of,
 };
 use world_numbers::WORLD;
 
-fn main() {
-    let counts = count_all();
-    counts.print();
+fn main(rt: HostRuntime) -> io::Result<()> {
+    let mut output = io::writer(&rt);
+    let counts = count_all(&mut rt.reader(), &mut output)?;
+    counts.print(&mut output)?;
+    Ok(())
 }
 
-fn count_all() -> Counts {
+fn count_all<R: Read, W: Write>(input: &mut R, output: &mut W) -> io::Result<Counts> {
     let mut counts = Counts::new();
     let mut world = [0i32; WORLD];
     for _ in 0..MOST_LINES {
-        let outcome = next_line(&mut world);
+        let outcome = next_line(input, output, &mut world)?;
         counts = counts.with(outcome);
     }
-    counts
+    Ok(counts)
 }
 
-fn next_line(world: &mut [i32]) -> Outcome {
+fn next_line<R: Read, W: Write>(
+    input: &mut R,
+    output: &mut W,
+    world: &mut [i32],
+) -> io::Result<Outcome> {
     let mut line = [0u8; LINE];
-    if !read_line(&mut line) {
-        return Outcome::End;
+    if !read_line(input, &mut line)? {
+        return Ok(Outcome::End);
     }
     begin(line[0], world);
     let words = rest(&line, AFTER_MAP);
     let told = told_by(world, &line, words);
-    Outcome::of(agrees(told, world, words), &line)
+    Outcome::of(output, agrees(told, world, words), &line)
 }
 
 // A search has a kind that no call has.

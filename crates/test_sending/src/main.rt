@@ -6,6 +6,8 @@ mod link;
 
 use link::{Link, made};
 use map_tiles::Sides;
+use std::io;
+use std::io::{Read, Write};
 use test_common::{
     AFTER_MAP, Counts, MOST_LINES, Outcome, after, first, nth, read_line, read_numbers, rest,
     tile_count, tiles_of,
@@ -36,32 +38,34 @@ pub struct Next {
     pub link: Link,
 }
 
-fn main() {
-    let counts = count_all();
-    counts.print();
+fn main(rt: HostRuntime) -> io::Result<()> {
+    let mut output = io::writer(&rt);
+    let counts = count_all(&mut rt.reader(), &mut output)?;
+    counts.print(&mut output)?;
+    Ok(())
 }
 
-fn count_all() -> Counts {
+fn count_all<R: Read, W: Write>(input: &mut R, output: &mut W) -> io::Result<Counts> {
     let mut counts = Counts::new();
     let mut link = Link::fresh();
     for _ in 0..MOST_LINES {
-        let next = next_line(link);
+        let next = next_line(input, output, link)?;
         let outcome = next.outcome;
         counts = counts.with(outcome);
         link = next.link;
     }
-    counts
+    Ok(counts)
 }
 
-fn next_line(link: Link) -> Next {
+fn next_line<R: Read, W: Write>(input: &mut R, output: &mut W, link: Link) -> io::Result<Next> {
     let mut line = [0u8; LINE];
-    if !read_line(&mut line) {
-        return Next {
+    if !read_line(input, &mut line)? {
+        return Ok(Next {
             outcome: Outcome::End,
             link,
-        };
+        });
     }
-    after_line(link_before(line[0], link), &line)
+    after_line(output, link_before(line[0], link), &line)
 }
 
 // A sequence begins with a fresh world, no copies and a fresh screen.
@@ -70,21 +74,20 @@ fn link_before(mark: u8, link: Link) -> Link {
 }
 
 // Values that are no call agree with nothing.
-fn after_line(link: Link, line: &[u8]) -> Next {
+fn after_line<W: Write>(output: &mut W, link: Link, line: &[u8]) -> io::Result<Next> {
     let words = rest(line, AFTER_MAP);
     let mut values = [0i32; 7];
     read_numbers(after(words, CALL), &mut values);
     let Decoded::Call(call) = decode(values) else {
-        return Next {
-            outcome: Outcome::of(false, line),
-            link,
-        };
+        let outcome = Outcome::of(output, false, line)?;
+        return Ok(Next { outcome, link });
     };
     let left = answer(link, line, words, call);
-    Next {
-        outcome: Outcome::of(agrees(left, words), line),
+    let outcome = Outcome::of(output, agrees(left, words), line)?;
+    Ok(Next {
+        outcome,
         link: left,
-    }
+    })
 }
 
 fn answer(link: Link, line: &[u8], words: &[u8], call: Call) -> Link {

@@ -3,70 +3,72 @@
 // bench/world/session_texts records them: 000.in and 000.out, 001.in and 001.out, and so on.
 #![tactic(auto)]
 
+use base_input::read_full;
 use session_files::play_file;
+use std::io::{ErrorKind, Read, Write};
+use std::rt::Files;
+use std::{fs, io};
 use test_common::{Counts, Outcome};
 
 // As many bytes of two files are compared at once.
 const PART: usize = 65536;
 
-fn main() {
-    let counts = count_all();
-    counts.print();
+fn main(rt: HostRuntime) -> io::Result<()> {
+    let mut output = io::writer(&rt);
+    let counts = count_all(&rt, &mut output)?;
+    counts.print(&mut output)?;
+    Ok(())
 }
 
 // A number that no text has counts for nothing.
-fn count_all() -> Counts {
+fn count_all<R: Files + Alloc, W: Write>(rt: &R, output: &mut W) -> io::Result<Counts> {
     let mut counts = Counts::new();
     for number in 0..1000u32 {
-        let outcome = outcome_of(number);
+        let outcome = outcome_of(rt, output, number)?;
         counts = counts.with(outcome);
     }
-    counts
+    Ok(counts)
 }
 
-fn outcome_of(number: u32) -> Outcome {
-    let a = digit(number / 100);
-    let b = digit(number / 10);
-    let c = digit(number);
-    let text = os::open_read(&[a, b, c, b'.', b'i', b'n']);
-    if text < 0 {
-        return Outcome::End;
-    }
-    let written = os::open_overwrite(b"written");
-    play_file(text, written);
-    libc::close(text);
-    libc::close(written);
-    let agrees = same_files(b"written", &[a, b, c, b'.', b'o', b'u', b't']);
-    Outcome::of(agrees, &[a, b, c, b'\n'])
-}
-
-fn digit(n: u32) -> u8 {
-    (n % 10) as u8 + 48
+fn outcome_of<R: Files + Alloc, W: Write>(
+    rt: &R,
+    output: &mut W,
+    number: u32,
+) -> io::Result<Outcome> {
+    let name = format!(in rt.alloc(); "{number:03}.in")?;
+    let mut text = match fs::open(rt, name.as_str()) {
+        Ok(file) => file,
+        Err(e) if e.kind() == ErrorKind::NotFound => return Ok(Outcome::End),
+        Err(e) => return Err(e),
+    };
+    let mut written = fs::create(rt, "written")?;
+    play_file(&mut text, &mut written)?;
+    let recorded = format!(in rt.alloc(); "{number:03}.out")?;
+    let agrees = same_files(rt, "written", recorded.as_str())?;
+    let line = format!(in rt.alloc(); "{number:03}\n")?;
+    Outcome::of(output, agrees, line.as_bytes())
 }
 
 // Whether two files hold the same bytes.
-fn same_files(a: &[u8], b: &[u8]) -> bool {
-    let first = os::open_read(a);
-    let second = os::open_read(b);
-    let same = 0 <= first && 0 <= second && same_rest(first, second);
-    libc::close(first);
-    libc::close(second);
-    same
+fn same_files<R: Files>(rt: &R, a: &str, b: &str) -> io::Result<bool> {
+    let mut first = fs::open(rt, a)?;
+    let mut second = fs::open(rt, b)?;
+    same_rest(&mut first, &mut second)
 }
 
 // A proved loop has to end, so files of more than 64 parts are never the same.
-fn same_rest(first: i32, second: i32) -> bool {
+fn same_rest<A: Read, B: Read>(first: &mut A, second: &mut B) -> io::Result<bool> {
     for _ in 0..64u32 {
         let mut bytes = [0u8; PART];
         let mut others = [0u8; PART];
-        let n = io::read_full(first, &mut bytes);
-        let m = io::read_full(second, &mut others);
-        if !check::same(&bytes[0..n], &others[0..m]) {
-            return false;
+        let n = read_full(first, &mut bytes)?;
+        let m = read_full(second, &mut others)?;
+        if bytes[0..n] != others[0..m] {
+            return Ok(false);
         }
         if n < PART {
-            return true;
+            return Ok(true);
         }
     }
-    false
+    Ok(false)
 }

@@ -4,6 +4,8 @@
 #![tactic(auto)]
 
 use character::SEATS;
+use std::io;
+use std::io::{Read, Write};
 use test_calls::{ANSWER, BESIDES, LINE, called, world_before};
 use test_common::{AFTER_MAP, Counts, MOST_LINES, Outcome, digest, mix, nth, read_line, rest};
 use world::{Stepped, World};
@@ -22,41 +24,44 @@ pub struct Next {
     pub world: World,
 }
 
-fn main() {
-    let counts = count_all();
-    counts.print();
+fn main(rt: HostRuntime) -> io::Result<()> {
+    let mut output = io::writer(&rt);
+    let counts = count_all(&mut rt.reader(), &mut output)?;
+    counts.print(&mut output)?;
+    Ok(())
 }
 
-fn count_all() -> Counts {
+fn count_all<R: Read, W: Write>(input: &mut R, output: &mut W) -> io::Result<Counts> {
     let mut counts = Counts::new();
     let mut world = fresh();
     for _ in 0..MOST_LINES {
-        let next = next_line(world);
+        let next = next_line(input, output, world)?;
         let outcome = next.outcome;
         counts = counts.with(outcome);
         world = next.world;
     }
-    counts
+    Ok(counts)
 }
 
-fn next_line(world: World) -> Next {
+fn next_line<R: Read, W: Write>(input: &mut R, output: &mut W, world: World) -> io::Result<Next> {
     let mut line = [0u8; LINE];
-    if !read_line(&mut line) {
-        return Next {
+    if !read_line(input, &mut line)? {
+        return Ok(Next {
             outcome: Outcome::End,
             world,
-        };
+        });
     }
-    after_line(world_before(line[0], world), &line)
+    after_line(output, world_before(line[0], world), &line)
 }
 
-fn after_line(world: World, line: &[u8]) -> Next {
+fn after_line<W: Write>(output: &mut W, world: World, line: &[u8]) -> io::Result<Next> {
     let stepped = called(world, line);
     let left = stepped.world;
-    Next {
-        outcome: Outcome::of(answer_agrees(stepped, rest(line, AFTER_MAP)), line),
+    let outcome = Outcome::of(output, answer_agrees(stepped, rest(line, AFTER_MAP)), line)?;
+    Ok(Next {
+        outcome,
         world: left,
-    }
+    })
 }
 
 fn answer_agrees(stepped: Stepped, words: &[u8]) -> bool {

@@ -7,6 +7,8 @@ mod reading;
 use map_tiles::Sides;
 use num_convert::cast_signed;
 use reading::{JOINS, RESULT, TARGETS, TUNING_NUMBERS, at_most, read_joins, read_tunings};
+use std::io;
+use std::io::{Read, Write};
 use test_common::{
     AFTER_MAP, Counts, MOST_LINES, Outcome, digest, first, nth, read_line, rest, tile_count,
     tiles_of,
@@ -30,44 +32,47 @@ const ANSWER: usize = 9;
 // What stands in the result before it is written.
 const NOTHING: i32 = 77;
 
-fn main() {
-    let counts = count_all();
-    counts.print();
+fn main(rt: HostRuntime) -> io::Result<()> {
+    let mut output = io::writer(&rt);
+    let counts = count_all(&mut rt.reader(), &mut output)?;
+    counts.print(&mut output)?;
+    Ok(())
 }
 
-fn count_all() -> Counts {
+fn count_all<R: Read, W: Write>(input: &mut R, output: &mut W) -> io::Result<Counts> {
     let mut counts = Counts::new();
     for _ in 0..MOST_LINES {
-        counts = counts.with(next_case());
+        counts = counts.with(next_case(input, output)?);
     }
-    counts
+    Ok(counts)
 }
 
-fn next_case() -> Outcome {
+fn next_case<R: Read, W: Write>(input: &mut R, output: &mut W) -> io::Result<Outcome> {
     let mut line = [0u8; LINE];
-    if !read_line(&mut line) {
-        return Outcome::End;
+    if !read_line(input, &mut line)? {
+        return Ok(Outcome::End);
     }
-    Outcome::of(case_agrees(&line), &line)
+    let agrees = case_agrees(input, &line)?;
+    Outcome::of(output, agrees, &line)
 }
 
-fn case_agrees(line: &[u8]) -> bool {
+fn case_agrees<R: Read>(input: &mut R, line: &[u8]) -> io::Result<bool> {
     let words = rest(line, AFTER_MAP);
     let mut joins = [0i32; JOINS];
     let mut targets = [0i32; TARGETS];
     let mut tunings = [0i32; TUNING_NUMBERS];
-    read_joins(&mut joins, &mut targets, nth(words, FOLLOWING));
-    read_tunings(&mut tunings, nth(words, FOLLOWING + 1));
+    read_joins(input, &mut joins, &mut targets, nth(words, FOLLOWING))?;
+    read_tunings(input, &mut tunings, nth(words, FOLLOWING + 1))?;
     let lent_joins = at_most(nth(words, LENT), JOINS);
     let lent_targets = at_most(nth(words, LENT + 1), TARGETS);
     let lent_tunings = at_most(nth(words, LENT + 2), TUNING_NUMBERS);
-    answers(
+    Ok(answers(
         line,
         words,
         &joins[0..lent_joins],
         &targets[0..lent_targets],
         &tunings[0..lent_tunings],
-    )
+    ))
 }
 
 fn answers(line: &[u8], words: &[u8], joins: &[i32], targets: &[i32], tunings: &[i32]) -> bool {

@@ -2,6 +2,8 @@
 ghost use Rattle.std.specs.Prelude.{◌≡◌, ◌≤◌, length};
 
 use game_tuning::TUNINGS;
+use std::io;
+use std::io::Read;
 use test_common::{after, read_line, read_numbers, rest};
 use trial_runs::{JOIN, ROW, TARGET};
 
@@ -34,27 +36,34 @@ pub fn at_most(n: u32, most: usize) -> usize
     most
 }
 
-pub fn read_joins(joins: &mut [i32], targets: &mut [i32], count: u32)
+pub fn read_joins<R: Read>(
+    input: &mut R,
+    joins: &mut [i32],
+    targets: &mut [i32],
+    count: u32,
+) -> io::Result<()>
     requires { (length joins.old ≡ 196) × (length targets.old ≡ 131) }
 {
     for i in 0..at_most(count, MOST_JOINS) {
         let mut line = [0u8; JOIN_LINE];
-        read_line(&mut line);
+        read_line(input, &mut line)?;
         let words = rest(&line, WORDS);
         let at = JOIN * i;
         let to = TARGET * i;
         read_numbers(words, &mut joins[at..at + JOIN]);
         read_numbers(after(words, JOIN), &mut targets[to..to + TARGET]);
     }
+    Ok(())
 }
 
-pub fn read_tunings(tunings: &mut [i32], count: u32)
+pub fn read_tunings<R: Read>(input: &mut R, tunings: &mut [i32], count: u32) -> io::Result<()>
     requires { length tunings.old ≡ 172 }
 {
     for i in 0..at_most(count, MOST_TUNINGS) {
         let mut line = [0u8; TUNING_LINE];
-        read_line(&mut line);
+        read_line(input, &mut line)?;
         let at = TUNINGS * i;
         read_numbers(rest(&line, WORDS), &mut tunings[at..at + TUNINGS]);
     }
+    Ok(())
 }
