@@ -2,8 +2,7 @@
 ghost use Rattle.std.specs.Prelude.{◌≡◌};
 ghost use Rattle.aim_scan.specs.Scan.{scanned};
 
-#[unsafe(no_mangle)]
-pub extern "C" fn ponguriena_aim(target_x: i32, target_y: i32, entries_read: &mut u32) -> i32
+pub fn ponguriena_aim(target_x: i32, target_y: i32, entries_read: &mut u32) -> i32
     ensures { scanned target_x target_y ≡ record { angle = result; read = entries_read.new } }
 {
     let scan = aim_scan::scan_angle(target_x, target_y);

@@ -5,20 +5,13 @@ ghost use Rattle.map_totals.specs.Calls.{build_in, area_in, change_in};
 
 use map_tiles::Sides;
 
-#[unsafe(no_mangle)]
-pub extern "C" fn ponguriena_area_build(
-    width: u32,
-    height: u32,
-    tiles: &[u8],
-    totals: &mut [u32],
-) -> u32
+pub fn ponguriena_area_build(width: u32, height: u32, tiles: &[u8], totals: &mut [u32]) -> u32
     ensures { build_in (sides_of width height) tiles.now totals.old ≡ record { number = result; totals = totals.new } }
 {
     map_area::build(Sides { width, height }, tiles, totals)
 }
 
-#[unsafe(no_mangle)]
-pub extern "C" fn ponguriena_area_count(
+pub fn ponguriena_area_count(
     width: u32,
     height: u32,
     tiles: &[u8],
@@ -43,8 +36,7 @@ pub extern "C" fn ponguriena_area_count(
     )
 }
 
-#[unsafe(no_mangle)]
-pub extern "C" fn ponguriena_area_change(
+pub fn ponguriena_area_change(
     width: u32,
     height: u32,
     tiles: &mut [u8],

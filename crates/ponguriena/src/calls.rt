@@ -14,15 +14,13 @@ use role_calls::may_ask;
 use role_rule::Ask;
 use world::Call;
 
-#[unsafe(no_mangle)]
-pub extern "C" fn ponguriena_fresh(world: &mut [i32]) -> u32
+pub fn ponguriena_fresh(world: &mut [i32]) -> u32
     ensures { fresh_in world.old ≡ record { number = result; world = world.new } }
 {
     world_buffers::fresh_in(world)
 }
 
-#[unsafe(no_mangle)]
-pub extern "C" fn ponguriena_join(
+pub fn ponguriena_join(
     role: i32,
     world: &mut [i32],
     width: u32,
@@ -40,8 +38,7 @@ pub extern "C" fn ponguriena_join(
     world_buffers::join_in(world, Sides { width, height }, tiles, id, x, y)
 }
 
-#[unsafe(no_mangle)]
-pub extern "C" fn ponguriena_leave(role: i32, world: &mut [i32], id: i32) -> u32
+pub fn ponguriena_leave(role: i32, world: &mut [i32], id: i32) -> u32
     ensures { call_as role (call.Leave id) world.old (leave_in world.old id) ≡ record { number = result; world = world.new } }
 {
     if !may_ask(role, Ask::Call(Call::Leave { id })) {
@@ -50,8 +47,7 @@ pub extern "C" fn ponguriena_leave(role: i32, world: &mut [i32], id: i32) -> u32
     world_buffers::leave_in(world, id)
 }
 
-#[unsafe(no_mangle)]
-pub extern "C" fn ponguriena_input(
+pub fn ponguriena_input(
     role: i32,
     world: &mut [i32],
     id: i32,
@@ -86,8 +82,7 @@ pub extern "C" fn ponguriena_input(
     world_buffers::input_in(world, id, values)
 }
 
-#[unsafe(no_mangle)]
-pub extern "C" fn ponguriena_tune(role: i32, world: &mut [i32], index: i32, value: i32) -> u32
+pub fn ponguriena_tune(role: i32, world: &mut [i32], index: i32, value: i32) -> u32
     ensures { call_as role (call.Tune index value) world.old (tune_in world.old index value) ≡ record { number = result; world = world.new } }
 {
     if !may_ask(role, Ask::Call(Call::Tune { index, value })) {
@@ -96,8 +91,7 @@ pub extern "C" fn ponguriena_tune(role: i32, world: &mut [i32], index: i32, valu
     world_buffers::tune_in(world, index, value)
 }
 
-#[unsafe(no_mangle)]
-pub extern "C" fn ponguriena_step(
+pub fn ponguriena_step(
     role: i32,
     world: &mut [i32],
     width: u32,

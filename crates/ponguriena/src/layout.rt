@@ -5,8 +5,7 @@ ghost use Rattle.ponguriena.specs.Layout.{layout};
 // Another number whenever one of a buffer's numbers gets another place or meaning.
 const LAYOUT: u32 = 1;
 
-#[unsafe(no_mangle)]
-pub extern "C" fn ponguriena_layout() -> u32
+pub fn ponguriena_layout() -> u32
     ensures { result ≡ layout }
 {
     LAYOUT

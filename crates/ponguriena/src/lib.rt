@@ -1,4 +1,5 @@
-// The C interface of the calls on a world, a sender and a screen that are kept as the numbers of lent buffers, of packed records, of the areas of a map, of trials and of ways to a place, and of the aim angle. A call that may be refused answers the refusal's number, or 0.
+// The calls on a world, a sender and a screen that are kept as the numbers of lent buffers, on packed records, the areas of a map, trials and ways to a place, and the aim angle. A call that may be refused answers the refusal's number, or 0.
+// The crate `ponguriena_c` exports each function to C under its name.
 // What takes a world names a role first: 13 comes before every other refusal.
 #![tactic(auto)]
 

@@ -9,8 +9,7 @@ use role_calls::may_ask;
 use role_rule::Ask;
 use world::Query;
 
-#[unsafe(no_mangle)]
-pub extern "C" fn ponguriena_record(role: i32, world: &[i32], id: i32, record: &mut [i32]) -> u32
+pub fn ponguriena_record(role: i32, world: &[i32], id: i32, record: &mut [i32]) -> u32
     ensures { read_in_as role (query.Record id) «record».old (read_in (query.Record id) world.now «record».old) ≡ record { number = result; numbers = «record».new } }
 {
     if !may_ask(role, Ask::Read(Query::Record(id))) {
@@ -19,13 +18,7 @@ pub extern "C" fn ponguriena_record(role: i32, world: &[i32], id: i32, record: &
     world_buffers::record_in(world, id, record)
 }
 
-#[unsafe(no_mangle)]
-pub extern "C" fn ponguriena_player_input(
-    role: i32,
-    world: &[i32],
-    id: i32,
-    input: &mut [i32],
-) -> u32
+pub fn ponguriena_player_input(role: i32, world: &[i32], id: i32, input: &mut [i32]) -> u32
     ensures { read_in_as role (query.PlayerInput id) input.old (read_in (query.PlayerInput id) world.now input.old) ≡ record { number = result; numbers = input.new } }
 {
     if !may_ask(role, Ask::Read(Query::PlayerInput(id))) {
@@ -34,8 +27,7 @@ pub extern "C" fn ponguriena_player_input(
     world_buffers::player_input_in(world, id, input)
 }
 
-#[unsafe(no_mangle)]
-pub extern "C" fn ponguriena_tuning(role: i32, world: &[i32], index: i32, value: &mut i32) -> u32
+pub fn ponguriena_tuning(role: i32, world: &[i32], index: i32, value: &mut i32) -> u32
     ensures { read_in_as role (query.Tuning index) (value.old ∷ []) (read_in (query.Tuning index) world.now (value.old ∷ [])) ≡ record { number = result; numbers = value.new ∷ [] } }
 {
     if !may_ask(role, Ask::Read(Query::Tuning(index))) {
@@ -44,8 +36,7 @@ pub extern "C" fn ponguriena_tuning(role: i32, world: &[i32], index: i32, value:
     world_buffers::tuning_in(world, index, value)
 }
 
-#[unsafe(no_mangle)]
-pub extern "C" fn ponguriena_floor_mark(role: i32, world: &[i32], id: i32, mark: &mut i32) -> u32
+pub fn ponguriena_floor_mark(role: i32, world: &[i32], id: i32, mark: &mut i32) -> u32
     ensures { read_in_as role (query.FloorMark id) (mark.old ∷ []) (read_in (query.FloorMark id) world.now (mark.old ∷ [])) ≡ record { number = result; numbers = mark.new ∷ [] } }
 {
     if !may_ask(role, Ask::Read(Query::FloorMark(id))) {

@@ -10,8 +10,7 @@ use role_calls::may_ask;
 use role_rule::Ask;
 use world::Call;
 
-#[unsafe(no_mangle)]
-pub extern "C" fn ponguriena_search(
+pub fn ponguriena_search(
     role: i32,
     world: &[i32],
     width: u32,

@@ -16,15 +16,13 @@ use role_calls::may_ask;
 use role_rule::Ask;
 use world::Call;
 
-#[unsafe(no_mangle)]
-pub extern "C" fn ponguriena_sender_fresh(sender: &mut [i32]) -> u32
+pub fn ponguriena_sender_fresh(sender: &mut [i32]) -> u32
     ensures { fresh_buffer sender_count (copies_encoding (no_copies seats)) sender.old ≡ record { number = result; numbers = sender.new } }
 {
     send_buffers::sender_fresh_in(sender)
 }
 
-#[unsafe(no_mangle)]
-pub extern "C" fn ponguriena_send_leave(
+pub fn ponguriena_send_leave(
     role: i32,
     world: &mut [i32],
     sender: &mut [i32],
@@ -40,8 +38,7 @@ pub extern "C" fn ponguriena_send_leave(
     send_buffers::send_leave_in(world, sender, id, passed, count)
 }
 
-#[unsafe(no_mangle)]
-pub extern "C" fn ponguriena_send_tune(
+pub fn ponguriena_send_tune(
     role: i32,
     world: &mut [i32],
     sender: &mut [i32],
@@ -58,8 +55,7 @@ pub extern "C" fn ponguriena_send_tune(
     send_buffers::send_tune_in(world, sender, index, value, passed, count)
 }
 
-#[unsafe(no_mangle)]
-pub extern "C" fn ponguriena_send_step(
+pub fn ponguriena_send_step(
     role: i32,
     world: &mut [i32],
     sender: &mut [i32],
@@ -90,15 +86,13 @@ pub extern "C" fn ponguriena_send_step(
     )
 }
 
-#[unsafe(no_mangle)]
-pub extern "C" fn ponguriena_screen_fresh(screen: &mut [i32]) -> u32
+pub fn ponguriena_screen_fresh(screen: &mut [i32]) -> u32
     ensures { fresh_buffer screen_count (screen_encoding (fresh_screen seats)) screen.old ≡ record { number = result; numbers = screen.new } }
 {
     send_buffers::screen_fresh_in(screen)
 }
 
-#[unsafe(no_mangle)]
-pub extern "C" fn ponguriena_receive(
+pub fn ponguriena_receive(
     screen: &mut [i32],
     width: u32,
     height: u32,
@@ -111,8 +105,7 @@ pub extern "C" fn ponguriena_receive(
     send_buffers::receive_in(screen, Sides { width, height }, tiles, passed, used)
 }
 
-#[unsafe(no_mangle)]
-pub extern "C" fn ponguriena_shown(screen: &[i32], id: i32, record: &mut [i32]) -> u32
+pub fn ponguriena_shown(screen: &[i32], id: i32, record: &mut [i32]) -> u32
     ensures { shown_in screen.now id «record».old ≡ record { number = result; numbers = «record».new } }
 {
     send_buffers::shown_in(screen, id, record)

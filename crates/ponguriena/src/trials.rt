@@ -6,8 +6,7 @@ ghost use Rattle.trial_rule.specs.Calls.{trial_in};
 
 use map_tiles::Sides;
 
-#[unsafe(no_mangle)]
-pub extern "C" fn ponguriena_trial(
+pub fn ponguriena_trial(
     width: u32,
     height: u32,
     tiles: &[u8],
@@ -17,7 +16,7 @@ pub extern "C" fn ponguriena_trial(
     steps: i32,
     res: &mut [i32],
 ) -> u32
-    ensures* { λ r. ⌜ trial_in seats (sides_of width height) tiles.now joins.now targets.now tunings.now steps res.old ≡ record { number = r; result = res.new } ⌝ }
+    ensures { trial_in seats (sides_of width height) tiles.now joins.now targets.now tunings.now steps res.old ≡ record { number = result; result = res.new } }
 {
     trial_runs::trial(
         Sides { width, height },
