@@ -31,7 +31,7 @@ pub fn trial(
     steps: i32,
     res: &mut [i32],
 ) -> u32
-    ensures* { λ r. ⌜ trial_in seats sides tiles.now joins.now targets.now tunings.now steps res.old ≡ record { number = r; result = res.new } ⌝ }
+    ensures { trial_in seats sides tiles.now joins.now targets.now tunings.now steps res.old ≡ record { number = result; result = res.new } }
 {
     if !are_whole(joins.len(), targets.len(), tunings.len(), res.len()) {
         return BAD_LENGTH;

@@ -1,4 +1,3 @@
--- `trial_runs::checks::are_whole` meets its contract. Assumes nothing.
 use Prim.Native.Nat.{ℕ, ◌*◌, ◌/◌, ◌%◌}
 use mathlib.Core.Bool.{Bool, true, false}
 use mathlib.Core.Path.{◌≡◌, refl, sym}
@@ -9,9 +8,7 @@ use borrow.Author.Tests.{eq-eqb, ne_eqb, eqb-true, eqb-false}
 use Rattle.game_tuning.specs.Tuning.{tuning_count}
 use Rattle.character.specs.Tick.{seats}
 use Rattle.trial_rule.specs.Calls.{row_count, are_whole}
-use borrow.Author.Rules.{rules}
-use Rattle.trial_runs.proofs.checks.are_whole.Statement.{statement}
-use Rattle.trial_runs.proofs.checks.are_whole.Tie as tie
+use Rattle.trial_runs.proofs.checks.are_whole.Goals as goal
 
 -- so many whole rows, by the quotient
 rows_by_quotient : (r t : ℕ) → r % row_count seats ≡ 0 → eqb (r / row_count seats) t ≡ eqb r (row_count seats * t)
@@ -24,32 +21,26 @@ rows_by_quotient r t h = go (eqb (r / row_count seats) t) refl
 no_rows : (r t : ℕ) → (r % row_count seats ≡ 0 → ⊥) → eqb r (row_count seats * t) ≡ false
 no_rows r t h = ne_eqb r (row_count seats * t) (λ z. h (omega (arith, div-add-mod' r (row_count seats))))
 
-returns : tie.Need-returns
+pub returns-then-joins-ne0 : goal.returns-then-joins-ne0
 unfolding are_whole
-returns c = simp (ne_eqb _ _ c.if1.true)
+returns-then-joins-ne0 c = simp (ne_eqb _ _ c.if-joins-ne0.true)
 
-mul-if2 : tie.Need-overflow-mul-if2
-mul-if2 c = search rules
-
-returns_2 : tie.Need-returns-2
+pub returns-then-targets-joins : goal.returns-then-targets-joins
 unfolding are_whole
-returns_2 c = simp (eq-eqb _ _ c.before.if1.false, ne_eqb _ _ c.if2.true)
+returns-then-targets-joins c = simp (eq-eqb _ _ c.if-joins-ne0.false, ne_eqb _ _ c.if-targets-joins.true)
 
-returns-3 : tie.Need-returns-3
+pub returns-then-tunings-ne0 : goal.returns-then-tunings-ne0
 unfolding are_whole
-returns-3 c = simp (eq-eqb _ _ c.before.before.if1.false, eq-eqb _ _ c.before.if2.false, ne_eqb _ _ c.if3.true)
+returns-then-tunings-ne0 c = simp (eq-eqb _ _ c.if-joins-ne0.false, eq-eqb _ _ c.if-targets-joins.false, ne_eqb _ _ c.if-tunings-ne0.true)
 
-returns-4 : tie.Need-returns-4
+pub returns-then-res-ne0 : goal.returns-then-res-ne0
 unfolding are_whole
-returns-4 c =
-    let a = c.before.before.before.before.args in
-    simp (eq-eqb _ _ c.before.before.before.if1.false, eq-eqb _ _ c.before.before.if2.false, eq-eqb _ _ c.before.if3.false, no_rows a.result (a.tunings / tuning_count) c.if4.true)
+returns-then-res-ne0 c =
+    let a = c.args in
+    simp (eq-eqb _ _ c.if-joins-ne0.false, eq-eqb _ _ c.if-targets-joins.false, eq-eqb _ _ c.if-tunings-ne0.false, no_rows a.res (a.tunings / tuning_count) c.if-res-ne0.true)
 
-returns-5 : tie.Need-returns-5
+pub returns : goal.returns
 unfolding are_whole
-returns-5 c =
-    let a = c.before.before.before.before.args in
-    simp (eq-eqb _ _ c.before.before.before.if1.false, eq-eqb _ _ c.before.before.if2.false, eq-eqb _ _ c.before.if3.false, rows_by_quotient a.result (a.tunings / tuning_count) c.if4.false)
-
-pub are-whole-spec : {M : Type 1} → statement M
-are-whole-spec = tie.close (tie.spec returns mul-if2 returns_2 returns-3 returns-4 returns-5)
+returns c =
+    let a = c.args in
+    simp (eq-eqb _ _ c.if-joins-ne0.false, eq-eqb _ _ c.if-targets-joins.false, eq-eqb _ _ c.if-tunings-ne0.false, rows_by_quotient a.res (a.tunings / tuning_count) c.if-res-ne0.false)

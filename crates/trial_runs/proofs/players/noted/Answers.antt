@@ -1,4 +1,3 @@
--- `trial_runs::players::noted` meets its contract. Assumes nothing.
 use mathlib.Core.Bool.{Bool, true≢false}
 use mathlib.Core.Path.{◌≡◌, sym, ap, ap₂, ◌∙◌}
 use Prim.Native.Nat.{ℕ, ◌≤◌, ◌<◌}
@@ -16,9 +15,7 @@ use Rattle.game_records.proofs.Same.{number_same, number_self}
 use Rattle.base_turns.proofs.Tests.{either_way}
 use Rattle.trial_rule.specs.Trial.{distance_to, noted}
 use Rattle.trial_rule.specs.declared.Player.{Player}
-use borrow.Author.Rules.{rules}
-use Rattle.trial_runs.proofs.players.noted.Statement.{statement}
-use Rattle.trial_runs.proofs.players.noted.Tie as tie
+use Rattle.trial_runs.proofs.players.noted.Goals as goal
 
 -- the code compares the bits
 same_bits : (z y : ℤ) → to_z w32 (of_z w32 z) ≡ z → to_z w32 (of_z w32 y) ≡ y → eqb (of_z w32 z) (of_z w32 y) ≡ same_number z y
@@ -36,28 +33,16 @@ module _ (s : Sides) (k : ℕ) (x y z : ℤ) (p : Player) (b : Bool) (d : ℕ) (
   unfolding noted
   no_nearer h = rw (i, j, ← m, le-ltb d p.distance h)
 
-distance-to-requires : tie.Need-distance-to-requires
-distance-to-requires c κs = search rules
+pub returns-then-away-player : goal.returns-then-away-player
+returns-then-away-player c =
+    let t = c in
+    let a = t.args in
+    let x = to_z-of_z t.ranges.x in
+    nearer a.sides a.step a.x a.y _ a.player _ _ x (same_bits a.player.x a.x (read _ c.struct_told-1.given.1.1.1.0.1) x) (c.distance_to-away.ensures.0 ∙ ap₂ (λ (u v : ℤ). distance_to a.sides a.player.column a.player.row (point_of u v)) x (to_z-of_z t.ranges.y)) c.if-away-player.true
 
-cast-if1 : tie.Need-overflow-cast-if1
-cast-if1 c = search rules
-
-cast-t10 : tie.Need-overflow-cast-t10
-cast-t10 c = search rules
-
-returns : tie.Need-returns
+pub returns : goal.returns
 returns c =
-    let t = c.before.before.before.before.before in
+    let t = c in
     let a = t.args in
     let x = to_z-of_z t.ranges.x in
-    nearer a.sides a.step a.x a.y _ a.player _ _ x (same_bits a.player.x a.x (read _ c.before.before.before.struct_told.given.1.1.1.0.1) x) (c.before.before.distance-to.ensures.0 ∙ ap₂ (λ (u v : ℤ). distance_to a.sides a.player.column a.player.row (point_of u v)) x (to_z-of_z t.ranges.y)) c.if1.true
-
-returns_2 : tie.Need-returns-2
-returns_2 c =
-    let t = c.before.before.before.before.before in
-    let a = t.args in
-    let x = to_z-of_z t.ranges.x in
-    no_nearer a.sides a.step a.x a.y _ a.player _ _ x (same_bits a.player.x a.x (read _ c.before.before.before.struct_told.given.1.1.1.0.1) x) (c.before.before.distance-to.ensures.0 ∙ ap₂ (λ (u v : ℤ). distance_to a.sides a.player.column a.player.row (point_of u v)) x (to_z-of_z t.ranges.y)) c.if1.false
-
-pub noted-spec : {M : Type 1} → statement M
-noted-spec = tie.close (tie.spec distance-to-requires cast-if1 cast-t10 returns returns_2)
+    no_nearer a.sides a.step a.x a.y _ a.player _ _ x (same_bits a.player.x a.x (read _ c.struct_told-1.given.1.1.1.0.1) x) (c.distance_to-away.ensures.0 ∙ ap₂ (λ (u v : ℤ). distance_to a.sides a.player.column a.player.row (point_of u v)) x (to_z-of_z t.ranges.y)) c.if-away-player.false
