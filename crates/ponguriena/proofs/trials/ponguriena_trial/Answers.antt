@@ -1,0 +1,6 @@
+use mir.Facts.{to_z-of_z}
+use borrow.Author.Rules.{rules}
+use Rattle.ponguriena.proofs.trials.ponguriena_trial.Goals as goal
+
+pub returns : goal.returns
+returns c = rw (to_z-of_z c.ranges.steps) at c.trial.ensures
