@@ -1,0 +1,22 @@
+-- What `begin` leaves is played on, and what it wrote is written first.
+use Rattle.std.proofs.Common.{rules, ℕ, ◌-◌, List, ◌≡◌, take, refl, ap, arith}
+use Rattle.std.proofs.lemmas.Result.{IfOk-weaker}
+use Rattle.session_run.specs.Start.{Began}
+use Rattle.session_run.specs.declared.start.Begun.{Begun}
+use Rattle.session_run.specs.declared.session_lines.Session.{Session}
+use Rattle.session_laws.specs.Played.{Started}
+use Rattle.session_laws.proofs.Within.{count_within}
+use Rattle.session_files.proofs.play_text.Goals as goal
+
+-- what `begin` leaves, with the part of the tiles that is lent on
+begun_started : {n : ℕ} {text ts d : List ℕ} {r : Begun} {e : List ℕ} → Began n text ts d r e → Started n text r.sides (take (r.count - 0) ts) r.first e
+begun_started {ts = ts} {r = r} b = let all : r.count ≡ r.count - 0 = omega arith in record { tiles = _; buffer = _; begun = r; began = b; on_sides = refl; on_tiles = ap (λ (k : ℕ). take k ts) all; is_first = refl }
+
+pub slice_bounds-play-end : goal.slice_bounds-play-end
+slice_bounds-play-end g c = count_within c.begin-begun.ensures
+
+pub play-requires : goal.play-requires
+play-requires g c = (begun_started c.begin-begun.ensures, search rules)
+
+pub returns : goal.returns
+returns g c = IfOk-weaker c.play.result _ _ (λ (f : Session) p. (record { sides = _; tiles = _; first = _; buffer = _; started = begun_started c.begin-begun.ensures; ended = p.0 }, p.1)) c.play.ensures
