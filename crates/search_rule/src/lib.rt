@@ -1,7 +1,6 @@
 // How somebody could get to a place in one, two or three steps. Types only; the search and its laws stand in specs/ and proofs/. search_calls has the functions.
 #![tactic(auto)]
 
-
 // What is pressed in one step.
 #[derive(Clone, Copy)]
 pub struct Buttons {

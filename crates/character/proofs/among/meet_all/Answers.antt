@@ -64,11 +64,11 @@ loop-j-preserved c = λ ss places.
     let far = sym c.may_meet.ensures in
     turn_on (l.invariant ss places) h
     (ap more (seat_turn seats ss a.present.now a.xs.now a.ys.now places a.id l.j h place.result place.ensures (λ q v. meet a.pos v a.hook q (id_of l.j) a.tuning) l.vel c.if-may_meet.vel
-    (elim c.if-may_meet.branch
-    [ then-may_meet+then-present-j+then-j-id w ↦ inl (w.if-present-j.true, w.if-j-id.true, w.vel-is ∙ w.meet-vel.ensures)
-    | then-may_meet+then-present-j+else-j-id w ↦ inr (inl w.if-j-id.false, w.vel-is)
-    | then-may_meet+else-present-j w ↦ inr (inr (inl w.if-present-j.false), w.vel-is)
-    | else-may_meet w ↦ inr (inr (inr (λ o. sym (left_out seats a.id a.pos l.vel a.hook place.result l.j a.tuning h o (rw b.held_seat-held.ensures at (far ∙ w.if-may_meet.false))))), w.vel-is)
+    (elim c.if-may_meet.branch [
+      | then-may_meet+then-present-j+then-j-id w ↦ inl (w.if-present-j.true, w.if-j-id.true, w.vel-is ∙ w.meet-vel.ensures)
+      | then-may_meet+then-present-j+else-j-id w ↦ inr (inl w.if-j-id.false, w.vel-is)
+      | then-may_meet+else-present-j w ↦ inr (inr (inl w.if-present-j.false), w.vel-is)
+      | else-may_meet w ↦ inr (inr (inr (λ o. sym (left_out seats a.id a.pos l.vel a.hook place.result l.j a.tuning h o (rw b.held_seat-held.ensures at (far ∙ w.if-may_meet.false))))), w.vel-is)
     ])))
 
 pub returns : goal.returns

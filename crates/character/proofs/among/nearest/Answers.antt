@@ -47,13 +47,13 @@ loop-j-preserved c = λ ss places.
     let q = place_at a.xs.now a.ys.now l.j in
     turn_on (l.invariant ss places) h
     (ap more (seat_turn seats ss a.present.now a.xs.now a.ys.now places a.id l.j h q refl (λ p best. nearer best (id_of l.j) p a.from a.to) l.best c.if-present-j.best
-    (elim c.if-present-j.branch
-    [ then-present-j+then-may_touch+then-j-id w ↦ inl (w.if-present-j.true, w.if-j-id.true, w.best-is ∙ (rw w.new-place.ensures at w.nearer-best.ensures))
-    | then-present-j+then-may_touch+else-j-id w ↦ inr (inl w.if-j-id.false, w.best-is)
-    | then-present-j+else-may_touch w ↦
-      let side = rw (b.add-end.ensures, b.sub.ensures, w.new-place.ensures) at (sym w.may_touch.ensures ∙ w.if-may_touch.false) in
-      inr (inr (inr (λ o. unmet q a.from a.to fit (left_out a.from a.to q side) l.best (id_of l.j))), w.best-is)
-    | else-present-j w ↦ inr (inr (inl w.if-present-j.false), w.best-is)
+    (elim c.if-present-j.branch [
+      | then-present-j+then-may_touch+then-j-id w ↦ inl (w.if-present-j.true, w.if-j-id.true, w.best-is ∙ (rw w.new-place.ensures at w.nearer-best.ensures))
+      | then-present-j+then-may_touch+else-j-id w ↦ inr (inl w.if-j-id.false, w.best-is)
+      | then-present-j+else-may_touch w ↦
+          let side = rw (b.add-end.ensures, b.sub.ensures, w.new-place.ensures) at (sym w.may_touch.ensures ∙ w.if-may_touch.false) in
+          inr (inr (inr (λ o. unmet q a.from a.to fit (left_out a.from a.to q side) l.best (id_of l.j))), w.best-is)
+      | else-present-j w ↦ inr (inr (inl w.if-present-j.false), w.best-is)
     ])))
 
 pub returns : goal.returns

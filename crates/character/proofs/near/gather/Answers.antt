@@ -122,11 +122,11 @@ loop-j-preserved c =
     let q = c.new-place in
     let side = sym c.may_touch.ensures in
     let pass = passed a.present.now a.xs.now a.ys.now a.id a.from a.end l.j l.count l.near_xs l.near_ys h q.result q.ensures l.invariant c.if-may_touch.near_xs c.if-may_touch.near_ys c.if-may_touch.count (fits s) in
-    elim c.if-may_touch.branch
-    [ then-may_touch+then-present-j+then-j-id w ↦ taken a.present.now a.xs.now a.ys.now a.id a.from a.end l.j l.count l.near_xs l.near_ys h q.result q.ensures l.invariant c.if-may_touch.near_xs c.if-may_touch.near_ys c.if-may_touch.count w.if-present-j.true w.if-j-id.true w.near_xs-is w.near_ys-is w.count-is
-    | then-may_touch+then-present-j+else-j-id w ↦ pass (inl w.if-j-id.false, w.near_xs-is, w.near_ys-is, w.count-is)
-    | then-may_touch+else-present-j w ↦ pass (inr (inl w.if-present-j.false), w.near_xs-is, w.near_ys-is, w.count-is)
-    | else-may_touch w ↦ pass (inr (inr (side ∙ w.if-may_touch.false)), w.near_xs-is, w.near_ys-is, w.count-is)
+    elim c.if-may_touch.branch [
+      | then-may_touch+then-present-j+then-j-id w ↦ taken a.present.now a.xs.now a.ys.now a.id a.from a.end l.j l.count l.near_xs l.near_ys h q.result q.ensures l.invariant c.if-may_touch.near_xs c.if-may_touch.near_ys c.if-may_touch.count w.if-present-j.true w.if-j-id.true w.near_xs-is w.near_ys-is w.count-is
+      | then-may_touch+then-present-j+else-j-id w ↦ pass (inl w.if-j-id.false, w.near_xs-is, w.near_ys-is, w.count-is)
+      | then-may_touch+else-present-j w ↦ pass (inr (inl w.if-present-j.false), w.near_xs-is, w.near_ys-is, w.count-is)
+      | else-may_touch w ↦ pass (inr (inr (side ∙ w.if-may_touch.false)), w.near_xs-is, w.near_ys-is, w.count-is)
     ]
 
 pub returns : goal.returns

@@ -53,9 +53,9 @@ pub loop-k-preserved : goal.loop-k-preserved
 loop-k-preserved c =
     let s = c.loop-k.invariant.0 in
     let f = first c.new-q.ensures c.first_touch-r.ensures in
-    elim c.if-r-turn.branch
-    [ then-r-turn w ↦ (reached (sym w.turn-is) (sym w.place-is) (soonest_on _ _ _ _ _ _ s f w.if-r-turn.true), omega arith)
-    | else-r-turn w ↦ (reached (sym w.turn-is) (sym w.place-is) (soonest_past _ _ _ _ _ _ s f w.if-r-turn.false), omega arith)
+    elim c.if-r-turn.branch [
+      | then-r-turn w ↦ (reached (sym w.turn-is) (sym w.place-is) (soonest_on _ _ _ _ _ _ s f w.if-r-turn.true), omega arith)
+      | else-r-turn w ↦ (reached (sym w.turn-is) (sym w.place-is) (soonest_past _ _ _ _ _ _ s f w.if-r-turn.false), omega arith)
     ]
 
 pub returns : goal.returns

@@ -40,9 +40,9 @@ returns-then-at-lt-SEATS c =
     let s = c in
     let a = s.args in
     let m = sym c.is_map.ensures ∙ c.if-is_map.true in
-    elim c.else-in_reach.branch
-    [ else-in_reach-via-then-in_reach+else-in_reach-2 w ↦ y-far a.sides a.tiles.now a.world.now a.id a.x a.y c.if-world-ne-WORLD.false m c.place_of-at.result (place_is (record { before = c.before.before.before.before; type_inv = record { tiles = c.type_inv.tiles } })) c.if-at-lt-SEATS.true (sym (x_is (record { before = c.before.before; type_inv = record { tiles = c.type_inv.tiles } })) ∙ w.if-in_reach.true) (sym (w.in_reach-then-in_reach.ensures ∙ ap is_in_reach (to_z-of_z s.ranges.y)) ∙ w.if-in_reach-2.false)
-    | else-in_reach-via-else-in_reach w ↦ x-far a.sides a.tiles.now a.world.now a.id a.x a.y c.if-world-ne-WORLD.false m c.place_of-at.result (place_is (record { before = c.before.before.before.before; type_inv = record { tiles = c.type_inv.tiles } })) c.if-at-lt-SEATS.true (sym (x_is (record { before = c.before.before; type_inv = record { tiles = c.type_inv.tiles } })) ∙ w.if-in_reach.false)
+    elim c.else-in_reach.branch [
+      | else-in_reach-via-then-in_reach+else-in_reach-2 w ↦ y-far a.sides a.tiles.now a.world.now a.id a.x a.y c.if-world-ne-WORLD.false m c.place_of-at.result (place_is (record { before = c.before.before.before.before; type_inv = record { tiles = c.type_inv.tiles } })) c.if-at-lt-SEATS.true (sym (x_is (record { before = c.before.before; type_inv = record { tiles = c.type_inv.tiles } })) ∙ w.if-in_reach.true) (sym (w.in_reach-then-in_reach.ensures ∙ ap is_in_reach (to_z-of_z s.ranges.y)) ∙ w.if-in_reach-2.false)
+      | else-in_reach-via-else-in_reach w ↦ x-far a.sides a.tiles.now a.world.now a.id a.x a.y c.if-world-ne-WORLD.false m c.place_of-at.result (place_is (record { before = c.before.before.before.before; type_inv = record { tiles = c.type_inv.tiles } })) c.if-at-lt-SEATS.true (sym (x_is (record { before = c.before.before; type_inv = record { tiles = c.type_inv.tiles } })) ∙ w.if-in_reach.false)
     ]
 
 pub returns-then-is_map : goal.returns-then-is_map

@@ -32,9 +32,9 @@ loop-j-preserved c =
     let h = c.loop-j-test.true in
     let e = c.holds_in.ensures in
     let k = c.args.id in
-    elim c.if-holds_in.branch
-    [ then-holds_in w ↦ (ap length w.world-is ∙ w.copy.auto.numbers ∙ l.invariant.0, turn_on l.invariant.1 h (ap more (released k l.j l.world c.if-holds_in.world (sym e ∙ w.if-holds_in.true) (w.world-is ∙ w.copy.ensures ∙ ap (λ (at : ℕ). put l.world (at + hook_place) retracted_numbers) w.seat_place.ensures))))
-    | else-holds_in w ↦ (ap length w.world-is ∙ l.invariant.0, turn_on l.invariant.1 h (ap more (stays k l.j l.world c.if-holds_in.world (sym e ∙ w.if-holds_in.false) w.world-is)))
+    elim c.if-holds_in.branch [
+      | then-holds_in w ↦ (ap length w.world-is ∙ w.copy.auto.numbers ∙ l.invariant.0, turn_on l.invariant.1 h (ap more (released k l.j l.world c.if-holds_in.world (sym e ∙ w.if-holds_in.true) (w.world-is ∙ w.copy.ensures ∙ ap (λ (at : ℕ). put l.world (at + hook_place) retracted_numbers) w.seat_place.ensures))))
+      | else-holds_in w ↦ (ap length w.world-is ∙ l.invariant.0, turn_on l.invariant.1 h (ap more (stays k l.j l.world c.if-holds_in.world (sym e ∙ w.if-holds_in.false) w.world-is)))
     ]
 
 pub returns : goal.returns

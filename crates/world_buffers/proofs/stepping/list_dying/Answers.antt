@@ -35,20 +35,20 @@ loop-j-preserved c =
     let a = c.args in
     let l = c.loop-j in
     let h = c.loop-j-test.true in
-    elim c.if-present-j.branch
-    [ then-present-j+then-on_deadly w ↦ (
+    elim c.if-present-j.branch [
+      | then-present-j+then-on_deadly w ↦ (
         (let e = w.count-is in omega (arith, l.invariant.0, e)),
         omega arith,
         ap length w.marks-is ∙ length-set l.marks l.j false ∙ l.invariant.2,
         λ ss places. dead a.sides a.tiles.now ss a.marks.now l.j l.marks l.ids l.count (l.invariant.3 ss places) h c.if-present-j.marks c.if-present-j.ids c.if-present-j.count l.invariant.2 (on_spikes a.sides a.tiles.now ss a.present.now a.xs.now a.ys.now places l.j h true w.on_deadly.result w.new-place.result w.if-present-j.true w.new-place.ensures w.on_deadly.ensures w.if-on_deadly.true) w.marks-is (w.ids-is ∙ ap (set l.ids l.count) (as_i32 l.j h)) w.count-is,
       )
-    | then-present-j+else-on_deadly w ↦ (
+      | then-present-j+else-on_deadly w ↦ (
         (let e = w.count-is in omega (arith, l.invariant.0, e)),
         omega arith,
         ap length w.marks-is ∙ l.invariant.2,
         λ ss places. alive a.sides a.tiles.now ss a.marks.now l.j l.marks l.ids l.count (l.invariant.3 ss places) h c.if-present-j.marks c.if-present-j.ids c.if-present-j.count (on_spikes a.sides a.tiles.now ss a.present.now a.xs.now a.ys.now places l.j h false w.on_deadly.result w.new-place.result w.if-present-j.true w.new-place.ensures w.on_deadly.ensures w.if-on_deadly.false) w.marks-is w.ids-is w.count-is,
       )
-    | else-present-j w ↦ (
+      | else-present-j w ↦ (
         (let e = w.count-is in omega (arith, l.invariant.0, e)),
         omega arith,
         ap length w.marks-is ∙ l.invariant.2,

@@ -40,9 +40,9 @@ loop-id-preserved c =
     let a = c.args in
     let h = c.loop-id-test.true in
     let b : Bodies = record { present = a.present.now; xs = l.xs; ys = l.ys; vxs = a.vxs.now; vys = a.vys.now } in
-    elim c.if-present-id.branch
-    [ then-present-id+then-move_seat w ↦ (ap length w.rows-is ∙ w.move_seat.auto.rows ∙ l.invariant.0, λ ss marks r. rw (w.xs-is, w.ys-is, w.rows-is) (move_on a.sides a.tiles.now a.tuning l.id _ b l.rows marks (l.invariant.1 ss marks r) h w.if-present-id.true w.move_seat.result w.if-move_seat.true _ _ w.move_seat.ensures))
-    | else-present-id w ↦ (ap length w.rows-is ∙ l.invariant.0, λ ss marks r. rw (w.xs-is, w.ys-is, w.rows-is) (move_past a.sides a.tiles.now a.tuning l.id _ b l.rows marks (l.invariant.1 ss marks r) h w.if-present-id.false))
+    elim c.if-present-id.branch [
+      | then-present-id+then-move_seat w ↦ (ap length w.rows-is ∙ w.move_seat.auto.rows ∙ l.invariant.0, λ ss marks r. rw (w.xs-is, w.ys-is, w.rows-is) (move_on a.sides a.tiles.now a.tuning l.id _ b l.rows marks (l.invariant.1 ss marks r) h w.if-present-id.true w.move_seat.result w.if-move_seat.true _ _ w.move_seat.ensures))
+      | else-present-id w ↦ (ap length w.rows-is ∙ l.invariant.0, λ ss marks r. rw (w.xs-is, w.ys-is, w.rows-is) (move_past a.sides a.tiles.now a.tuning l.id _ b l.rows marks (l.invariant.1 ss marks r) h w.if-present-id.false))
     ]
 
 pub shape_of-rows : goal.shape_of-rows

@@ -39,9 +39,9 @@ loop-id-preserved c =
     let a = c.args in
     let h = c.loop-id-test.true in
     let b : Bodies = record { present = a.present.now; xs = a.xs.now; ys = a.ys.now; vxs = l.vxs; vys = l.vys } in
-    elim c.if-present-id.branch
-    [ then-present-id+then-tick_seat w ↦ rw (w.vxs-is, w.vys-is, w.rows-is, w.marks-is) (tick_on a.numbers.now a.sides a.tiles.now a.tuning l.id _ b l.rows l.marks l.invariant h w.if-present-id.true w.tick_seat.result w.if-tick_seat.true _ _ _ w.tick_seat.ensures)
-    | else-present-id w ↦ rw (w.vxs-is, w.vys-is, w.rows-is, w.marks-is) (tick_past a.numbers.now a.sides a.tiles.now a.tuning l.id _ b l.rows l.marks l.invariant h w.if-present-id.false)
+    elim c.if-present-id.branch [
+      | then-present-id+then-tick_seat w ↦ rw (w.vxs-is, w.vys-is, w.rows-is, w.marks-is) (tick_on a.numbers.now a.sides a.tiles.now a.tuning l.id _ b l.rows l.marks l.invariant h w.if-present-id.true w.tick_seat.result w.if-tick_seat.true _ _ _ w.tick_seat.ensures)
+      | else-present-id w ↦ rw (w.vxs-is, w.vys-is, w.rows-is, w.marks-is) (tick_past a.numbers.now a.sides a.tiles.now a.tuning l.id _ b l.rows l.marks l.invariant h w.if-present-id.false)
     ]
 
 pub shape_of-rows : goal.shape_of-rows

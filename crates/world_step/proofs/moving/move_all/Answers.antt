@@ -88,14 +88,14 @@ loop-j-preserved c =
     let l = c.loop-j in
     let ps = c.places_of-places.result.present in
     let a = c.args in
-    elim c.if-slot.branch
-    [ then-slot+in-Core w ↦
-      let back = w.all-is ∙ ap (set l.all l.j) w.with_character.ensures in
-      let core = ap record_of (sym (w.move_among.ensures l.all l.invariant.1.4)) ∙ sym w.record_of.ensures ∙ w.in-Core.is in (
-        turn_on l.invariant.0 h (records a.sides a.tiles.now a.tuning l.j l.all l.records w.in-Core.core c.if-slot.all c.if-slot.records w.if-slot.true core (back ∙ ap (put_back l.all l.j) w.from_net-left.ensures) w.records-is),
-        noted l.all ps l.xs l.ys l.j w.from_net-left.result c.if-slot.all c.if-slot.xs c.if-slot.ys h back w.xs-is w.ys-is l.invariant.1,
-      )
-    | else-slot w ↦ (turn_on l.invariant.0 h (nobody a.sides a.tiles.now a.tuning l.j l.all l.records c.if-slot.all c.if-slot.records w.if-slot.false w.all-is w.records-is), rw (w.xs-is, w.ys-is, w.all-is) l.invariant.1)
+    elim c.if-slot.branch [
+      | then-slot+in-Core w ↦
+          let back = w.all-is ∙ ap (set l.all l.j) w.with_character.ensures in
+          let core = ap record_of (sym (w.move_among.ensures l.all l.invariant.1.4)) ∙ sym w.record_of.ensures ∙ w.in-Core.is in (
+            turn_on l.invariant.0 h (records a.sides a.tiles.now a.tuning l.j l.all l.records w.in-Core.core c.if-slot.all c.if-slot.records w.if-slot.true core (back ∙ ap (put_back l.all l.j) w.from_net-left.ensures) w.records-is),
+            noted l.all ps l.xs l.ys l.j w.from_net-left.result c.if-slot.all c.if-slot.xs c.if-slot.ys h back w.xs-is w.ys-is l.invariant.1,
+          )
+      | else-slot w ↦ (turn_on l.invariant.0 h (nobody a.sides a.tiles.now a.tuning l.j l.all l.records c.if-slot.all c.if-slot.records w.if-slot.false w.all-is w.records-is), rw (w.xs-is, w.ys-is, w.all-is) l.invariant.1)
     ]
 
 pub returns : goal.returns

@@ -80,10 +80,10 @@ loop-j-preserved c =
     let n = c.if-slot.next in
     let is = c.if-slot.ids in
     let k = c.if-slot.count in
-    elim c.if-slot.branch
-    [ then-slot+then-on_deadly w ↦ dead a.sides a.tiles.now a.world.slots a.world l.j l.next l.ids l.count l.invariant h n is k (on_spikes a.sides a.tiles.now a.world.slots a.world l.j l.next l.ids l.count l.invariant h true w.on_deadly.result w.if-slot.true w.on_deadly.ensures w.if-on_deadly.true) (w.next-is ∙ w.vacate-next.ensures) (w.ids-is ∙ ap (λ (z : ℤ). set l.ids l.count z) (as_i32 l.j h)) w.count-is
-    | then-slot+else-on_deadly w ↦ alive a.sides a.tiles.now a.world.slots a.world l.j l.next l.ids l.count l.invariant h n is k (on_spikes a.sides a.tiles.now a.world.slots a.world l.j l.next l.ids l.count l.invariant h false w.on_deadly.result w.if-slot.true w.on_deadly.ensures w.if-on_deadly.false) w.next-is w.ids-is w.count-is
-    | else-slot w ↦ alive a.sides a.tiles.now a.world.slots a.world l.j l.next l.ids l.count l.invariant h n is k (nobody a.sides a.tiles.now a.world.slots a.world l.j l.next l.ids l.count l.invariant h w.if-slot.false) w.next-is w.ids-is w.count-is
+    elim c.if-slot.branch [
+      | then-slot+then-on_deadly w ↦ dead a.sides a.tiles.now a.world.slots a.world l.j l.next l.ids l.count l.invariant h n is k (on_spikes a.sides a.tiles.now a.world.slots a.world l.j l.next l.ids l.count l.invariant h true w.on_deadly.result w.if-slot.true w.on_deadly.ensures w.if-on_deadly.true) (w.next-is ∙ w.vacate-next.ensures) (w.ids-is ∙ ap (λ (z : ℤ). set l.ids l.count z) (as_i32 l.j h)) w.count-is
+      | then-slot+else-on_deadly w ↦ alive a.sides a.tiles.now a.world.slots a.world l.j l.next l.ids l.count l.invariant h n is k (on_spikes a.sides a.tiles.now a.world.slots a.world l.j l.next l.ids l.count l.invariant h false w.on_deadly.result w.if-slot.true w.on_deadly.ensures w.if-on_deadly.false) w.next-is w.ids-is w.count-is
+      | else-slot w ↦ alive a.sides a.tiles.now a.world.slots a.world l.j l.next l.ids l.count l.invariant h n is k (nobody a.sides a.tiles.now a.world.slots a.world l.j l.next l.ids l.count l.invariant h w.if-slot.false) w.next-is w.ids-is w.count-is
     ]
 
 pub returns : goal.returns

@@ -135,12 +135,12 @@ loop-id-preserved c =
     let a = c.args in
     let places = c.places_of-places.result in
     let h = c.loop-id-test.true in
-    elim c.if-slot.branch
-    [ then-slot+in-To w ↦
-      let e = w.tick_among-own.ensures l.all l.invariant.1 in
-      let r : Ticks a.sides a.tiles.now a.tuning l.id l.all w.tick_among-own.result e c.if-slot.all = record { me = w.in-To.me; on_ground = w.in-To.grounded; held = w.held_seat-held.result; pull = w.pull_by-pull.result; other = w.pulled.result; mine = w.ticked.result; left = w.in-To.is; seat = w.held_seat-held.ensures; pulls = w.pull_by-pull.ensures; pulled = w.pulled.ensures; ticked = w.ticked.ensures; slots = w.all-is } in
-      (turn_on l.invariant.0 h (ticks a.sides a.tiles.now a.tuning l.id l.all w.tick_among-own.result e c.if-slot.all r w.if-slot.true), stand a.sides a.tiles.now a.tuning l.id l.all w.tick_among-own.result e c.if-slot.all r places.present places.xs places.ys l.invariant.1)
-    | else-slot w ↦ (turn_on l.invariant.0 h (nobody a.sides a.tiles.now a.tuning l.id l.all c.if-slot.all w.if-slot.false w.all-is), rw w.all-is l.invariant.1)
+    elim c.if-slot.branch [
+      | then-slot+in-To w ↦
+          let e = w.tick_among-own.ensures l.all l.invariant.1 in
+          let r : Ticks a.sides a.tiles.now a.tuning l.id l.all w.tick_among-own.result e c.if-slot.all = record { me = w.in-To.me; on_ground = w.in-To.grounded; held = w.held_seat-held.result; pull = w.pull_by-pull.result; other = w.pulled.result; mine = w.ticked.result; left = w.in-To.is; seat = w.held_seat-held.ensures; pulls = w.pull_by-pull.ensures; pulled = w.pulled.ensures; ticked = w.ticked.ensures; slots = w.all-is } in
+          (turn_on l.invariant.0 h (ticks a.sides a.tiles.now a.tuning l.id l.all w.tick_among-own.result e c.if-slot.all r w.if-slot.true), stand a.sides a.tiles.now a.tuning l.id l.all w.tick_among-own.result e c.if-slot.all r places.present places.xs places.ys l.invariant.1)
+      | else-slot w ↦ (turn_on l.invariant.0 h (nobody a.sides a.tiles.now a.tuning l.id l.all c.if-slot.all w.if-slot.false w.all-is), rw w.all-is l.invariant.1)
     ]
 
 pub returns : goal.returns
