@@ -25,8 +25,8 @@ pub extern "C" fn ponguriena_move_box(
     box_x: f32,
     box_y: f32,
 ) -> u32
-    ensures value { result ≡ box_number (move_box (sides_of width height) tiles.now (vnew pos_x.old pos_y.old) (vnew vel_x.old vel_y.old) (vnew box_x box_y)) }
-    ensures box_y_value { body_or pos_x.old pos_y.old vel_x.old vel_y.old (move_box (sides_of width height) tiles.now (vnew pos_x.old pos_y.old) (vnew vel_x.old vel_y.old) (vnew box_x box_y)) ≡ record { pos = vnew pos_x.new pos_y.new; vel = vnew vel_x.new vel_y.new } }
+    ensures number { result ≡ box_number (move_box (sides_of width height) tiles.now (vnew pos_x.old pos_y.old) (vnew vel_x.old vel_y.old) (vnew box_x box_y)) }
+    ensures body { body_or pos_x.old pos_y.old vel_x.old vel_y.old (move_box (sides_of width height) tiles.now (vnew pos_x.old pos_y.old) (vnew vel_x.old vel_y.old) (vnew box_x box_y)) ≡ record { pos = vnew pos_x.new pos_y.new; vel = vnew vel_x.new vel_y.new } }
 {
     let sides = Sides { width, height };
     let moved = map_walks::move_box(
@@ -64,9 +64,9 @@ pub extern "C" fn ponguriena_check_line(
     point_y: &mut f32,
     tile: &mut u32,
 ) -> u32
-    ensures value { result ≡ line_number (check_line (sides_of width height) tiles.now (vnew from_x from_y) (vnew to_x to_y)) }
-    ensures to_y_value { point_or point_x.old point_y.old (check_line (sides_of width height) tiles.now (vnew from_x from_y) (vnew to_x to_y)) ≡ vnew point_x.new point_y.new }
-    ensures tile_after { tile.new ≡ tile_or tile.old (check_line (sides_of width height) tiles.now (vnew from_x from_y) (vnew to_x to_y)) }
+    ensures number { result ≡ line_number (check_line (sides_of width height) tiles.now (vnew from_x from_y) (vnew to_x to_y)) }
+    ensures point { point_or point_x.old point_y.old (check_line (sides_of width height) tiles.now (vnew from_x from_y) (vnew to_x to_y)) ≡ vnew point_x.new point_y.new }
+    ensures hit_tile { tile.new ≡ tile_or tile.old (check_line (sides_of width height) tiles.now (vnew from_x from_y) (vnew to_x to_y)) }
 {
     let sides = Sides { width, height };
     let check = map_lines::check_line(
@@ -103,8 +103,8 @@ pub extern "C" fn ponguriena_check_point(
     y: f32,
     tile: &mut u32,
 ) -> u32
-    ensures value { result ≡ cond (is_map (sides_of width height) tiles.now) 0 bad_map }
-    ensures tile_after { tile.new ≡ cond (is_map (sides_of width height) tiles.now) (byte_of (check_point (sides_of width height) tiles.now (vnew x y))) tile.old }
+    ensures number { result ≡ cond (is_map (sides_of width height) tiles.now) 0 bad_map }
+    ensures point_tile { tile.new ≡ cond (is_map (sides_of width height) tiles.now) (byte_of (check_point (sides_of width height) tiles.now (vnew x y))) tile.old }
 {
     let sides = Sides { width, height };
     if is_map(sides, tiles) {
