@@ -7,15 +7,13 @@ ghost use Rattle.num_ramp.specs.Ramp.{velocity_ramp};
 
 use num_convert::hundredths_to_f32;
 
-#[unsafe(no_mangle)]
-pub extern "C" fn ponguriena_net_angle(x: i32, y: i32) -> i32
+pub fn ponguriena_net_angle(x: i32, y: i32) -> i32
     ensures { result ≡ net_angle x y }
 {
     aim_angle::net_angle(x, y)
 }
 
-#[unsafe(no_mangle)]
-pub extern "C" fn ponguriena_scan_angle(x: i32, y: i32, read: &mut u32) -> i32
+pub fn ponguriena_scan_angle(x: i32, y: i32, read: &mut u32) -> i32
     ensures { (result ≡ net_angle x y) × (read.new ≡ entries_read x y) }
 {
     let scan = aim_scan::scan_angle(x, y);
@@ -23,13 +21,7 @@ pub extern "C" fn ponguriena_scan_angle(x: i32, y: i32, read: &mut u32) -> i32
     scan.angle
 }
 
-#[unsafe(no_mangle)]
-pub extern "C" fn ponguriena_velocity_ramp(
-    value: f32,
-    start: i32,
-    range: i32,
-    curvature: i32,
-) -> f32
+pub fn ponguriena_velocity_ramp(value: f32, start: i32, range: i32, curvature: i32) -> f32
     ensures { result ≡ velocity_ramp value (hundredths_to_f32 start) (hundredths_to_f32 range) (hundredths_to_f32 curvature) }
 {
     num_ramp::velocity_ramp(

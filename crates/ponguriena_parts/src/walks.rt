@@ -13,8 +13,7 @@ use map_tiles::{Sides, Tile, check_point, is_map};
 use map_walks::BoxMove;
 use num_vec2::vec2;
 
-#[unsafe(no_mangle)]
-pub extern "C" fn ponguriena_move_box(
+pub fn ponguriena_move_box(
     width: u32,
     height: u32,
     tiles: &[u8],
@@ -51,8 +50,7 @@ pub extern "C" fn ponguriena_move_box(
     }
 }
 
-#[unsafe(no_mangle)]
-pub extern "C" fn ponguriena_check_line(
+pub fn ponguriena_check_line(
     width: u32,
     height: u32,
     tiles: &[u8],
@@ -94,8 +92,7 @@ pub extern "C" fn ponguriena_check_line(
 }
 
 // The tile of a point, as its byte on the map.
-#[unsafe(no_mangle)]
-pub extern "C" fn ponguriena_check_point(
+pub fn ponguriena_check_point(
     width: u32,
     height: u32,
     tiles: &[u8],

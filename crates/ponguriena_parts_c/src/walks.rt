@@ -1,0 +1,65 @@
+// The walks of a line and of a box, and the tile of a point.
+ghost use Rattle.std.specs.Prelude.{cond, ◌≡◌};
+ghost use Rattle.num_vec2.specs.Vec2.{vnew};
+ghost use Rattle.map_walks.specs.Move.{move_box, box_number};
+ghost use Rattle.map_lines.specs.Line.{check_line, line_number};
+ghost use Rattle.game_refusals.specs.Refusals.{bad_map};
+ghost use Rattle.map_tiles.specs.Map.{sides_of, is_map, check_point};
+ghost use Rattle.ponguriena_parts.specs.Walks.{body_or, point_or, byte_of, tile_or};
+
+#[unsafe(no_mangle)]
+pub extern "C" fn ponguriena_move_box(
+    width: u32,
+    height: u32,
+    tiles: &[u8],
+    pos_x: &mut f32,
+    pos_y: &mut f32,
+    vel_x: &mut f32,
+    vel_y: &mut f32,
+    box_x: f32,
+    box_y: f32,
+) -> u32
+    ensures number { result ≡ box_number (move_box (sides_of width height) tiles.now (vnew pos_x.old pos_y.old) (vnew vel_x.old vel_y.old) (vnew box_x box_y)) }
+    ensures body { body_or pos_x.old pos_y.old vel_x.old vel_y.old (move_box (sides_of width height) tiles.now (vnew pos_x.old pos_y.old) (vnew vel_x.old vel_y.old) (vnew box_x box_y)) ≡ record { pos = vnew pos_x.new pos_y.new; vel = vnew vel_x.new vel_y.new } }
+{
+    ponguriena_parts::ponguriena_move_box(
+        width, height, tiles, pos_x, pos_y, vel_x, vel_y, box_x, box_y,
+    )
+}
+
+#[unsafe(no_mangle)]
+pub extern "C" fn ponguriena_check_line(
+    width: u32,
+    height: u32,
+    tiles: &[u8],
+    from_x: f32,
+    from_y: f32,
+    to_x: f32,
+    to_y: f32,
+    point_x: &mut f32,
+    point_y: &mut f32,
+    tile: &mut u32,
+) -> u32
+    ensures number { result ≡ line_number (check_line (sides_of width height) tiles.now (vnew from_x from_y) (vnew to_x to_y)) }
+    ensures point { point_or point_x.old point_y.old (check_line (sides_of width height) tiles.now (vnew from_x from_y) (vnew to_x to_y)) ≡ vnew point_x.new point_y.new }
+    ensures hit_tile { tile.new ≡ tile_or tile.old (check_line (sides_of width height) tiles.now (vnew from_x from_y) (vnew to_x to_y)) }
+{
+    ponguriena_parts::ponguriena_check_line(
+        width, height, tiles, from_x, from_y, to_x, to_y, point_x, point_y, tile,
+    )
+}
+
+#[unsafe(no_mangle)]
+pub extern "C" fn ponguriena_check_point(
+    width: u32,
+    height: u32,
+    tiles: &[u8],
+    x: f32,
+    y: f32,
+    tile: &mut u32,
+) -> u32
+    ensures number { result ≡ cond (is_map (sides_of width height) tiles.now) 0 bad_map }
+    ensures point_tile { tile.new ≡ cond (is_map (sides_of width height) tiles.now) (byte_of (check_point (sides_of width height) tiles.now (vnew x y))) tile.old }
+{
+    ponguriena_parts::ponguriena_check_point(width, height, tiles, x, y, tile)
+}
