@@ -1,6 +1,6 @@
 //! What the physics is made of, to be compared one by one: the tile of a point and walks over a
 //! map, the aim angle, the velocity ramp, the root and the conversions. Safe functions over the
-//! static library of the Rattle crate `ponguriena_parts`, which no server needs.
+//! static library of the Rattle crate `ponguriena_parts_c`, which no server needs.
 
 mod aim;
 // As tools/c_interface makes it.
