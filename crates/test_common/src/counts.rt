@@ -1,9 +1,10 @@
 // Counting the lines that are answered as recorded.
-ghost use Rattle.std.specs.Prelude.{[], ◌≡◌, if◌then◌else◌, ◌==◌, IfOk, OnOk};
+ghost use Rattle.std.specs.Prelude.{ℕ, ◌≤◌, List, [], ◌≡◌, length, take, if◌then◌else◌, ◌==◌, IfOk, OnOk, OnErr};
 ghost use Rattle.std.specs.Io.KnownBytes.{Appends};
 ghost use Rattle.test_common.specs.Counts.{counted};
 ghost use Rattle.test_common.specs.declared.counts.Outcome.TheVariants.{Agrees, Differs};
 
+use base_input::write_full;
 use std::io;
 use std::io::Write;
 use std::num::wrapping_add_u64;
@@ -21,11 +22,12 @@ impl Outcome {
     pub fn of<W: Write>(output: &mut W, agrees: bool, line: &[u8]) -> io::Result<Outcome>
         ensures outcome { IfOk result (λ r. r ≡ (if agrees then Agrees else Differs)) }
         ensures printed { OnOk result (Appends (W.contents output.old) (W.contents output.new) (if agrees then [] else line.now)) }
+        ensures err { OnErr result ((n : ℕ) × (n ≤ length line.now) × Appends (W.contents output.old) (W.contents output.new) (take n line.now)) }
     {
         if agrees {
             return Ok(Outcome::Agrees);
         }
-        output.write_all(line)?;
+        write_full(output, line)?;
         Ok(Outcome::Differs)
     }
 }
@@ -61,9 +63,26 @@ impl Counts {
 
     // Tells how many agree, and answers whether all do.
     pub fn print<W: Write>(self, output: &mut W) -> io::Result<bool>
-        ensures { IfOk result (λ r. r ≡ (self.good == self.lines)) }
+        ensures all_agree { IfOk result (λ r. r ≡ (self.good == self.lines)) }
+        ensures printed { (text : List ℕ) × Appends (W.contents output.old) (W.contents output.new) text }
     {
-        writeln!(output, "{} of {} agree", self.good, self.lines)?;
+        print_decimal(output, self.good)?;
+        print_text(output, b" of ")?;
+        print_decimal(output, self.lines)?;
+        print_text(output, b" agree\n")?;
         Ok(self.good == self.lines)
     }
+}
+
+fn print_decimal<W: Write>(output: &mut W, number: u64) -> io::Result<()>
+    ensures printed { (text : List ℕ) × Appends (W.contents output.old) (W.contents output.new) text }
+{
+    let mut buffer = itoa::Buffer::new();
+    print_text(output, buffer.format(number).as_bytes())
+}
+
+fn print_text<W: Write>(output: &mut W, bytes: &[u8]) -> io::Result<()>
+    ensures printed { (text : List ℕ) × Appends (W.contents output.old) (W.contents output.new) text }
+{
+    write_full(output, bytes)
 }
