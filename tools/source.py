@@ -7,6 +7,8 @@ ROOT = Path(__file__).resolve().parent.parent
 
 Token = namedtuple("Token", "kind text start end")
 Parameter = namedtuple("Parameter", "name type")
+# `name` is None where a clause has none.
+Clause = namedtuple("Clause", "name text")
 # `body` has the indexes of the tokens that open and close it, or is None; `foreign` says that C can call it.
 Function = namedtuple("Function", "name owner public foreign parameters returns requires ensures line body")
 # `names` has what is brought by its own name, `alias` the name of the whole module.
@@ -25,7 +27,7 @@ WORDS = re.compile(
 )
 NUMBER = re.compile(r"\d+")
 PAIRS = {"(": ")", "[": "]", "{": "}"}
-CLAUSES = ("ghost", "requires", "ensures")
+CLAUSES = ("requires", "ensures")
 
 
 def tokens_of(text):
@@ -47,12 +49,12 @@ def plain(text):
 
 
 def crates():
-    """The crates in the order of crates.txt, each with what it depends on."""
+    """The crates in the order of crates.txt, each with what it depends on. What else stands before the colon is left out."""
     listed = {}
     for line in (ROOT / "crates.txt").read_text().splitlines():
-        name, colon, deps = line.partition("#")[0].partition(":")
+        named, colon, deps = line.partition("#")[0].partition(":")
         if colon:
-            listed[name.strip()] = deps.split()
+            listed[named.split()[0]] = deps.split()
     return listed
 
 
@@ -156,12 +158,14 @@ class Source:
     def item(self, public, owner, foreign=False):
         word = self.take().text
         if word == "#":
+            if self.word() == "!":
+                self.take()
             self.at = self.closing(self.at) + 1
         elif word == "ghost":
             self.take("use")
             self.ghosts.append(ghost_of(self.past(";")))
         elif word == "use":
-            self.uses.append((public, plain(self.past(";"))))
+            self.uses += [(public, path) for path in paths_of(self.past(";"))]
         elif word == "mod":
             self.modules.append((public, self.past(";").strip()))
         elif word == "const":
@@ -235,8 +239,10 @@ class Source:
                 self.at = self.closing(self.at) + 1 if self.word() in PAIRS else self.at + 1
             returns = plain(self.text[start:self.tokens[self.at].start])
         while self.word() in CLAUSES:
-            clause, end = self.take().text, self.closing(self.at)
-            clauses[clause].append(plain(self.text[self.tokens[self.at].end:self.tokens[end].start]))
+            clause = self.take().text
+            name = None if self.word() == "{" else self.take().text
+            end = self.closing(self.at)
+            clauses[clause].append(Clause(name, plain(self.text[self.tokens[self.at].end:self.tokens[end].start])))
             self.at = end + 1
         body = None
         if self.word() == "{":
@@ -252,6 +258,15 @@ class Source:
         if words[-1].text == "self":
             return Parameter("self", owner)
         return Parameter(words[0].text, self.spelled(words[2:]))
+
+
+def paths_of(text):
+    """The paths that a line `use` brings, one for each name."""
+    path, brace, names = plain(text).partition("::{")
+    if not brace:
+        return [path]
+    names = [name.strip() for name in names.rstrip(" }").split(",")]
+    return [path if name == "self" else f"{path}::{name}" for name in names if name]
 
 
 def ghost_of(text):
