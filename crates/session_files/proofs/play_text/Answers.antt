@@ -1,6 +1,6 @@
 -- What `begin` leaves is played on, and what it wrote is written first.
 use Rattle.std.proofs.Common.{rules, ℕ, ◌-◌, List, ◌≡◌, take, refl, ap, arith}
-use Rattle.std.proofs.lemmas.Result.{IfOk-weaker}
+use Rattle.std.proofs.lemmas.Result.{IfOk-weaker, IfErr-weaker}
 use Rattle.session_run.specs.Start.{Began}
 use Rattle.session_run.specs.declared.start.Begun.{Begun}
 use Rattle.session_run.specs.declared.session_lines.Session.{Session}
@@ -18,5 +18,8 @@ slice_bounds-play-end g c = count_within c.begin-begun.ensures
 pub play-requires : goal.play-requires
 play-requires g c = (begun_started c.begin-begun.ensures, search rules)
 
-pub returns : goal.returns
-returns g c = IfOk-weaker c.play.result _ _ (λ (f : Session) p. (record { sides = _; tiles = _; first = _; buffer = _; started = begun_started c.begin-begun.ensures; ended = p.0 }, p.1)) c.play.ensures
+pub returns-clause-played : goal.returns-clause-played
+returns-clause-played g c = IfOk-weaker c.play.result _ _ (λ (f : Session) p. (record { sides = _; tiles = _; first = _; buffer = _; started = begun_started c.begin-begun.ensures; ended = p.0 }, p.1)) c.play.ensures.played
+
+pub returns-clause-err : goal.returns-clause-err
+returns-clause-err g c = IfErr-weaker c.play.result _ _ (λ _ p. let (turns, session, out, played, count, written) = p in record { sides = _; tiles = _; first = _; buffer = _; started = begun_started c.begin-begun.ensures; turns = turns; session = session; out = out; played = played; count = count; written = written }) c.play.ensures.err

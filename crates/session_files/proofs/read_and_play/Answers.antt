@@ -10,5 +10,5 @@ returns-clause-played g c =
     let count = c.in_ok-count.count in
     let all : count - 0 ≡ count = omega arith in
     let contents = g.W.Write.contents in
-    let played = subst (λ (k : ℕ). (x : TextPlayed seats (take k c.read_full.new.row) c.in_ok-session.session) × Appends (contents c.args.output.now) (contents c.play_text.new.output) (all_written x)) all c.in_ok-session.ensures in
+    let played = subst (λ (k : ℕ). (x : TextPlayed seats (take k c.read_full.new.row) c.in_ok-session.session) × Appends (contents c.args.output.now) (contents c.play_text.new.output) (all_written x)) all c.in_ok-session.ensures.played in
     (c.in_ok-count.ensures.within, played.0, played.1)
