@@ -7,7 +7,7 @@ use base_input::read_full;
 use session_files::play_file;
 use std::io::{ErrorKind, Read, Write};
 use std::rt::Files;
-use std::{fs, io};
+use std::{fs, io, str};
 use test_common::{Counts, Outcome};
 
 // As many bytes of two files are compared at once.
@@ -21,7 +21,7 @@ fn main(rt: HostRuntime) -> io::Result<()> {
 }
 
 // A number that no text has counts for nothing.
-fn count_all<R: Files + Alloc, W: Write>(rt: &R, output: &mut W) -> io::Result<Counts> {
+fn count_all<R: Files, W: Write>(rt: &R, output: &mut W) -> io::Result<Counts> {
     let mut counts = Counts::new();
     for number in 0..1000u32 {
         let outcome = outcome_of(rt, output, number)?;
@@ -30,23 +30,32 @@ fn count_all<R: Files + Alloc, W: Write>(rt: &R, output: &mut W) -> io::Result<C
     Ok(counts)
 }
 
-fn outcome_of<R: Files + Alloc, W: Write>(
-    rt: &R,
-    output: &mut W,
-    number: u32,
-) -> io::Result<Outcome> {
-    let name = format!(in rt.alloc(); "{number:03}.in")?;
-    let mut text = match fs::open(rt, name.as_str()) {
+fn outcome_of<R: Files, W: Write>(rt: &R, output: &mut W, number: u32) -> io::Result<Outcome> {
+    let a = digit(number / 100);
+    let b = digit(number / 10);
+    let c = digit(number);
+    let name = [a, b, c, b'.', b'i', b'n'];
+    let mut text = match fs::open(rt, name_of(&name)?) {
         Ok(file) => file,
         Err(e) if e.kind() == ErrorKind::NotFound => return Ok(Outcome::End),
         Err(e) => return Err(e),
     };
     let mut written = fs::create(rt, "written")?;
     play_file(&mut text, &mut written)?;
-    let recorded = format!(in rt.alloc(); "{number:03}.out")?;
-    let agrees = same_files(rt, "written", recorded.as_str())?;
-    let line = format!(in rt.alloc(); "{number:03}\n")?;
-    Outcome::of(output, agrees, line.as_bytes())
+    let recorded = [a, b, c, b'.', b'o', b'u', b't'];
+    let agrees = same_files(rt, "written", name_of(&recorded)?)?;
+    Outcome::of(output, agrees, &[a, b, c, b'\n'])
+}
+
+fn digit(n: u32) -> u8 {
+    (n % 10) as u8 + 48
+}
+
+fn name_of(bytes: &[u8]) -> io::Result<&str> {
+    match str::from_utf8(bytes) {
+        Ok(name) => Ok(name),
+        Err(_) => Err(io::Error::from(ErrorKind::InvalidInput)),
+    }
 }
 
 // Whether two files hold the same bytes.
