@@ -197,6 +197,8 @@ class Tree:
                 index = self.expression()
                 self.take("]")
                 of = self.node("index", start, of=of, index=index)
+            elif self.took("?"):
+                of = self.node("try", start, of=of)
             else:
                 return of
 
@@ -222,19 +224,31 @@ class Tree:
         if word == "{":
             return self.block()
         if self.took("("):
-            of = self.expression()
-            self.take(")")
-            return self.node("paren", start, of=of)
+            return self.paren(start)
         if self.took("["):
             return self.array(start)
         if kind != "name":
             raise ValueError(f"{self.source.path}:{self.source.line(self.tokens[self.at])}: unexpected {word}")
         return self.path(start, struct)
 
+    def paren(self, start):
+        """An expression in brackets, or a tuple."""
+        values = []
+        while not self.took(")"):
+            values.append(self.expression())
+            if not self.took(",") and len(values) == 1:
+                self.take(")")
+                return self.node("paren", start, of=values[0])
+        return self.node("tuple", start, values=values)
+
     def path(self, start, struct):
         words = [self.take().text]
         while self.took("::"):
             words.append(self.take().text)
+        if self.took("!"):
+            # What a macro is given is no expression.
+            self.at = self.source.closing(self.at) + 1
+            return self.node("macro", start)
         if struct and self.word() == "{":
             return self.struct(start, words)
         return self.node("name", start, path="::".join(words))
