@@ -1,5 +1,5 @@
 //! Links libponguriena.a, from the first of these folders that is named or there: the one that
-//! the environment variable names, `lib` beside the manifest, and where `rt staticlib` writes it.
+//! the environment variable names, `lib` beside the manifest, and where `tools/archive` writes it.
 
 use std::env;
 use std::path::{Path, PathBuf};
@@ -21,7 +21,7 @@ fn main() {
     if !archive.is_file() {
         println!(
             "cargo::error={} is not there: a package has it in `lib`, and in the repository \
-             `rt staticlib ponguriena` writes it",
+             `tools/archive ponguriena` writes it",
             archive.display()
         );
     }

@@ -11,7 +11,7 @@ fn main() {
     println!("cargo::rerun-if-changed={}", archive.display());
     if !archive.is_file() {
         println!(
-            "cargo::error={} is not there: run `rt staticlib ponguriena_parts` first",
+            "cargo::error={} is not there: run `tools/archive ponguriena_parts` first",
             archive.display()
         );
     }
