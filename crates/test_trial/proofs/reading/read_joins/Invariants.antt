@@ -6,7 +6,7 @@ use borrow.Author.Rules.{rules}
 use Rattle.test_trial.proofs.reading.read_joins.Given as goal
 
 abbrev pub invariant-loop-i : goal.invariant-loop-i
-invariant-loop-i l = (l.joins ≤ 65) × (length l.i-end ≡ 196) × (length l.input ≡ 131)
+invariant-loop-i l = (l.i ≤ 65) × (length l.joins ≡ 196) × (length l.targets ≡ 131)
 
 abbrev pub decreases-loop-i : goal.decreases-loop-i
-decreases-loop-i l = l.initial.i - l.joins
+decreases-loop-i l = l.i-end - l.i

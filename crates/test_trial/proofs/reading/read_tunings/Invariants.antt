@@ -6,7 +6,7 @@ use borrow.Author.Rules.{rules}
 use Rattle.test_trial.proofs.reading.read_tunings.Given as goal
 
 abbrev pub invariant-loop-i : goal.invariant-loop-i
-invariant-loop-i l = (l.input ≤ 9) × (length l.i-end ≡ 172)
+invariant-loop-i l = (l.i ≤ 9) × (length l.tunings ≡ 172)
 
 abbrev pub decreases-loop-i : goal.decreases-loop-i
-decreases-loop-i l = l.initial.i - l.input
+decreases-loop-i l = l.i-end - l.i
