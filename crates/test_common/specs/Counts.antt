@@ -1,5 +1,5 @@
 -- Counting the lines that agree. Definitions only.
-use Rattle.std.specs.Prelude.{ℕ, ◌+◌, ◌%◌, ◌^◌}
+use Rattle.std.specs.Prelude.{ℕ, ◌+◌, ◌%◌, ◌^◌, List, ◌++◌, codes, decimal}
 use Rattle.test_common.specs.declared.counts.Counts.{Counts}
 use Rattle.test_common.specs.declared.counts.Outcome.{Outcome}
 use Rattle.test_common.specs.declared.counts.Outcome.TheVariants.{End, Agrees, Differs}
@@ -17,3 +17,7 @@ unfoldable pub counted : Counts → Outcome → Counts
 counted c End = c
 counted c Agrees = record { lines = next c.lines; good = next c.good }
 counted c Differs = record { lines = next c.lines; good = c.good }
+
+-- how many lines agree, of how many
+unfoldable pub counts_line : Counts → List ℕ
+counts_line c = decimal c.good ++ codes " of " ++ decimal c.lines ++ codes " agree\n"

@@ -1,7 +1,7 @@
 // Counting the lines that are answered as recorded.
-ghost use Rattle.std.specs.Prelude.{ℕ, ◌≤◌, List, [], ◌≡◌, length, take, if◌then◌else◌, ◌==◌, IfOk, OnOk, OnErr};
+ghost use Rattle.std.specs.Prelude.{ℕ, ◌≤◌, [], ◌≡◌, length, take, if◌then◌else◌, ◌==◌, IfOk, OnOk, OnErr, IsOk, IsTrue, codes, decimal};
 ghost use Rattle.std.specs.Io.KnownBytes.{Appends};
-ghost use Rattle.test_common.specs.Counts.{counted};
+ghost use Rattle.test_common.specs.Counts.{counted, counts_line};
 ghost use Rattle.test_common.specs.declared.counts.Outcome.TheVariants.{Agrees, Differs};
 
 use base_input::write_full;
@@ -21,6 +21,7 @@ impl Outcome {
     // A line that is answered otherwise is printed.
     pub fn of<W: Write>(output: &mut W, agrees: bool, line: &[u8]) -> io::Result<Outcome>
         ensures outcome { IfOk result (λ r. r ≡ (if agrees then Agrees else Differs)) }
+        ensures agreed { IsTrue agrees → IsOk result }
         ensures printed { OnOk result (Appends (W.contents output.old) (W.contents output.new) (if agrees then [] else line.now)) }
         ensures err { OnErr result ((n : ℕ) × (n ≤ length line.now) × Appends (W.contents output.old) (W.contents output.new) (take n line.now)) }
     {
@@ -64,25 +65,21 @@ impl Counts {
     // Tells how many agree, and answers whether all do.
     pub fn print<W: Write>(self, output: &mut W) -> io::Result<bool>
         ensures all_agree { IfOk result (λ r. r ≡ (self.good == self.lines)) }
-        ensures printed { (text : List ℕ) × Appends (W.contents output.old) (W.contents output.new) text }
+        ensures printed { OnOk result (Appends (W.contents output.old) (W.contents output.new) (counts_line self)) }
+        ensures err { OnErr result ((n : ℕ) × Appends (W.contents output.old) (W.contents output.new) (take n (counts_line self))) }
     {
         print_decimal(output, self.good)?;
-        print_text(output, b" of ")?;
+        write_full(output, b" of ")?;
         print_decimal(output, self.lines)?;
-        print_text(output, b" agree\n")?;
+        write_full(output, b" agree\n")?;
         Ok(self.good == self.lines)
     }
 }
 
 fn print_decimal<W: Write>(output: &mut W, number: u64) -> io::Result<()>
-    ensures printed { (text : List ℕ) × Appends (W.contents output.old) (W.contents output.new) text }
+    ensures printed { OnOk result (Appends (W.contents output.old) (W.contents output.new) (decimal number)) }
+    ensures err { OnErr result ((n : ℕ) × (n ≤ length (decimal number)) × Appends (W.contents output.old) (W.contents output.new) (take n (decimal number))) }
 {
     let mut buffer = itoa::Buffer::new();
-    print_text(output, buffer.format(number).as_bytes())
-}
-
-fn print_text<W: Write>(output: &mut W, bytes: &[u8]) -> io::Result<()>
-    ensures printed { (text : List ℕ) × Appends (W.contents output.old) (W.contents output.new) text }
-{
-    write_full(output, bytes)
+    write_full(output, buffer.format(number).as_bytes())
 }

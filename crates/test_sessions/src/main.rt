@@ -3,6 +3,8 @@
 // bench/world/session_texts records them: 000.in and 000.out, 001.in and 001.out, and so on.
 #![tactic(auto)]
 
+ghost use Rattle.std.specs.Prelude.{◌<◌, IsAscii};
+
 use base_input::read_full;
 use session_files::play_file;
 use std::io::{ErrorKind, Read, Write};
@@ -35,7 +37,7 @@ fn outcome_of<R: Files, W: Write>(rt: &R, output: &mut W, number: u32) -> io::Re
     let b = digit(number / 10);
     let c = digit(number);
     let name = [a, b, c, b'.', b'i', b'n'];
-    let mut text = match fs::open(rt, name_of(&name)?) {
+    let mut text = match fs::open(rt, name_of(&name)) {
         Ok(file) => file,
         Err(e) if e.kind() == ErrorKind::NotFound => return Ok(Outcome::End),
         Err(e) => return Err(e),
@@ -43,19 +45,20 @@ fn outcome_of<R: Files, W: Write>(rt: &R, output: &mut W, number: u32) -> io::Re
     let mut written = fs::create(rt, "written")?;
     play_file(&mut text, &mut written)?;
     let recorded = [a, b, c, b'.', b'o', b'u', b't'];
-    let agrees = same_files(rt, "written", name_of(&recorded)?)?;
+    let agrees = same_files(rt, "written", name_of(&recorded))?;
     Outcome::of(output, agrees, &[a, b, c, b'\n'])
 }
 
-fn digit(n: u32) -> u8 {
+fn digit(n: u32) -> u8
+    ensures { result < 128 }
+{
     (n % 10) as u8 + 48
 }
 
-fn name_of(bytes: &[u8]) -> io::Result<&str> {
-    match str::from_utf8(bytes) {
-        Ok(name) => Ok(name),
-        Err(_) => Err(io::Error::from(ErrorKind::InvalidInput)),
-    }
+fn name_of(bytes: &[u8]) -> &str
+    requires { IsAscii bytes.now }
+{
+    str::from_utf8(bytes).unwrap()
 }
 
 // Whether two files hold the same bytes.

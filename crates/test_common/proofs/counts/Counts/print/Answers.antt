@@ -1,26 +1,79 @@
--- The texts that are printed one after the other are one text.
-use Rattle.std.proofs.Common.{ℕ, List, ◌++◌}
+-- What is printed one after the other is one text; a write that fails leaves a front of it.
+use Rattle.std.proofs.Common.{ℕ, ◌+◌, ◌≤◌, List, [], ◌++◌, ◌≡◌, length, take, sym, ap, ◌∙◌, subst, append_assoc, append-nil, codes, decimal, Result, Ok, Err, OnErr}
 use Rattle.std.specs.declared.option.Option.{Option}
 use Rattle.std.specs.Io.KnownBytes.{Appends}
-use Rattle.std.proofs.KnownBytes.{Appends-trans}
+use Rattle.std.proofs.KnownBytes.{Appends-nil, Appends-trans}
+use Rattle.std.proofs.Math.Seq.{take-append-add}
+use Rattle.std.proofs.lemmas.List.{take-append-le}
+use Rattle.test_common.specs.Counts.{counts_line}
 use Rattle.test_common.proofs.counts.Counts.print.Goals as goal
 
-abbrev Grows : Option (List ℕ) → Option (List ℕ) → Type 0
-Grows a b = (text : List ℕ) × Appends a b text
+abbrev of_text : List ℕ
+of_text = codes " of "
 
-more : (a b c : Option (List ℕ)) → Grows a b → Grows b c → Grows a c
-more a b c p q = (p.0 ++ q.0, Appends-trans a b c p.0 q.0 p.1 q.1)
+abbrev agree_text : List ℕ
+agree_text = codes " agree\n"
 
-pub returns-in_err-print_text-clause-printed : goal.returns-in_err-print_text-clause-printed
-returns-in_err-print_text-clause-printed g c = more _ _ _ c.print_decimal.ensures.printed c.print_text.ensures.printed
+-- the parts of the line, the last ones first
+parts : (a b c d : List ℕ) → ((a ++ b) ++ c) ++ d ≡ a ++ (b ++ (c ++ d))
+parts a b c d = append_assoc (a ++ b) c d ∙ append_assoc a b (c ++ d)
 
-pub returns-in_err-print_decimal-2-clause-printed : goal.returns-in_err-print_decimal-2-clause-printed
-returns-in_err-print_decimal-2-clause-printed g c = more _ _ _ (more _ _ _ c.print_decimal.ensures.printed c.print_text.ensures.printed) c.print_decimal-2.ensures.printed
+-- what a write of n bytes leaves is a front of the whole
+front : (done now rest : List ℕ) (n : ℕ) → n ≤ length now → done ++ take n now ≡ take (length done + n) (done ++ (now ++ rest))
+front done now rest n h = sym (take-append-add done (now ++ rest) n ∙ ap (λ l. done ++ l) (take-append-le n now rest h))
 
-pub returns-in_err-print_text-2-clause-printed : goal.returns-in_err-print_text-2-clause-printed
-returns-in_err-print_text-2-clause-printed g c =
-    more _ _ _ (more _ _ _ (more _ _ _ c.print_decimal.ensures.printed c.print_text.ensures.printed) c.print_decimal-2.ensures.printed) c.print_text-2.ensures.printed
+stopped : (a b c : Option (List ℕ)) (done now rest all : List ℕ) (n : ℕ) → done ++ (now ++ rest) ≡ all → n ≤ length now → Appends a b done → Appends b c (take n now) → (m : ℕ) × Appends a c (take m all)
+stopped a b c done now rest all n e h p q = (length done + n, subst (Appends a c) (front done now rest n h ∙ ap (take (length done + n)) e) (Appends-trans a b c done (take n now) p q))
+
+on_err : {T E : Type 0} {P : Type 0} (r : Result T E) → P → OnErr r P
+on_err (Ok x) p = tt
+on_err (Err y) p = p
+
+pub returns-in_err-print_decimal-clause-err : goal.returns-in_err-print_decimal-clause-err
+unfolding counts_line
+returns-in_err-print_decimal-clause-err g c =
+    let contents = g.W.Write.contents in
+    let (n, h, p) = c.in_err-print_decimal.ensures.err in
+    let good = decimal c.args.self.good in
+    let lines = decimal c.args.self.lines in
+    on_err _ (stopped (contents c.args.output.now) (contents c.args.output.now) (contents c.print_decimal.new.output) [] good (of_text ++ (lines ++ agree_text)) (((good ++ of_text) ++ lines) ++ agree_text) n (sym (parts good of_text lines agree_text)) h (Appends-nil _) p)
+
+pub returns-in_err-write_full-clause-err : goal.returns-in_err-write_full-clause-err
+unfolding counts_line
+returns-in_err-write_full-clause-err g c =
+    let contents = g.W.Write.contents in
+    let (n, h, p) = c.in_err-write_full.ensures.err in
+    let good = decimal c.args.self.good in
+    let lines = decimal c.args.self.lines in
+    on_err _ (stopped (contents c.args.output.now) (contents c.print_decimal.new.output) (contents c.write_full.new.output) good of_text (lines ++ agree_text) (((good ++ of_text) ++ lines) ++ agree_text) n (sym (parts good of_text lines agree_text)) h c.in_ok-print_decimal.ensures.printed p)
+
+pub returns-in_err-print_decimal-2-clause-err : goal.returns-in_err-print_decimal-2-clause-err
+unfolding counts_line
+returns-in_err-print_decimal-2-clause-err g c =
+    let contents = g.W.Write.contents in
+    let (n, h, p) = c.in_err-print_decimal-2.ensures.err in
+    let good = decimal c.args.self.good in
+    let lines = decimal c.args.self.lines in
+    let two = Appends-trans (contents c.args.output.now) (contents c.print_decimal.new.output) (contents c.write_full.new.output) good of_text c.in_ok-print_decimal.ensures.printed c.in_ok-write_full.ensures.bytes in
+    on_err _ (stopped (contents c.args.output.now) (contents c.write_full.new.output) (contents c.print_decimal-2.new.output) (good ++ of_text) lines agree_text (((good ++ of_text) ++ lines) ++ agree_text) n (sym (append_assoc (good ++ of_text) lines agree_text)) h two p)
+
+pub returns-in_err-write_full-2-clause-err : goal.returns-in_err-write_full-2-clause-err
+unfolding counts_line
+returns-in_err-write_full-2-clause-err g c =
+    let contents = g.W.Write.contents in
+    let (n, h, p) = c.in_err-write_full-2.ensures.err in
+    let good = decimal c.args.self.good in
+    let lines = decimal c.args.self.lines in
+    let two = Appends-trans (contents c.args.output.now) (contents c.print_decimal.new.output) (contents c.write_full.new.output) good of_text c.in_ok-print_decimal.ensures.printed c.in_ok-write_full.ensures.bytes in
+    let three = Appends-trans (contents c.args.output.now) (contents c.write_full.new.output) (contents c.print_decimal-2.new.output) (good ++ of_text) lines two c.in_ok-print_decimal-2.ensures.printed in
+    on_err _ (stopped (contents c.args.output.now) (contents c.print_decimal-2.new.output) (contents c.write_full-2.new.output) ((good ++ of_text) ++ lines) agree_text [] (((good ++ of_text) ++ lines) ++ agree_text) n (ap (λ l. ((good ++ of_text) ++ lines) ++ l) (append-nil agree_text)) h three p)
 
 pub returns-clause-printed : goal.returns-clause-printed
+unfolding counts_line
 returns-clause-printed g c =
-    more _ _ _ (more _ _ _ (more _ _ _ c.print_decimal.ensures.printed c.print_text.ensures.printed) c.print_decimal-2.ensures.printed) c.print_text-2.ensures.printed
+    let contents = g.W.Write.contents in
+    let good = decimal c.args.self.good in
+    let lines = decimal c.args.self.lines in
+    let two = Appends-trans (contents c.args.output.now) (contents c.print_decimal.new.output) (contents c.write_full.new.output) good of_text c.in_ok-print_decimal.ensures.printed c.in_ok-write_full.ensures.bytes in
+    let three = Appends-trans (contents c.args.output.now) (contents c.write_full.new.output) (contents c.print_decimal-2.new.output) (good ++ of_text) lines two c.in_ok-print_decimal-2.ensures.printed in
+    Appends-trans (contents c.args.output.now) (contents c.print_decimal-2.new.output) (contents c.write_full-2.new.output) ((good ++ of_text) ++ lines) agree_text three c.in_ok-write_full-2.ensures.bytes
