@@ -33,9 +33,10 @@
 //!   call through a [`Sender`] 220 KB, every other call 12 KB; beside them what the types here are
 //!   themselves: a [`World`] 6 KB, [`Records`] 4.5 KB, a [`Sender`] and a [`Screen`] 6 KB each,
 //!   [`PassedAlong`] 11 KB.
-//! - **Time**: a step of 64 players takes 30 µs in play. The slowest found by legal calls, which
-//!   is no bound, takes 12 to 17 ms, through a [`Sender`] too. A search makes up to 306 steps, a
-//!   [`Trial`] up to 24,000: they belong on another thread than the one that steps the world.
+//! - **Time**, measured on the archive of the kit before: a step of 64 players takes 30 µs in play.
+//!   The slowest found by legal calls, which is no bound, takes 12 to 17 ms, through a [`Sender`]
+//!   too. A search makes up to 306 steps, a [`Trial`] up to 24,000: they belong on another thread
+//!   than the one that steps the world.
 //! - **Threads**: a call reads and writes what it is lent and keeps nothing. All types here are
 //!   [`Send`] and [`Sync`]; any thread may step any world.
 //! - **Buffers** that one call is lent do not overlap, which the borrows here see to.

@@ -25,7 +25,7 @@ pub struct FilePlayed {
 
 // Plays the text that `input` holds, writes its output to `output`, and answers the number of the call that was due at the end.
 pub fn play_file<R: Read, W: Write>(input: &mut R, output: &mut W) -> io::Result<u32>
-    ensures played { IfOk result (λ call. (text : List ℕ) × (f : Session) × (p : TextPlayed seats text f) × (call ≡ f.call) × Consumes (R.remaining input.old) (R.remaining input.new) text × Appends (W.contents output.old) (W.contents output.new) (all_written p)) }
+    ensures played { IfOk result (λ call. (text : List ℕ) × (f : Session) × (p : TextPlayed seats text f) × (call ≡ f.call) × Consumes (R.remaining input.old) (R.remaining input.new) text × (length text < most_read → IsAtEnd (R.remaining input.new)) × Appends (W.contents output.old) (W.contents output.new) (all_written p)) }
     ensures err { OnErr result ((text : List ℕ) × Consumes (R.remaining input.old) (R.remaining input.new) text × ((W.contents output.new ≡ W.contents output.old) ⊎ WrittenSoFar seats text (W.contents output.old) (W.contents output.new))) }
 {
     let mut text = [0u8; MOST_READ];

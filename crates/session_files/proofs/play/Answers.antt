@@ -1,8 +1,9 @@
 -- A turn more, what the last turn wrote, and that the turns are enough.
-use Rattle.std.proofs.Common.{rules, ℕ, ◌+◌, ◌-◌, ◌*◌, ◌≤◌, List, [], ◌++◌, ◌≡◌, false, length, take, refl, sym, ap, ◌∙◌, subst, append_assoc, append-nil, add-one, arith, Result, Ok, Err, OnErr}
+use Rattle.std.proofs.Common.{rules, ℕ, ◌+◌, ◌-◌, ◌*◌, ◌≤◌, List, [], ◌++◌, ◌≡◌, false, length, take, refl, sym, ap, ◌∙◌, subst, append_assoc, append-nil, add-one, arith}
 use Rattle.std.specs.Io.KnownBytes.{Appends}
 use Rattle.std.proofs.KnownBytes.{Appends-nil, Appends-trans}
 use Rattle.std.proofs.Math.Seq.{take-append-add}
+use Rattle.std.proofs.lemmas.Result.{MatchResult-from_err}
 use Rattle.character.specs.Tick.{seats}
 use Rattle.map_tiles.specs.declared.tiles.Sides.{Sides}
 use Rattle.text_writing.specs.Output.{most_line}
@@ -62,10 +63,6 @@ loop-preserved g c =
       all = joined i.written now (take c.args.first.next c.args.buf.now) i.out next i.all;
     }
 
-on_err : {T E : Type 0} {P : Type 0} (r : Result T E) → P → OnErr r P
-on_err (Ok x) p = tt
-on_err (Err y) p = p
-
 -- what was written before the write that failed, and what that one wrote
 pub returns-in_err-write_full-clause-err : goal.returns-in_err-write_full-clause-err
 returns-in_err-write_full-clause-err g c =
@@ -78,7 +75,7 @@ returns-in_err-write_full-clause-err g c =
     let so_far = Appends-trans (contents c.args.output.now) (contents c.loop.output) (contents c.write_full.new.output) i.written (take n now) i.appended wrote in
     let front = sym (take-append-add i.written now n) ∙ ap (take (length i.written + n)) i.all in
     let left : (turns : ℕ) × (f : Session) × (out : List ℕ) × Played seats c.args.text.now c.args.sides c.args.tiles.now c.args.first.session turns f out × (k : ℕ) × Appends (contents c.args.output.now) (contents c.write_full.new.output) (take k (take c.args.first.next c.args.buf.now ++ out)) = (c.loop.counter, c.loop.turned.session, i.out, i.played, length i.written + n, subst (Appends (contents c.args.output.now) (contents c.write_full.new.output)) front so_far) in
-    on_err _ left
+    MatchResult-from_err c.from_residual.result _ _ c.from_residual.ensures.0 (λ _. left)
 
 -- the session has ended before the turns are over
 pub returns : goal.returns
