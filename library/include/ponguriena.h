@@ -11,11 +11,11 @@
  * Of the stack a step needs 14 KB at most, a receive 43 KB, a search and a trial 37 KB, a call
  * through a sender 220 KB, every other call 12 KB.
  *
- * Time, measured on the archive of the kit before: a step of 64 players takes 30 microseconds in
- * play. The slowest found by legal calls, which is no bound, takes 12 to 17 ms, also through a
- * sender, a mark 3.9 ms. A search makes up to 306 steps (slowest found 1.6 s), a trial up to
- * 24,000 (about 90 s at the slowest step found): they belong on another thread than the one that
- * steps the world.
+ * Time, measured before the compiler changed: a step of 64 players takes 30 microseconds in play.
+ * The slowest found by legal calls, which is no bound, takes 12 to 17 ms, also through a sender, a
+ * mark 3.9 ms. A search makes up to 306 steps (slowest found 1.6 s), a trial up to 24,000 (about
+ * 90 s at the slowest step found): they belong on another thread than the one that steps the
+ * world.
  *
  * Numbers are int32_t in the machine's byte order, lowest byte first: who sends or keeps them
  * for other machines says in which order. PONGURIENA_LAYOUT tells which numbers stand where.

@@ -33,7 +33,7 @@
 //!   call through a [`Sender`] 220 KB, every other call 12 KB; beside them what the types here are
 //!   themselves: a [`World`] 6 KB, [`Records`] 4.5 KB, a [`Sender`] and a [`Screen`] 6 KB each,
 //!   [`PassedAlong`] 11 KB.
-//! - **Time**, measured on the archive of the kit before: a step of 64 players takes 30 µs in play.
+//! - **Time**, measured before the compiler changed: a step of 64 players takes 30 µs in play.
 //!   The slowest found by legal calls, which is no bound, takes 12 to 17 ms, through a [`Sender`]
 //!   too. A search makes up to 306 steps, a [`Trial`] up to 24,000: they belong on another thread
 //!   than the one that steps the world.
