@@ -90,6 +90,8 @@ class Source:
         self.tokens = tokens_of(self.text)
         self.functions, self.ghosts, self.uses, self.modules = [], [], [], []
         self.structs, self.variants, self.consts = {}, {}, {}
+        # the ghost members of the `impl` of a trait that is read
+        self.members = None
         self.at = 0
         self.items(len(self.tokens), None)
 
@@ -161,14 +163,16 @@ class Source:
             if self.word() == "!":
                 self.take()
             self.at = self.closing(self.at) + 1
-        elif word == "ghost":
-            self.take("use")
+        elif word == "ghost" and self.word() == "use":
+            self.take()
             self.ghosts.append(ghost_of(self.past(";")))
+        elif word == "ghost":
+            self.member()
         elif word == "use":
             self.uses += [(public, path) for path in paths_of(self.past(";"))]
         elif word == "mod":
             self.modules.append((public, self.past(";").strip()))
-        elif word == "const":
+        elif word in ("const", "static"):
             name = self.past(":").strip()
             self.consts[name] = plain(self.past("="))
             self.past(";")
@@ -180,9 +184,12 @@ class Source:
             self.enum()
         elif word == "impl":
             name = plain(self.text[self.tokens[self.at].start:self.tokens[self.open_brace()].start])
+            _, of_trait, name = name.rpartition(" for ")
+            self.members = {} if of_trait else None
             self.take("{")
             self.items(self.closing(self.at - 1), name)
             self.take("}")
+            self.members = None
         elif word == "fn":
             self.function(public, owner, foreign)
         elif word == "extern":
@@ -190,6 +197,13 @@ class Source:
             self.item(public, owner, True)
         else:
             raise ValueError(f"{self.path}:{self.line(self.tokens[self.at - 1])}: unknown item {word}")
+
+    def member(self):
+        """A ghost member of an `impl` of a trait: what a method `f` answers is its member `f_gives`."""
+        name = self.past("=").strip()
+        end = self.closing(self.at)
+        self.members[name] = plain(self.text[self.tokens[self.at].end:self.tokens[end].start])
+        self.past(";")
 
     def open_brace(self):
         while self.word() != "{":
@@ -250,6 +264,9 @@ class Source:
             self.at = body[1]
         self.take()
         asked = clauses["requires"], clauses["ensures"]
+        if self.members is not None:
+            public, gives = True, f"{token.text}_gives"
+            asked[1].extend(Clause(gives, self.members[gives]) for _ in range(gives in self.members))
         one = Function(token.text, owner, public, foreign, parameters, returns, *asked, self.line(token), body)
         self.functions.append(one)
 

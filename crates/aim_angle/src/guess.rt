@@ -11,21 +11,12 @@ use aim_tables::cross;
 pub fn guess(x: f64, y: f64) -> usize
     ensures { result ≤ 804 }
 {
-    let angle = angle_of(x, y);
-    if angle > -1.0 {
-        if angle < 18446744073709551616.0 {
-            let n = std::num::truncating_f64_to_u64(angle) as usize;
-            if n <= 804 {
-                return n;
-            }
-        }
-    }
-    804
+    std::num::saturating_f64_to_u64(angle_of(x, y)).min(804) as usize
 }
 
 // About 256 times the angle: that of the diagonal, and the arc tangent of what is left, by a polynomial that is off by less than 0.003.
 fn angle_of(x: f64, y: f64) -> f64 {
-    let right = if x < 0.0 { -x } else { x };
+    let right = x.abs();
     let t = (y - right) / (y + right);
     let s = t * t;
     let arc = t * (255.9657 - s * (84.55667 - s * (46.1161 - s * (21.79405 - s * 5.333786))));
@@ -42,10 +33,7 @@ pub fn is_sure(x: i64, y: i64, n: usize) -> bool
     if near_side(x, y, n) < doubt {
         return false;
     }
-    if n == 804 {
-        return true;
-    }
-    near_side(x, y, n + 1) < -doubt
+    n == 804 || near_side(x, y, n + 1) < -doubt
 }
 
 // y * C[n] - x * S[n], up to the doubt: each entry is known up to 2.
@@ -61,12 +49,5 @@ fn doubt(x: i64, y: i64) -> i64
     requires { Target x y }
     ensures { result ≡ pos (doubt x y) }
 {
-    (size(y) * 2 + size(x) * 2) as i64
-}
-
-fn size(z: i64) -> u64
-    requires { unsigned_abs z ≤ 2 ^ 31 }
-    ensures { result ≡ unsigned_abs z }
-{
-    if z < 0 { (-z) as u64 } else { z as u64 }
+    (y.unsigned_abs() * 2 + x.unsigned_abs() * 2) as i64
 }

@@ -1,10 +1,10 @@
 // C[n] and S[n] up to 2, from few numbers: n is 32 a + b, and the angles of 32 a and of b are added. So a guess at an angle is
-// mostly seen to be right without the whole tables, which are built anew for every scan.
+// mostly seen to be right without the whole tables.
 ghost use Rattle.std.specs.Prelude.{◌≡◌, ◌^◌, ◌<◌, ◌≤◌, unsigned_abs};
 ghost use Rattle.aim_tables.specs.Rules.{cos_at, sin_at, apart};
 ghost use Rattle.aim_angle.specs.Near.{turned};
 
-use crate::few::{cos_1, cos_32, sin_1, sin_32};
+use crate::few::{coarse, fine};
 use aim_tables::cross;
 
 #[derive(Clone, Copy)]
@@ -17,9 +17,9 @@ pub fn near(n: usize) -> Point
     requires { n < 805 }
     ensures { (apart result.c (cos_at n) ≤ 2) × (apart result.s (sin_at n) ≤ 2) }
 {
-    let a = n / 32;
-    let b = n % 32;
-    turned(cos_32(a), sin_32(a), cos_1(b), sin_1(b))
+    let (c, s) = coarse(n / 32);
+    let (d, t) = fine(n % 32);
+    turned(c, s, d, t)
 }
 
 // The sum of two angles, each by 2^30 times its cosine and its sine.

@@ -1,6 +1,5 @@
 // The angle of a target by a scan down through the tables: what fits is an initial stretch of them.
 ghost use Rattle.std.specs.Prelude.{◌≡◌, ◌+◌, ◌-◌, ◌≤◌, nat_abs};
-ghost use Rattle.aim_tables.specs.Tables.{cos_t, sin_t};
 ghost use Rattle.aim_rule.specs.Angle.{fitting, largest, upper_angle};
 ghost use Rattle.aim_rule.specs.Scan.{first_entry};
 ghost use Rattle.aim_rule.specs.Search.{Target};
@@ -38,12 +37,10 @@ pub fn upright_scan(x: i64, y: i64) -> Found
     requires { Target x y }
     ensures { (result ≡ upright_scan x (nat_abs y)) × (result.n ≤ 804) }
 {
-    if y == 0 {
-        if x == 0 {
-            return Found { n: 0, read: 0 };
-        }
+    if y == 0 && x == 0 {
+        return Found { n: 0, read: 0 };
     }
-    scan_down(x, y, first_entry(x), &cosines(), &sines())
+    scan_down(x, y, first_entry(x))
 }
 
 fn first_entry(x: i64) -> usize
@@ -58,10 +55,8 @@ pub fn settled(x: i64, y: i64, n: usize) -> Found
     requires { Target x y × (n ≤ 804) }
     ensures { (result.n ≡ upper_angle x y) × (result.n ≤ 804) × (result.read ≤ 403) }
 {
-    let cos = cosines();
-    let sin = sines();
-    let from = start(x, y, n, &cos, &sin);
-    let found = scan_down(x, y, from.n, &cos, &sin);
+    let from = start(x, y, n);
+    let found = scan_down(x, y, from.n);
     Found {
         n: found.n,
         read: from.read + found.read,
@@ -69,30 +64,28 @@ pub fn settled(x: i64, y: i64, n: usize) -> Found
 }
 
 // The entry above n, if the next one is inside the quarter and does not fit; else the first of the quarter. And how many entries were read to tell.
-fn start(x: i64, y: i64, n: usize, cos: &[i32; 805], sin: &[i32; 805]) -> Found
-    requires { Target x y × (n ≤ 804) × (cos.now ≡ cos_t) × (sin.now ≡ sin_t) }
+fn start(x: i64, y: i64, n: usize) -> Found
+    requires { Target x y × (n ≤ 804) }
     ensures { (largest (fitting x y) result.n ≡ upper_angle x y) × (result.n ≤ first_entry x) × (result.read + result.n + 1 ≤ upper_angle x y + 403) }
 {
     let first = first_entry(x);
-    if n + 1 < first {
-        if first < n + 404 {
-            if fits(x, y, n + 2, cos, sin) {
-                return Found { n: first, read: 1 };
-            }
-            return Found { n: n + 1, read: 1 };
+    if n + 1 < first && first < n + 404 {
+        if fits(x, y, n + 2) {
+            return Found { n: first, read: 1 };
         }
+        return Found { n: n + 1, read: 1 };
     }
     Found { n: first, read: 0 }
 }
 
 // From an entry down to the first that fits; entry 0 fits every target.
-fn scan_down(x: i64, y: i64, from: usize, cos: &[i32; 805], sin: &[i32; 805]) -> Found
-    requires { Target x y × (from ≤ 804) × (cos.now ≡ cos_t) × (sin.now ≡ sin_t) }
+fn scan_down(x: i64, y: i64, from: usize) -> Found
+    requires { Target x y × (from ≤ 804) }
     ensures { (result.n ≡ largest (fitting x y) from) × (result.n ≤ from) × (result.read ≡ from + 1 - result.n) }
 {
     let mut n = from;
     let mut read: u32 = 1;
-    while !fits(x, y, n, cos, sin) {
+    while !fits(x, y, n) {
         n -= 1;
         read += 1;
     }
@@ -100,9 +93,11 @@ fn scan_down(x: i64, y: i64, from: usize, cos: &[i32; 805], sin: &[i32; 805]) ->
 }
 
 // An entry costs two products and one comparison.
-fn fits(x: i64, y: i64, n: usize, cos: &[i32; 805], sin: &[i32; 805]) -> bool
-    requires { Target x y × (n ≤ 804) × (cos.now ≡ cos_t) × (sin.now ≡ sin_t) }
+fn fits(x: i64, y: i64, n: usize) -> bool
+    requires { Target x y × (n ≤ 804) }
     ensures { result ≡ fitting x y n }
 {
+    let sin = sines();
+    let cos = cosines();
     x * (sin[n] as i64) <= y * (cos[n] as i64)
 }

@@ -6,7 +6,7 @@ ghost use Rattle.aim_rule.specs.Scan.{with_sign_of};
 pub fn height(y: i32) -> i64
     ensures { result ≡ pos (nat_abs y) }
 {
-    if y < 0 { -(y as i64) } else { y as i64 }
+    y.unsigned_abs() as i64
 }
 
 pub fn signed(y: i32, n: usize) -> i32

@@ -2,7 +2,7 @@
 ghost use Rattle.std.specs.Prelude.{◌≡◌};
 ghost use Rattle.aim_tables.specs.Tables.{cos_t};
 
-const COS: [i32; 805] = [
+static COS: [i32; 805] = [
     1073741824,
     1073733632,
     1073709056,
@@ -810,8 +810,8 @@ const COS: [i32; 805] = [
     -1073741321,
 ];
 
-pub fn cosines() -> [i32; 805]
-    ensures { result ≡ cos_t }
+pub fn cosines() -> &'static [i32; 805]
+    ensures { result.now ≡ cos_t }
 {
-    COS
+    &COS
 }

@@ -2,4 +2,5 @@ pub mod Placed
 pub mod Held
 pub mod Gathered
 pub mod Seat
+pub mod Refused
 pub mod Scan

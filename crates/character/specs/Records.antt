@@ -5,14 +5,14 @@ use Rattle.character.specs.declared.Character.{Character}
 use Rattle.game_input.specs.Direction.{from_int, as_int, angle_to_net, angle_from_net}
 use Rattle.num_convert.specs.Convert.{i32_to_f32, to256ths, from256ths}
 use Rattle.character_hook.specs.Hook.{net_state, net_pos, net_dir, tick_of, net_hooked_player, hook_from_net}
-use Rattle.character.specs.declared.records.Net.{Net}
-use Rattle.character.specs.declared.records.Quantized.{Quantized}
 use Rattle.game_records.specs.declared.CharacterCore.{CharacterCore}
 use Rattle.game_refusals.specs.Refusals.{tick_too_large}
 use Rattle.num_vec2.specs.Vec2.{vnew}
 use Rattle.num_convert.specs.Whole.{round_to_i32}
-use Rattle.character.specs.declared.records.Net.TheVariants as net
-use Rattle.character.specs.declared.records.Quantized.TheVariants as quantized
+use Rattle.std.specs.Prelude.{Result, Ok, Err}
+use Rattle.game_refusals.specs.declared.Refusal.{Refusal}
+use Rattle.game_refusals.specs.declared.Refusal.TheVariants.{TickTooLarge}
+use Rattle.game_refusals.specs.Refusals.{number_of_answer}
 
 -- bit 1: the air jump is used; bit 0: the jump button is still held
 unfoldable pub net_jumped : Character → ℤ
@@ -49,8 +49,8 @@ abbrev pub most_tick : ℕ
 most_tick = 2147483647
 
 -- refused with 10 where the tick of a held player is above it
-unfoldable pub to_net : Character → Net
-to_net c = cond (leb (tick_of c.hook) most_tick) (net.Core (core_of c)) net.TickTooLarge
+unfoldable pub to_net : Character → Result CharacterCore Refusal
+to_net c = cond (leb (tick_of c.hook) most_tick) (Ok (core_of c)) (Err TickTooLarge)
 
 -- a record as a character
 unfoldable pub from_net : CharacterCore → Character
@@ -65,18 +65,9 @@ from_net n = record {
 }
 
 -- into a record and back
-abbrev pub back : Net → Quantized
-back net.TickTooLarge = quantized.TickTooLarge
-back (net.Core n) = quantized.To (from_net n)
+abbrev pub back : Result CharacterCore Refusal → Result Character Refusal
+back (Err e) = Err e
+back (Ok n) = Ok (from_net n)
 
-unfoldable pub quantize : Character → Quantized
+unfoldable pub quantize : Character → Result Character Refusal
 quantize c = back (to_net c)
-
--- document 01's number of an answer
-abbrev pub net_number : Net → ℕ
-net_number net.TickTooLarge = tick_too_large
-net_number (net.Core n) = 0
-
-abbrev pub quantized_number : Quantized → ℕ
-quantized_number quantized.TickTooLarge = tick_too_large
-quantized_number (quantized.To c) = 0

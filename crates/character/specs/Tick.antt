@@ -21,25 +21,22 @@ use Rattle.game_input.specs.Inputs.{move_direction, target_dir, aim, jumps, hook
 use Rattle.character_motion.specs.Controls.{grounded, control_of, jump, landed, walk, clamp_speed}
 use Rattle.character_hook.specs.Hooking.{fire, nearer, grab, hold}
 use Rattle.character_hook.specs.declared.hooking.Nearest.{Nearest}
-use Rattle.character_hook.specs.declared.hooking.Nearest.TheVariants.{Nobody}
 use Rattle.character_hook.specs.Dragging.{dragged}
 use Rattle.character_hook.specs.Flying.{flown}
 use Rattle.character_hook.specs.declared.flying.Way.{Way}
 use Rattle.character_hook.specs.declared.flying.Way.TheVariants as way
 use Rattle.character_meeting.specs.Meeting.{meet, pull_on}
 use Rattle.character_meeting.specs.declared.meeting.HookPull.{HookPull}
-use Rattle.character_meeting.specs.declared.meeting.HookPull.TheVariants as pull
 use Rattle.character.specs.Character.{with_hook, with_vel}
 use Rattle.character.specs.Slot.{empty_slot, with_character, with_grounded}
 use Rattle.character.specs.declared.Character.{Character}
 use Rattle.character.specs.declared.Slot.{Slot}
 use Rattle.character.specs.declared.tick.AfterTick.{AfterTick}
-use Rattle.character.specs.declared.tick.Ticked.{Ticked}
-use Rattle.character.specs.declared.tick.Ticked.TheVariants as answer
-use Rattle.character.specs.declared.tick.TickedAt.{TickedAt}
-use Rattle.character.specs.declared.tick.TickedAt.TheVariants as at
-use Rattle.character.specs.declared.tick.HookFlight.{HookFlight}
-use Rattle.character.specs.declared.tick.HookFlight.TheVariants.{TooFar, To}
+use Rattle.std.specs.Prelude.{Option, None, Result, Ok, Err}
+use Rattle.game_refusals.specs.declared.Refusal.{Refusal}
+use Rattle.game_refusals.specs.declared.Refusal.TheVariants.{BadMap, BadId, TooFar}
+use Rattle.game_refusals.specs.Refusals.{number_of_answer}
+use Rattle.std.specs.Prelude.{Some}
 
 -- how many slots a world has; every definition below takes any number n of them
 abbrev pub seats : ℕ
@@ -68,21 +65,21 @@ steer c on_ground i t =
     }
 
 -- the slot j, if it is another's and somebody is there, is looked at
-abbrev pub nearest_turn : List Slot → ℕ → vec2 → vec2 → ℕ → Nearest → Nearest
+abbrev pub nearest_turn : List Slot → ℕ → vec2 → vec2 → ℕ → Option Nearest → Option Nearest
 nearest_turn ss id from to j best = cond (eqb j id) best (cond (slot_at ss j).present (nearer best (id_of j) (slot_at ss j).character.pos from to) best)
 
 -- whom a hook meets first on its way
-unfoldable pub nearest : ℕ → List Slot → ℕ → vec2 → vec2 → Nearest
-nearest n ss id from to = fold (nearest_turn ss id from to) n 0 Nobody
+unfoldable pub nearest : ℕ → List Slot → ℕ → vec2 → vec2 → Option Nearest
+nearest n ss id from to = fold (nearest_turn ss id from to) n 0 None
 
 -- a hook that flew grabs whom it meets, where players can be hooked
-unfoldable pub caught : ℕ → Way → ℕ → List Slot → Float → HookFlight
-caught n way.TooFar id ss hooking = TooFar
-caught n (way.Still h) id ss hooking = To h
-caught n (way.Along from to h) id ss hooking = To (cond (ne hooking c0) (grab h (nearest n ss id from to)) h)
+unfoldable pub caught : ℕ → Result Way Refusal → ℕ → List Slot → Float → Result Hook Refusal
+caught n (Err e) id ss hooking = Err e
+caught n (Ok (way.Still h)) id ss hooking = Ok h
+caught n (Ok (way.Along from to h)) id ss hooking = Ok (cond (ne hooking c0) (grab h (nearest n ss id from to)) h)
 
 -- what becomes of a hook on its way
-abbrev pub flight : ℕ → Hook → vec2 → ℕ → List Slot → Sides → List ℕ → Tuning → HookFlight
+abbrev pub flight : ℕ → Hook → vec2 → ℕ → List Slot → Sides → List ℕ → Tuning → Result Hook Refusal
 flight n h p id ss s ts t = caught n (flown h p s ts t) id ss t.player_hooking
 
 -- the own velocity after the slot j, if it is another's and somebody is there
@@ -94,24 +91,24 @@ unfoldable pub meet_all : ℕ → List Slot → ℕ → vec2 → vec2 → Hook �
 meet_all n ss id p v h t = fold (meet_turn ss id p h t) n 0 v
 
 -- the character cid is held: it is pulled, if it is another and there
-abbrev pub pull_from : ℕ → List Slot → ℕ → vec2 → Tuning → CharacterId → ℕ → HookPull
+abbrev pub pull_from : ℕ → List Slot → ℕ → vec2 → Tuning → CharacterId → ℕ → Option HookPull
 pull_from n ss id p t cid ticks =
     let other = slot_at ss cid.0 in
-    cond (ltb cid.0 n) (cond (eqb cid.0 id) pull.Nobody (cond other.present (pull_on p cid other.character.pos other.character.vel t) pull.Nobody)) pull.Nobody
+    cond (ltb cid.0 n) (cond (eqb cid.0 id) None (cond other.present (pull_on p cid other.character.pos other.character.vel t) None)) None
 
 -- whom the hook pulls, and the velocity that it leaves them
-unfoldable pub pull_of : ℕ → List Slot → ℕ → vec2 → Hook → Tuning → HookPull
-pull_of n ss id p h t = on_grabbed (pull_from n ss id p t) pull.Nobody h
+unfoldable pub pull_of : ℕ → List Slot → ℕ → vec2 → Hook → Tuning → Option HookPull
+pull_of n ss id p h t = on_grabbed (pull_from n ss id p t) None h
 
 -- the slots with that velocity
-unfoldable pub after_pull : List Slot → HookPull → List Slot
-after_pull ss pull.Nobody = ss
-after_pull ss (pull.Of cid v) = set ss cid.0 (with_character (slot_at ss cid.0) (with_vel (slot_at ss cid.0).character v))
+unfoldable pub after_pull : List Slot → Option HookPull → List Slot
+after_pull ss None = ss
+after_pull ss (Some p) = set ss p.cid.0 (with_character (slot_at ss p.cid.0) (with_vel (slot_at ss p.cid.0).character p.vel))
 
 -- what it leaves of the slot at the seat j
-unfoldable pub pulled_slot : Slot → HookPull → ℕ → Slot
-pulled_slot s pull.Nobody j = s
-pulled_slot s (pull.Of cid v) j = cond (eqb cid.0 j) (with_character s (with_vel s.character v)) s
+unfoldable pub pulled_slot : Slot → Option HookPull → ℕ → Slot
+pulled_slot s None j = s
+pulled_slot s (Some p) j = cond (eqb p.cid.0 j) (with_character s (with_vel s.character p.vel)) s
 
 -- after the flight: the drag of an attached hook, the count of a held one, the others, the clamp, and whom the hook pulls
 unfoldable pub hooked : ℕ → Character → Bool → Hook → ℕ → List Slot → Tuning → AfterTick
@@ -120,11 +117,11 @@ hooked n c on_ground h id ss t =
     record { me = with_vel (with_hook c (hold h t.hook_hold)) (clamp_speed vel); pull = pull_of n ss id c.pos (hold h t.hook_hold) t; grounded = on_ground }
 
 -- a hook that would fly too far refuses the tick
-abbrev pub ticked : ℕ → Character → Bool → ℕ → List Slot → Tuning → HookFlight → TickedAt
-ticked n c on_ground id ss t TooFar = at.TooFar
-ticked n c on_ground id ss t (To h) = at.To (hooked n c on_ground h id ss t)
+abbrev pub ticked : ℕ → Character → Bool → ℕ → List Slot → Tuning → Result Hook Refusal → Result AfterTick Refusal
+ticked n c on_ground id ss t (Err e) = Err e
+ticked n c on_ground id ss t (Ok h) = Ok (hooked n c on_ground h id ss t)
 
-unfoldable pub tick_at : ℕ → Character → ℕ → List Slot → Sides → List ℕ → PlayerInput → Tuning → TickedAt
+unfoldable pub tick_at : ℕ → Character → ℕ → List Slot → Sides → List ℕ → PlayerInput → Tuning → Result AfterTick Refusal
 tick_at n c id ss s ts i t =
     let on_ground = grounded s ts c.pos in
     let steered = steer c on_ground i t in
@@ -134,21 +131,9 @@ tick_at n c id ss s ts i t =
 abbrev pub ticked_slot : Slot → AfterTick → Slot
 ticked_slot s a = with_grounded (with_character s a.me) a.grounded
 
--- the same answer, as one of `tick`
-abbrev pub ticked_of : TickedAt → Ticked
-ticked_of at.TooFar = answer.TooFar
-ticked_of (at.To a) = answer.To a
-
 -- refused with 1 where the map is none, with 2 where the id has no slot
-unfoldable pub tick : ℕ → Character → CharacterId → List Slot → Sides → List ℕ → PlayerInput → List ℤ → Ticked
+unfoldable pub tick : ℕ → Character → CharacterId → List Slot → Sides → List ℕ → PlayerInput → List ℤ → Result AfterTick Refusal
 tick n c id ss s ts i tunings =
     cond (is_map s ts)
-    (cond (ltb id.0 n) (ticked_of (tick_at n c id.0 ss s ts i (tuning_of tunings))) answer.BadId)
-    answer.BadMap
-
--- document 01's number of an answer
-abbrev pub tick_number : Ticked → ℕ
-tick_number answer.BadMap = bad_map
-tick_number answer.BadId = bad_id
-tick_number answer.TooFar = too_far
-tick_number (answer.To a) = 0
+    (cond (ltb id.0 n) (tick_at n c id.0 ss s ts i (tuning_of tunings)) (Err BadId))
+    (Err BadMap)

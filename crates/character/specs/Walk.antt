@@ -14,20 +14,17 @@ use Rattle.map_lines.specs.Limit.{most_turns}
 use Rattle.map_tiles.specs.declared.tiles.Sides.{Sides}
 use Rattle.game_tuning.specs.Tuning.{tuning_of}
 use Rattle.game_tuning.specs.declared.Tuning.{Tuning}
-use Rattle.map_walks.specs.declared.moves.BoxWalk.{BoxWalk}
-use Rattle.map_walks.specs.declared.moves.BoxWalk.TheVariants as box
 use Rattle.character_walk.specs.Touching.{touches}
 use Rattle.character_walk.specs.Walking.{ramped_move, player_turns, rest_at}
 use Rattle.character_near.specs.Near as near
 use Rattle.character.specs.declared.Character.{Character}
 use Rattle.character.specs.declared.Slot.{Slot}
-use Rattle.character.specs.declared.walk.Moved.{Moved}
-use Rattle.character.specs.declared.walk.Moved.TheVariants as moved
-use Rattle.character.specs.declared.walk.MovedAt.{MovedAt}
-use Rattle.character.specs.declared.walk.MovedAt.TheVariants as at
-use Rattle.character.specs.declared.walk.PlayerWalk.{PlayerWalk}
-use Rattle.character.specs.declared.walk.PlayerWalk.TheVariants as among
 use Rattle.character.specs.Tick.{slot_at}
+use Rattle.std.specs.Prelude.{Result, Ok, Err}
+use Rattle.map_walks.specs.declared.moves.Body.{Body}
+use Rattle.game_refusals.specs.declared.Refusal.{Refusal}
+use Rattle.game_refusals.specs.declared.Refusal.TheVariants.{BadMap, BadId, TooFar}
+use Rattle.game_refusals.specs.Refusals.{number_of_answer}
 
 -- c at p with the velocity v
 abbrev pub moved_to : Character → vec2 → vec2 → Character
@@ -55,37 +52,25 @@ unfoldable pub walk_among : ℕ → List Slot → ℕ → vec2 → vec2 → Floa
 walk_among n ss id from to distance turns = or_to to (run (walk_turn n ss id from to distance) turns 0 from)
 
 -- the player walk, where players collide: 9 where it is too far
-unfoldable pub player_walk : ℕ → List Slot → ℕ → vec2 → vec2 → Float → PlayerWalk
+unfoldable pub player_walk : ℕ → List Slot → ℕ → vec2 → vec2 → Float → Result vec2 Refusal
 player_walk n ss id from to collision =
     let distance = vdistance from to in
     cond (ne collision c0)
-    (cond (leb (player_turns distance) most_turns) (among.At (walk_among n ss id from to distance (player_turns distance))) among.TooFar)
-    (among.At to)
+    (cond (leb (player_turns distance) most_turns) (Ok (walk_among n ss id from to distance (player_turns distance))) (Err TooFar))
+    (Ok to)
 
-abbrev pub rested : Character → vec2 → PlayerWalk → MovedAt
-rested c v among.TooFar = at.TooFar
-rested c v (among.At p) = at.To (moved_to c p v)
+abbrev pub rested : Character → vec2 → Result vec2 Refusal → Result Character Refusal
+rested c v (Err e) = Err e
+rested c v (Ok p) = Ok (moved_to c p v)
 
 -- after the box has moved: the others
-abbrev pub after_box : ℕ → Character → ℕ → List Slot → Tuning → BoxWalk → MovedAt
-after_box n c id ss t box.TooFar = at.TooFar
-after_box n c id ss t (box.To b) = rested c b.vel (player_walk n ss id c.pos b.pos t.player_collision)
+abbrev pub after_box : ℕ → Character → ℕ → List Slot → Tuning → Result Body Refusal → Result Character Refusal
+after_box n c id ss t (Err e) = Err e
+after_box n c id ss t (Ok b) = rested c b.vel (player_walk n ss id c.pos b.pos t.player_collision)
 
-unfoldable pub move_at : ℕ → Character → ℕ → List Slot → Sides → List ℕ → Tuning → MovedAt
+unfoldable pub move_at : ℕ → Character → ℕ → List Slot → Sides → List ℕ → Tuning → Result Character Refusal
 move_at n c id ss s ts t = after_box n c id ss t (ramped_move s ts c.pos c.vel t)
 
--- the same answer, as one of `move_`
-abbrev pub moved_of : MovedAt → Moved
-moved_of at.TooFar = moved.TooFar
-moved_of (at.To c) = moved.To c
-
 -- refused with 1 where the map is none, with 2 where the id has no slot
-unfoldable pub move : ℕ → Character → CharacterId → List Slot → Sides → List ℕ → List ℤ → Moved
-move n c id ss s ts tunings = cond (is_map s ts) (cond (ltb id.0 n) (moved_of (move_at n c id.0 ss s ts (tuning_of tunings))) moved.BadId) moved.BadMap
-
--- document 01's number of an answer
-abbrev pub move_number : Moved → ℕ
-move_number moved.BadMap = bad_map
-move_number moved.BadId = bad_id
-move_number moved.TooFar = too_far
-move_number (moved.To c) = 0
+unfoldable pub move : ℕ → Character → CharacterId → List Slot → Sides → List ℕ → List ℤ → Result Character Refusal
+move n c id ss s ts tunings = cond (is_map s ts) (cond (ltb id.0 n) (move_at n c id.0 ss s ts (tuning_of tunings)) (Err BadId)) (Err BadMap)

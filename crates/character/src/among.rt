@@ -1,5 +1,5 @@
 // What a tick asks of the others, who are lent as places: whom its hook meets on its way, and what is left of the own velocity.
-ghost use Rattle.std.specs.Prelude.{◌≡◌};
+ghost use Rattle.std.specs.Prelude.{◌≡◌, Ok};
 ghost use Rattle.character.specs.Tick.{seats, nearest, caught, meet_all};
 ghost use Rattle.character.specs.Places.{Among};
 ghost use Rattle.character.specs.Among.{may_meet};
@@ -7,7 +7,6 @@ ghost use Rattle.character.specs.Among.{may_meet};
 use crate::SEATS;
 use crate::pulls::held_seat;
 use crate::rows::{ROW, none_met};
-use crate::tick::HookFlight;
 use character_aside::aside::may_touch;
 use character_hook::{CharacterId, Hook, Nearest, Way, nearer};
 use character_meeting::{is_beyond, meet};
@@ -22,17 +21,16 @@ pub fn caught(
     xs: &[f32; SEATS],
     ys: &[f32; SEATS],
     player_hooking: f32,
-) -> HookFlight
-    ensures { Among seats present.now xs.now ys.now (λ ss. result ≡ caught seats way id ss player_hooking) }
+) -> Hook
+    ensures { Among seats present.now xs.now ys.now (λ ss. Ok result ≡ caught seats (Ok way) id ss player_hooking) }
 {
     match way {
-        Way::TooFar => HookFlight::TooFar,
-        Way::Still(hook) => HookFlight::To(hook),
+        Way::Still(hook) => hook,
         Way::Along(from, to, hook) => {
             if player_hooking != 0.0 {
-                return HookFlight::To(hook.grab(nearest(present, xs, ys, id, from, to)));
+                return hook.grab(nearest(present, xs, ys, id, from, to));
             }
-            HookFlight::To(hook)
+            hook
         },
     }
 }
@@ -45,11 +43,11 @@ fn nearest(
     id: usize,
     from: vec2,
     to: vec2,
-) -> Nearest
+) -> Option<Nearest>
     ensures { Among seats present.now xs.now ys.now (λ ss. result ≡ nearest seats ss id from to) }
 {
-    let end = from.add(to.sub(from));
-    let mut best = Nearest::Nobody;
+    let end = from + (to - from);
+    let mut best = None;
     for j in 0..SEATS {
         if present[j] {
             let place = vec2::new(xs[j], ys[j]);

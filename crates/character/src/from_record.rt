@@ -2,13 +2,14 @@
 ghost use Rattle.std.specs.Prelude.{◌≡◌};
 ghost use Rattle.num_convert.specs.Convert.{i32_to_f32, from256ths};
 ghost use Rattle.num_vec2.specs.Vec2.{vnew};
-ghost use Rattle.character.specs.Records.{used_airjump_from_net, jumped_already_from_net, from_net, quantize, to_net, net_number, quantized_number};
+ghost use Rattle.character.specs.Records.{used_airjump_from_net, jumped_already_from_net, from_net, quantize, to_net};
+ghost use Rattle.game_refusals.specs.Refusals.{number_of_answer};
 
 use crate::Character;
-use crate::records::{Net, Quantized};
 use character_hook::Hook;
 use game_input::{Angle, MoveDirection};
 use game_records::CharacterCore;
+use game_refusals::Refusal;
 use num_convert::{cast_unsigned, from_256ths, i32_to_f32};
 use num_vec2::vec2;
 
@@ -57,13 +58,9 @@ impl Character {
         }
     }
 
-    pub fn quantize(self) -> Quantized
-        ensures { (result ≡ quantize self) × (quantized_number result ≡ net_number (to_net self)) }
+    pub fn quantize(self) -> Result<Character, Refusal>
+        ensures { (result ≡ quantize self) × (number_of_answer result ≡ number_of_answer (to_net self)) }
     {
-        let net = self.to_net();
-        match net {
-            Net::TickTooLarge => Quantized::TickTooLarge,
-            Net::Core(core) => Quantized::To(Character::from_net(core)),
-        }
+        Ok(Character::from_net(self.to_net()?))
     }
 }

@@ -6,7 +6,6 @@ mod from_record;
 mod near;
 mod places;
 mod pulls;
-mod records;
 mod rows;
 mod slots;
 mod tick;
@@ -22,9 +21,7 @@ use game_records::PlayerInput;
 use num_vec2::vec2;
 pub use places::{Places, places_of};
 pub use pulls::{held_seat, pull_at};
-pub use records::{Net, Quantized};
-pub use tick::{AfterTick, OwnTick, Ticked, TickedAt};
-pub use walk::{Moved, MovedAt, PlayerWalk};
+pub use tick::{AfterTick, OwnTick};
 
 #[derive(Clone, Copy)]
 pub struct Character {
@@ -64,22 +61,9 @@ impl Character {
         }
     }
 
-    // An enum field is not assigned, so the character is built anew.
     pub fn with_hook(self, hook: Hook) -> Character
         ensures { result ≡ with_hook self hook }
     {
-        let pos = self.pos;
-        let vel = self.vel;
-        let angle = self.angle;
-        let direction = self.move_direction;
-        Character {
-            pos: pos,
-            vel: vel,
-            hook: hook,
-            jumped_already: self.jumped_already,
-            used_airjump: self.used_airjump,
-            angle: angle,
-            move_direction: direction,
-        }
+        Character { hook, ..self }
     }
 }

@@ -32,16 +32,16 @@ pub fn pull_at(
     other_pos: vec2,
     other_vel: vec2,
     tuning: Tuning,
-) -> HookPull
+) -> Option<HookPull>
     requires { held < seats }
     ensures { result ≡ pull_at pos own held present other_pos other_vel tuning }
 {
     if held == own {
-        return HookPull::Nobody;
+        return None;
     }
     if present {
         let cid = held as u32;
         return pull_on(pos, CharacterId(cid), other_pos, other_vel, tuning);
     }
-    HookPull::Nobody
+    None
 }

@@ -66,7 +66,7 @@ impl Slot {
     }
 
     // What the hook of another character does to whoever is in the slot, at the held seat.
-    pub fn pull_by(self, me: Character, own: usize, held: usize, tuning: Tuning) -> HookPull
+    pub fn pull_by(self, me: Character, own: usize, held: usize, tuning: Tuning) -> Option<HookPull>
         requires { held < seats }
         ensures { result ≡ pull_at me.pos own held self.present self.character.pos self.character.vel tuning }
     {
@@ -83,17 +83,17 @@ impl Slot {
     }
 
     // What a pull leaves of the slot at a seat.
-    pub fn pulled(self, pull: HookPull, seat: usize) -> Slot
+    pub fn pulled(self, pull: Option<HookPull>, seat: usize) -> Slot
         ensures { result ≡ pulled_slot self pull seat }
     {
-        let HookPull::Of(cid, vel) = pull else {
+        let Some(pull) = pull else {
             return self;
         };
-        if cid.0 as usize != seat {
+        if pull.cid.0 as usize != seat {
             return self;
         }
         let mut character = self.character;
-        character.vel = vel;
+        character.vel = pull.vel;
         self.with_character(character)
     }
 }

@@ -1,5 +1,5 @@
 // A character's tick among the others.
-ghost use Rattle.std.specs.Prelude.{◌≡◌, T, ◌<◌};
+ghost use Rattle.std.specs.Prelude.{◌≡◌, T, ◌<◌, Ok};
 ghost use Rattle.map_tiles.specs.Map.{is_map};
 ghost use Rattle.character.specs.Tick.{seats, steer, hooked, tick_at, tick};
 ghost use Rattle.character.specs.Places.{Among};
@@ -14,46 +14,24 @@ use character_meeting::HookPull;
 use character_motion::{JumpState, clamp_speed, control_of, grounded, jump, landed, walk};
 use game_input::{aim, jumps, move_direction};
 use game_records::PlayerInput;
+use game_refusals::Refusal;
 use game_tuning::{TUNINGS, Tuning, tuning_of};
 use map_tiles::{Sides, is_map};
 use num_vec2::vec2;
-
-// What `tick` answers.
-#[derive(Clone, Copy)]
-pub enum Ticked {
-    BadMap,
-    BadId,
-    TooFar,
-    To(AfterTick),
-}
-
-// What it answers for a map that is one and an id that has a slot.
-#[derive(Clone, Copy)]
-pub enum TickedAt {
-    TooFar,
-    To(AfterTick),
-}
 
 // The character after its tick, whom its hook pulls, and whether it stood on the ground.
 #[derive(Clone, Copy)]
 pub struct AfterTick {
     pub me: Character,
-    pub pull: HookPull,
+    pub pull: Option<HookPull>,
     pub grounded: bool,
 }
 
 // What a tick leaves of its own character, with whether it stood on the ground: all but whom its hook pulls.
 #[derive(Clone, Copy)]
-pub enum OwnTick {
-    TooFar,
-    To(Character, bool),
-}
-
-// What becomes of a hook.
-#[derive(Clone, Copy)]
-pub enum HookFlight {
-    TooFar,
-    To(Hook),
+pub struct OwnTick {
+    pub me: Character,
+    pub grounded: bool,
 }
 
 impl Character {
@@ -65,20 +43,17 @@ impl Character {
         tiles: &[u8],
         input: PlayerInput,
         tunings: [i32; TUNINGS],
-    ) -> Ticked
+    ) -> Result<AfterTick, Refusal>
         ensures { result ≡ tick seats self id slots sides tiles.now input tunings }
     {
         if is_map(sides, tiles) {
             let at = id.0 as usize;
             if at < SEATS {
-                return match self.tick_at(at, slots, sides, tiles, input, tuning_of(tunings)) {
-                    TickedAt::TooFar => Ticked::TooFar,
-                    TickedAt::To(after) => Ticked::To(after),
-                };
+                return self.tick_at(at, slots, sides, tiles, input, tuning_of(tunings));
             }
-            return Ticked::BadId;
+            return Err(Refusal::BadId);
         }
-        Ticked::BadMap
+        Err(Refusal::BadMap)
     }
 
     // The same for a map that is one and an id that has a slot.
@@ -90,7 +65,7 @@ impl Character {
         tiles: &[u8],
         input: PlayerInput,
         tuning: Tuning,
-    ) -> TickedAt
+    ) -> Result<AfterTick, Refusal>
         requires { T (is_map sides tiles.now) × (id < seats) }
         ensures { result ≡ tick_at seats self id slots sides tiles.now input tuning }
     {
@@ -98,15 +73,14 @@ impl Character {
         let present = places.present;
         let xs = places.xs;
         let ys = places.ys;
-        let own = self.tick_among(id, &present, &xs, &ys, sides, tiles, input, tuning);
-        let OwnTick::To(me, grounded) = own else {
-            return TickedAt::TooFar;
-        };
+        let own = self.tick_among(id, &present, &xs, &ys, sides, tiles, input, tuning)?;
+        let me = own.me;
+        let grounded = own.grounded;
         let hook = me.hook;
         let held = held_seat(hook, id);
         let other = slots[held];
         let pull = other.pull_by(me, id, held, tuning);
-        TickedAt::To(AfterTick { me, pull, grounded })
+        Ok(AfterTick { me, pull, grounded })
     }
 
     // The same without whom its hook pulls: of the others it asks who is there and where.
@@ -120,7 +94,7 @@ impl Character {
         tiles: &[u8],
         input: PlayerInput,
         tuning: Tuning,
-    ) -> OwnTick
+    ) -> Result<OwnTick, Refusal>
         requires { T (is_map sides tiles.now) }
         ensures { Among seats present.now xs.now ys.now (λ ss. with_pull seats ss id tuning result ≡ tick_at seats self id ss sides tiles.now input tuning) }
     {
@@ -128,12 +102,9 @@ impl Character {
         let on_ground = grounded(sides, tiles, pos);
         let steered = self.steer(on_ground, input, tuning);
         let fired = steered.hook;
-        let way = fired.flown(pos, sides, tiles, tuning);
-        let flight = caught(way, id, present, xs, ys, tuning.player_hooking);
-        let HookFlight::To(hook) = flight else {
-            return OwnTick::TooFar;
-        };
-        steered.hooked(on_ground, hook, id, present, xs, ys, tuning)
+        let way = fired.flown(pos, sides, tiles, tuning)?;
+        let hook = caught(way, id, present, xs, ys, tuning.player_hooking);
+        Ok(steered.hooked(on_ground, hook, id, present, xs, ys, tuning))
     }
 
     // After the flight: the drag of an attached hook, the count of a held one, the others, and the clamp.
@@ -147,7 +118,7 @@ impl Character {
         ys: &[f32; SEATS],
         tuning: Tuning,
     ) -> OwnTick
-        ensures { Among seats present.now xs.now ys.now (λ ss. with_pull seats ss id tuning result ≡ TickedAt.To (hooked seats self grounded hook id ss tuning)) }
+        ensures { Among seats present.now xs.now ys.now (λ ss. with_pull seats ss id tuning (Ok result) ≡ Ok (hooked seats self grounded hook id ss tuning)) }
     {
         let pos = self.pos;
         let direction = self.move_direction;
@@ -157,7 +128,7 @@ impl Character {
         let clamped = clamp_speed(met);
         self = self.with_hook(held);
         self.vel = clamped;
-        OwnTick::To(self, grounded)
+        OwnTick { me: self, grounded }
     }
 
     // Direction and angle, gravity and jump, the hook's button, walking and friction.

@@ -4,8 +4,8 @@ ghost use Rattle.character_hook.specs.Hook.{tick_of};
 ghost use Rattle.character.specs.Records.{net_jumped, core_of, to_net};
 
 use crate::Character;
-use crate::records::Net;
 use game_records::{CharacterCore, Tick};
+use game_refusals::Refusal;
 use num_convert::{round_to_i32, to_256ths};
 
 // The largest tick that a record holds.
@@ -22,14 +22,14 @@ fn net_jumped(c: Character) -> i32
 }
 
 impl Character {
-    pub fn to_net(self) -> Net
+    pub fn to_net(self) -> Result<CharacterCore, Refusal>
         ensures { result ≡ to_net self }
     {
         let hook = self.hook;
         if hook.tick() > MOST_TICK {
-            return Net::TickTooLarge;
+            return Err(Refusal::TickTooLarge);
         }
-        Net::Core(core_of(self))
+        Ok(core_of(self))
     }
 }
 

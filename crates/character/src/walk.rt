@@ -11,34 +11,11 @@ use crate::{Character, SEATS, Slot};
 use character_hook::CharacterId;
 use character_near::walk_near;
 use character_walk::{player_turns, ramped_move};
+use game_refusals::Refusal;
 use game_tuning::{TUNINGS, Tuning, tuning_of};
 use map_lines::MOST_TURNS;
 use map_tiles::{Sides, is_map};
-use map_walks::BoxWalk;
 use num_vec2::vec2;
-
-// What `move_` answers.
-#[derive(Clone, Copy)]
-pub enum Moved {
-    BadMap,
-    BadId,
-    TooFar,
-    To(Character),
-}
-
-// What it answers for a map that is one and an id that has a slot.
-#[derive(Clone, Copy)]
-pub enum MovedAt {
-    TooFar,
-    To(Character),
-}
-
-// Where a walk among others ends.
-#[derive(Clone, Copy)]
-pub enum PlayerWalk {
-    TooFar,
-    At(vec2),
-}
 
 impl Character {
     pub fn move_(
@@ -48,7 +25,7 @@ impl Character {
         sides: Sides,
         tiles: &[u8],
         tunings: [i32; TUNINGS],
-    ) -> Moved
+    ) -> Result<Character, Refusal>
         ensures { result ≡ move seats self id slots sides tiles.now tunings }
     {
         if is_map(sides, tiles) {
@@ -59,14 +36,11 @@ impl Character {
                 let xs = places.xs;
                 let ys = places.ys;
                 let tuning = tuning_of(tunings);
-                return match self.move_among(at, &present, &xs, &ys, sides, tiles, tuning) {
-                    MovedAt::TooFar => Moved::TooFar,
-                    MovedAt::To(me) => Moved::To(me),
-                };
+                return self.move_among(at, &present, &xs, &ys, sides, tiles, tuning);
             }
-            return Moved::BadId;
+            return Err(Refusal::BadId);
         }
-        Moved::BadMap
+        Err(Refusal::BadMap)
     }
 
     // The same for a map that is one: of the others it asks who is there and where.
@@ -79,25 +53,16 @@ impl Character {
         sides: Sides,
         tiles: &[u8],
         tuning: Tuning,
-    ) -> MovedAt
+    ) -> Result<Character, Refusal>
         requires { T (is_map sides tiles.now) }
         ensures { Among seats present.now xs.now ys.now (λ ss. result ≡ move_at seats self id ss sides tiles.now tuning) }
     {
         let from = self.pos;
-        let moved = ramped_move(sides, tiles, from, self.vel, tuning);
-        let BoxWalk::To(body) = moved else {
-            return MovedAt::TooFar;
-        };
-        let new_pos = body.pos;
-        let new_vel = body.vel;
+        let body = ramped_move(sides, tiles, from, self.vel, tuning)?;
         let collision = tuning.player_collision;
-        let walked = player_walk(present, xs, ys, id, from, new_pos, collision);
-        let PlayerWalk::At(rest) = walked else {
-            return MovedAt::TooFar;
-        };
-        self.pos = rest;
-        self.vel = new_vel;
-        MovedAt::To(self)
+        self.pos = player_walk(present, xs, ys, id, from, body.pos, collision)?;
+        self.vel = body.vel;
+        Ok(self)
     }
 }
 
@@ -111,24 +76,23 @@ fn player_walk(
     from: vec2,
     to: vec2,
     player_collision: f32,
-) -> PlayerWalk
+) -> Result<vec2, Refusal>
     ensures { Among seats present.now xs.now ys.now (λ ss. result ≡ player_walk seats ss id from to player_collision) }
 {
     if player_collision != 0.0 {
         let distance = vec2::distance(from, to);
         let turns = player_turns(distance);
-        let end = from.add(to.sub(from));
+        let end = from + (to - from);
         let mut near_xs = [0.0f32; SEATS];
         let mut near_ys = [0.0f32; SEATS];
         let count = gather(present, xs, ys, id, from, end, &mut near_xs, &mut near_ys);
         if turns > MOST_TURNS {
-            return PlayerWalk::TooFar;
+            return Err(Refusal::TooFar);
         }
         if count == 0 {
-            return PlayerWalk::At(to);
+            return Ok(to);
         }
-        let rest = walk_near(&near_xs, &near_ys, count, from, to, distance, turns as u32);
-        return PlayerWalk::At(rest);
+        return Ok(walk_near(&near_xs, &near_ys, count, from, to, distance, turns as u32));
     }
-    PlayerWalk::At(to)
+    Ok(to)
 }

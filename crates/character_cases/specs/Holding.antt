@@ -12,15 +12,14 @@ use Rattle.character.specs.Character.{with_hook}
 use Rattle.character.specs.Tick.{tick}
 use Rattle.character.specs.declared.Character.{Character}
 use Rattle.character.specs.declared.Slot.{Slot}
-use Rattle.character.specs.declared.tick.Ticked.{Ticked}
-use Rattle.character.specs.declared.tick.Ticked.TheVariants as answer
+use Rattle.std.specs.Prelude.{Result, Ok, Err}
+use Rattle.character.specs.declared.tick.AfterTick.{AfterTick}
+use Rattle.game_refusals.specs.declared.Refusal.{Refusal}
 
 -- a tick was accepted, and leaves the character with the hook h
-abbrev pub HookAfter : Hook → Ticked → Type 0
-HookAfter h answer.BadMap = ⊥
-HookAfter h answer.BadId = ⊥
-HookAfter h answer.TooFar = ⊥
-HookAfter h (answer.To a) = a.me.hook ≡ h
+abbrev pub HookAfter : Hook → Result AfterTick Refusal → Type 0
+HookAfter h (Err e) = ⊥
+HookAfter h (Ok a) = a.me.hook ≡ h
 
 -- of any character, with any hook that holds somebody, among any others, with any tunings
 pub record TickHolds (n : ℕ) (c : Character) (id cid : CharacterId) (ticks : ℕ) (ss : List Slot) (s : Sides) (ts : List ℕ) (i : PlayerInput) (tunings : List ℤ) : Type 0 where

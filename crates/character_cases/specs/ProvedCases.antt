@@ -11,8 +11,6 @@ use Rattle.num_vec2.specs.declared.vec2.{vec2}
 use Rattle.map_corners.specs.Tile.{c14, tile_at}
 use Rattle.map_tiles.specs.declared.point.Tile.TheVariants.{Normal}
 use Rattle.map_lines.specs.Line.{check_line}
-use Rattle.map_lines.specs.declared.lines.LineCheck.TheVariants.{Met}
-use Rattle.map_lines.specs.declared.lines.LineHit.TheVariants.{At}
 use Rattle.character_hook.specs.declared.hook.CharacterId.{CharacterId}
 use Rattle.character_hook.specs.declared.hook.Hook.TheVariants.{Retracted, Grabbed}
 use Rattle.character_hook.specs.Hooking.{fire, hold}
@@ -30,7 +28,8 @@ use Rattle.map_tiles.specs.Map.{is_map}
 use Rattle.map_tiles.specs.declared.tiles.Sides.{Sides}
 use Rattle.character.specs.Records as characters
 use Rattle.character_cases.specs.Holding.{HookAfter}
-use Rattle.character.specs.declared.records.Quantized.TheVariants as quantized
+use Rattle.std.specs.Prelude.{Ok}
+use Rattle.std.specs.Prelude.{Some}
 
 -- a whole number as f32, and 17.5
 abbrev pub n : ℤ → Float
@@ -45,7 +44,7 @@ start = vnew (of_bits binary32 0x42c8_0000) (of_bits binary32 0x42c8_0000)
 
 -- c, whose hook tick a record holds, quantizes to a character of which P holds
 abbrev pub QuantizesTo : (Character → Type 0) → Character → Type 0
-QuantizesTo P c = tick_of c.hook ≤ most_tick → (d : Character) × (characters.quantize c ≡ quantized.To d) × P d
+QuantizesTo P c = tick_of c.hook ≤ most_tick → (d : Character) × (characters.quantize c ≡ Ok d) × P d
 
 pub record ProvedCases : Type 0 where
   -- (1) root of 0x00000001 is 0x1A3504F3
@@ -70,4 +69,4 @@ pub record ProvedCases : Type 0 where
   -- (9) angles: (1,1) 201, (−1,0) 804, (0,−1) −402
   pub angles : (net_angle (pos 1) (pos 1) ≡ pos 201) × (net_angle (negsuc 0) (pos 0) ≡ pos 804) × (net_angle (pos 0) (negsuc 0) ≡ negsuc 401)
   -- (10) a line of length 0 tests a not-a-number point, so tile (0,0): the only solid one of two by two
-  pub line_of_length_0 : check_line (record { width = 2; height = 2 }) (1 ∷ 0 ∷ 0 ∷ 0 ∷ []) start start ≡ Met (At (vnew nan nan) Normal)
+  pub line_of_length_0 : check_line (record { width = 2; height = 2 }) (1 ∷ 0 ∷ 0 ∷ 0 ∷ []) start start ≡ Ok (Some (vnew nan nan, Normal))

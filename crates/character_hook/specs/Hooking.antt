@@ -1,5 +1,5 @@
 -- What `tick` of lib.rs does to a hook without others. Definitions only.
-use Rattle.std.specs.Prelude.{ℕ, ◌+◌, Bool, cond, ltb, ℤ, Float}
+use Rattle.std.specs.Prelude.{ℕ, ◌+◌, Bool, cond, ltb, ℤ, Float, Option, Some, None}
 use Rattle.std.specs.Float.Ieee.{lt}
 use Rattle.num_convert.specs.Number.{c1_5}
 use Rattle.game_constants.specs.Constants.{character_size}
@@ -11,14 +11,10 @@ use Rattle.character_hook.specs.declared.hook.Hook.{Hook}
 use Rattle.character_hook.specs.declared.hook.Hook.TheVariants.{Retracted, Idle, Flying, Grabbed, Attached, Retracting0, Retracting1, Retracting2}
 use Rattle.map_tiles.specs.declared.point.Tile.{Tile}
 use Rattle.map_tiles.specs.declared.point.Tile.TheVariants.{Open, Normal, Deadly, Unhookable}
-use Rattle.map_lines.specs.declared.lines.LineHit.{LineHit}
-use Rattle.map_lines.specs.declared.lines.LineHit.TheVariants.{Nothing, At}
 use Rattle.game_tuning.specs.Tuning.{hold_of}
 use Rattle.game_tuning.specs.declared.Tuning.{Tuning}
 use Rattle.character_hook.specs.declared.hooking.Flight.{Flight}
 use Rattle.character_hook.specs.declared.hooking.Nearest.{Nearest}
-use Rattle.character_hook.specs.declared.hooking.Nearest.TheVariants.{Nobody}
-use Rattle.character_hook.specs.declared.hooking.Nearest.TheVariants as near
 
 -- an idle hook is fired, any other stays
 unfoldable pub fired : Hook → vec2 → vec2 → Hook
@@ -49,23 +45,23 @@ struck_by h p Normal = Attached p
 struck_by h p Deadly = h
 struck_by h p Unhookable = Retracting0 p
 
-unfoldable pub strike : Hook → LineHit → Hook
-strike h Nothing = h
-strike h (At p t) = struck_by h p t
+unfoldable pub strike : Hook → Option (vec2 × Tile) → Hook
+strike h None = h
+strike h (Some (p, t)) = struck_by h p t
 
 -- the first is the nearest so far, a later one where its distance is less
-unfoldable pub closer : Nearest → CharacterId → Float → Nearest
-closer Nobody cid distance = near.At distance cid
-closer (near.At least c) cid distance = cond (lt distance least) (near.At distance cid) (near.At least c)
+unfoldable pub closer : Option Nearest → CharacterId → Float → Option Nearest
+closer None cid distance = Some (record { distance = distance; cid = cid })
+closer (Some best) cid distance = cond (lt distance best.distance) (Some (record { distance = distance; cid = cid })) (Some best)
 
 -- of those that are within CHARACTER_SIZE of the way
-unfoldable pub nearer : Nearest → CharacterId → vec2 → vec2 → vec2 → Nearest
+unfoldable pub nearer : Option Nearest → CharacterId → vec2 → vec2 → vec2 → Option Nearest
 nearer best cid q from to = cond (lt (vdistance q (closest_point_on_line q from to)) character_size) (closer best cid (vdistance from q)) best
 
 -- whoever is met is grabbed, for no ticks yet
-unfoldable pub grab : Hook → Nearest → Hook
-grab h Nobody = h
-grab h (near.At distance c) = Grabbed c 0
+unfoldable pub grab : Hook → Option Nearest → Hook
+grab h None = h
+grab h (Some met) = Grabbed met.cid 0
 
 -- one tick of coming back
 unfoldable pub retract : Hook → Hook

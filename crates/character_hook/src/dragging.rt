@@ -25,7 +25,7 @@ fn drag(pos: vec2, vel: vec2, hook_pos: vec2, direction: MoveDirection, tuning: 
     ensures { result ≡ drag pos vel hook_pos direction tuning }
 {
     if vec2::distance(hook_pos, pos) > DISABLE_HOOK_DISTANCE {
-        let new_vel = vel.add(hook_vel(pos, hook_pos, direction, tuning));
+        let new_vel = vel + hook_vel(pos, hook_pos, direction, tuning);
         let speed = new_vel.length();
         if speed < tuning.hook_drag_speed {
             return new_vel;
@@ -41,7 +41,7 @@ fn drag(pos: vec2, vel: vec2, hook_pos: vec2, direction: MoveDirection, tuning: 
 fn hook_vel(pos: vec2, hook_pos: vec2, direction: MoveDirection, tuning: Tuning) -> vec2
     ensures { result ≡ hook_vel pos hook_pos direction tuning }
 {
-    let pull = hook_pos.sub(pos).normalize().mul(tuning.hook_drag_accel);
+    let pull = (hook_pos - pos).normalize() * tuning.hook_drag_accel;
     helped(lifted(pull), direction)
 }
 

@@ -9,15 +9,15 @@ use crate::hook::Hook;
 use crate::hooking::fly;
 use game_input::{hooks, target_dir};
 use game_records::PlayerInput;
+use game_refusals::Refusal;
 use game_tuning::Tuning;
-use map_lines::{LineWalk, walk_line};
+use map_lines::walk_line;
 use map_tiles::Sides;
 use num_vec2::vec2;
 
 // What a tick's flight comes to: a hook that stood still, or the way that it flew and the hook at its end.
 #[derive(Clone, Copy)]
 pub enum Way {
-    TooFar,
     Still(Hook),
     Along(vec2, vec2, Hook),
 }
@@ -37,19 +37,23 @@ impl Hook {
     }
 
     // A hook that isn't flying leaves early. One that is goes its way, and may strike a tile on it.
-    pub fn flown(self, pos: vec2, sides: Sides, tiles: &[u8], tuning: Tuning) -> Way
+    pub fn flown(
+        self,
+        pos: vec2,
+        sides: Sides,
+        tiles: &[u8],
+        tuning: Tuning,
+    ) -> Result<Way, Refusal>
         requires { T (is_map sides tiles.now) }
         ensures { result ≡ flown self pos sides tiles.now tuning }
     {
         let Hook::Flying(from, dir) = self else {
-            return Way::Still(self.retract());
+            return Ok(Way::Still(self.retract()));
         };
         let flight = fly(from, dir, pos, tuning);
         let to = flight.to;
         let flying = flight.hook;
-        let LineWalk::Met(hit) = walk_line(sides, tiles, from, to) else {
-            return Way::TooFar;
-        };
-        Way::Along(from, to, flying.strike(hit))
+        let hit = walk_line(sides, tiles, from, to)?;
+        Ok(Way::Along(from, to, flying.strike(hit)))
     }
 }

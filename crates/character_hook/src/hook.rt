@@ -7,7 +7,7 @@ use num_convert::{cast_signed, cast_unsigned};
 use num_vec2::vec2;
 
 // Which character: never a count of steps.
-#[derive(Clone, Copy)]
+#[derive(Clone, Copy, PartialEq, Eq)]
 pub struct CharacterId(pub u32);
 
 pub const HOOK_RETRACTED: i32 = -1;

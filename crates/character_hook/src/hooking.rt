@@ -5,7 +5,6 @@ ghost use Rattle.character_hook.specs.Hooking.{fired, fire, fly, strike, closer,
 use crate::hook::{CharacterId, Hook};
 use game_constants::CHARACTER_SIZE;
 use game_tuning::{Tuning, hold_of};
-use map_lines::LineHit;
 use map_tiles::Tile;
 use num_vec2::vec2;
 
@@ -28,10 +27,10 @@ impl Hook {
     }
 
     // What the tiles on the way make of it, also where it has reached its length.
-    pub fn strike(self, hit: LineHit) -> Hook
+    pub fn strike(self, hit: Option<(vec2, Tile)>) -> Hook
         ensures { result ≡ strike self hit }
     {
-        let LineHit::At(p, tile) = hit else {
+        let Some((p, tile)) = hit else {
             return self;
         };
         match tile {
@@ -43,13 +42,13 @@ impl Hook {
     }
 
     // Whoever is met is grabbed.
-    pub fn grab(self, nearest: Nearest) -> Hook
+    pub fn grab(self, nearest: Option<Nearest>) -> Hook
         ensures { result ≡ grab self nearest }
     {
-        let Nearest::At(_, cid) = nearest else {
+        let Some(met) = nearest else {
             return self;
         };
-        Hook::Grabbed(cid, 0)
+        Hook::Grabbed(met.cid, 0)
     }
 
     // A hook that comes back does so in three ticks.
@@ -84,16 +83,16 @@ fn fired(hook: Hook, pos: vec2, target_dir: vec2) -> Hook
     let Hook::Idle = hook else {
         return hook;
     };
-    Hook::Flying(pos.add(target_dir.mul(CHARACTER_SIZE).mul(1.5)), target_dir)
+    Hook::Flying(pos + target_dir * CHARACTER_SIZE * 1.5, target_dir)
 }
 
 // The flight of a tick, which ends at the hook's length from the character.
 pub fn fly(pos: vec2, dir: vec2, character: vec2, tuning: Tuning) -> Flight
     ensures { result ≡ fly pos dir character tuning }
 {
-    let new_pos = pos.add(dir.mul(tuning.hook_fire_speed));
+    let new_pos = pos + dir * tuning.hook_fire_speed;
     if vec2::distance(new_pos, character) > tuning.hook_length {
-        let end = character.add(new_pos.sub(character).normalize().mul(tuning.hook_length));
+        let end = character + (new_pos - character).normalize() * tuning.hook_length;
         return Flight {
             to: end,
             hook: Hook::Retracting0(end),
@@ -107,13 +106,19 @@ pub fn fly(pos: vec2, dir: vec2, character: vec2, tuning: Tuning) -> Flight
 
 // Who is met first on the flight so far, and at which distance.
 #[derive(Clone, Copy)]
-pub enum Nearest {
-    Nobody,
-    At(f32, CharacterId),
+pub struct Nearest {
+    pub distance: f32,
+    pub cid: CharacterId,
 }
 
 // The nearest after the character cid at `other` is looked at: of those beside the way, the first of the least distance.
-pub fn nearer(best: Nearest, cid: CharacterId, other: vec2, from: vec2, to: vec2) -> Nearest
+pub fn nearer(
+    best: Option<Nearest>,
+    cid: CharacterId,
+    other: vec2,
+    from: vec2,
+    to: vec2,
+) -> Option<Nearest>
     ensures { result ≡ nearer best cid other from to }
 {
     let closest = other.closest_point_on_line(from, to);
@@ -123,14 +128,13 @@ pub fn nearer(best: Nearest, cid: CharacterId, other: vec2, from: vec2, to: vec2
     best
 }
 
-fn closer(best: Nearest, cid: CharacterId, distance: f32) -> Nearest
+fn closer(best: Option<Nearest>, cid: CharacterId, distance: f32) -> Option<Nearest>
     ensures { result ≡ closer best cid distance }
 {
-    if let Nearest::At(min_distance, _) = best {
-        if distance < min_distance {
-            return Nearest::At(distance, cid);
+    if let Some(nearest) = best {
+        if !(distance < nearest.distance) {
+            return best;
         }
-        return best;
     }
-    Nearest::At(distance, cid)
+    Some(Nearest { distance, cid })
 }

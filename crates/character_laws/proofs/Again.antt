@@ -19,11 +19,11 @@ use Rattle.character_hook.specs.declared.hook.Hook.{Hook}
 use Rattle.character_hook.specs.declared.hook.Hook.TheVariants.{Retracted, Idle, Flying, Grabbed, Attached, Retracting0, Retracting1, Retracting2}
 use Rattle.character.specs.Records.{net_jumped, core_of, most_tick, to_net, from_net}
 use Rattle.character.specs.declared.Character.{Character}
-use Rattle.character.specs.declared.records.Net.TheVariants as net
 use Rattle.character_laws.proofs.Back.{used_back, already_back, direction_back, to_core}
 use Rattle.character_laws.proofs.FitsHook.{FitsPlace}
 use Rattle.num_order.proofs.Vectors.{FitsPair}
 use Rattle.character_laws.proofs.Held.{Only}
+use Rattle.std.specs.Prelude.{Ok}
 
 -- no player that would read as nobody
 abbrev pub Small : ℕ → Type 0
@@ -73,5 +73,5 @@ ticks_again : (c : Character) → FitsPlace c.hook → Only Small c.hook → tic
 unfolding core_of from_net
 ticks_again c f o = (hook_again c.hook f o).ticks
 
-pub net_again : (c : Character) (core : CharacterCore) → FitsPair c.pos → FitsPlace c.hook → Only Small c.hook → tick_of c.hook ≤ most_tick → core ≡ core_of c → to_net (from_net core) ≡ net.Core core
-net_again c core p f o t e = ap (λ (n : CharacterCore). to_net (from_net n)) e ∙ to_core (from_net (core_of c)) (let q = ticks_again c f o in omega arith) ∙ ap net.Core (core_again c p f o ∙ sym e)
+pub net_again : (c : Character) (core : CharacterCore) → FitsPair c.pos → FitsPlace c.hook → Only Small c.hook → tick_of c.hook ≤ most_tick → core ≡ core_of c → to_net (from_net core) ≡ Ok core
+net_again c core p f o t e = ap (λ (n : CharacterCore). to_net (from_net n)) e ∙ to_core (from_net (core_of c)) (let q = ticks_again c f o in omega arith) ∙ ap Ok (core_again c p f o ∙ sym e)

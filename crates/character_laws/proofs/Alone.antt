@@ -23,14 +23,13 @@ use Rattle.character_hook.specs.declared.flying.Way.{Way}
 use Rattle.character_hook.specs.declared.flying.Way.TheVariants as way
 use Rattle.character_meeting.specs.Meeting.{push, drags, held, pull_on, meet}
 use Rattle.character_meeting.specs.declared.meeting.HookPull.{HookPull}
-use Rattle.character_meeting.specs.declared.meeting.HookPull.TheVariants.{Nobody}
 use Rattle.character.specs.declared.Character.{Character}
 use Rattle.character.specs.declared.Slot.{Slot}
-use Rattle.character.specs.declared.tick.HookFlight.{HookFlight}
-use Rattle.character.specs.declared.tick.HookFlight.TheVariants.{TooFar, To}
 use Rattle.character.specs.Tick.{slot_at, steer, caught, flight, meet_turn, meet_all, pull_from, pull_of, hooked, ticked, tick_at}
 use Rattle.character_laws.proofs.Choices.{either, on_grabbed_lem}
 use Rattle.character_laws.proofs.Others.{Then}
+use Rattle.std.specs.Prelude.{Option, None, Result, Ok, Err}
+use Rattle.game_refusals.specs.declared.Refusal.{Refusal}
 
 same : (v : vec2) (b : Bool) → cond b v v ≡ v
 same v true = refl
@@ -56,22 +55,22 @@ module _ (t : Tuning) (collision : ne t.player_collision c0 ≡ false) (hooking 
   unfolding meet_all
   meet-all-alone n ss id p v h = fold-kept (meet_turn ss id p h t) (λ w. w ≡ v) (λ j w e. turn_alone ss id p h j w ∙ e) n 0 v refl
 
-  pull_on_alone : (p : vec2) (cid : CharacterId) (q u : vec2) → pull_on p cid q u t ≡ Nobody
+  pull_on_alone : (p : vec2) (cid : CharacterId) (q u : vec2) → pull_on p cid q u t ≡ None
   unfolding pull_on drags
   pull_on_alone p cid q u = rw hooking
 
-  pull-alone : (n : ℕ) (ss : List Slot) (id : ℕ) (p : vec2) (h : Hook) → pull_of n ss id p h t ≡ Nobody
+  pull-alone : (n : ℕ) (ss : List Slot) (id : ℕ) (p : vec2) (h : Hook) → pull_of n ss id p h t ≡ None
   unfolding pull_of
   pull-alone n ss id p h =
-      let Is : HookPull → Type 0 = λ k. k ≡ Nobody in
-      on_grabbed_lem Is Nobody refl (pull_from n ss id p t) h (λ c k. let o = slot_at ss c.0 in either Is (ltb c.0 n) (either Is (eqb c.0 id) refl (either Is o.present (pull_on_alone p c o.character.pos o.character.vel) refl)) refl)
+      let Is : Option HookPull → Type 0 = λ k. k ≡ None in
+      on_grabbed_lem Is None refl (pull_from n ss id p t) h (λ c k. let o = slot_at ss c.0 in either Is (ltb c.0 n) (either Is (eqb c.0 id) refl (either Is o.present (pull_on_alone p c o.character.pos o.character.vel) refl)) refl)
 
   -- a hook passes everybody
-  caught-alone : (n : ℕ) (w : Way) (id : ℕ) (ss us : List Slot) → caught n w id ss t.player_hooking ≡ caught n w id us t.player_hooking
+  caught-alone : (n : ℕ) (w : Result Way Refusal) (id : ℕ) (ss us : List Slot) → caught n w id ss t.player_hooking ≡ caught n w id us t.player_hooking
   unfolding caught
-  caught-alone n way.TooFar id ss us = refl
-  caught-alone n (way.Still h) id ss us = refl
-  caught-alone n (way.Along from to h) id ss us = rw hooking
+  caught-alone n (Err e) id ss us = refl
+  caught-alone n (Ok (way.Still h)) id ss us = refl
+  caught-alone n (Ok (way.Along from to h)) id ss us = rw hooking
 
   flight-alone : (n : ℕ) (h : Hook) (p : vec2) (id : ℕ) (ss us : List Slot) (s : Sides) (ts : List ℕ) → flight n h p id ss s ts t ≡ flight n h p id us s ts t
   flight-alone n h p id ss us s ts = caught-alone n (flown h p s ts t) id ss us
@@ -83,9 +82,9 @@ module _ (t : Tuning) (collision : ne t.player_collision c0 ≡ false) (hooking 
       let v = dragged h p c.vel c.move_direction t in
       rw (meet-all-alone n ss id p v (hold h t.hook_hold), meet-all-alone n us id p v (hold h t.hook_hold), pull-alone n ss id p (hold h t.hook_hold), pull-alone n us id p (hold h t.hook_hold))
 
-  ticked-alone : (n : ℕ) (c : Character) (g : Bool) (id : ℕ) (ss us : List Slot) (f : HookFlight) → ticked n c g id ss t f ≡ ticked n c g id us t f
-  ticked-alone n c g id ss us TooFar = refl
-  ticked-alone n c g id ss us (To h) = rw (hooked-alone n c g h id ss us)
+  ticked-alone : (n : ℕ) (c : Character) (g : Bool) (id : ℕ) (ss us : List Slot) (f : Result Hook Refusal) → ticked n c g id ss t f ≡ ticked n c g id us t f
+  ticked-alone n c g id ss us (Err e) = refl
+  ticked-alone n c g id ss us (Ok h) = rw (hooked-alone n c g h id ss us)
 
   -- the same answer whoever else is there
   pub tick-alone : (n : ℕ) (c : Character) (id : ℕ) (ss us : List Slot) (s : Sides) (ts : List ℕ) (i : PlayerInput) → tick_at n c id ss s ts i t ≡ tick_at n c id us s ts i t
@@ -95,10 +94,10 @@ module _ (t : Tuning) (collision : ne t.player_collision c0 ≡ false) (hooking 
       rw (flight-alone n k.hook c.pos id ss us s ts) (ticked-alone n k (grounded s ts c.pos) id ss us (flight n k.hook c.pos id us s ts t))
 
   -- and nobody is pulled
-  pub tick_pulls_nobody : (n : ℕ) (c : Character) (id : ℕ) (ss : List Slot) (s : Sides) (ts : List ℕ) (i : PlayerInput) → Then (λ a. a.pull ≡ Nobody) (tick_at n c id ss s ts i t)
+  pub tick_pulls_nobody : (n : ℕ) (c : Character) (id : ℕ) (ss : List Slot) (s : Sides) (ts : List ℕ) (i : PlayerInput) → Then (λ a. a.pull ≡ None) (tick_at n c id ss s ts i t)
   unfolding tick_at hooked
   tick_pulls_nobody n c id ss s ts i = let d = steer c (grounded s ts c.pos) i t in go d (flight n d.hook c.pos id ss s ts t)
     where
-      go : (d : Character) (f : HookFlight) → Then (λ a. a.pull ≡ Nobody) (ticked n d (grounded s ts c.pos) id ss t f)
-      go d TooFar = tt
-      go d (To h) = pull-alone n ss id d.pos (hold h t.hook_hold)
+      go : (d : Character) (f : Result Hook Refusal) → Then (λ a. a.pull ≡ None) (ticked n d (grounded s ts c.pos) id ss t f)
+      go d (Err e) = tt
+      go d (Ok h) = pull-alone n ss id d.pos (hold h t.hook_hold)

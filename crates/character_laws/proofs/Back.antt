@@ -26,8 +26,8 @@ use Rattle.game_records.specs.declared.CharacterCore.{CharacterCore}
 use Rattle.num_vec2.specs.Vec2.{vnew}
 use Rattle.num_vec2.specs.declared.vec2.{vec2}
 use Rattle.num_convert.specs.Whole.{round_to_i32, trunc_to_i32}
-use Rattle.character.specs.declared.records.Net.TheVariants as net
-use Rattle.character.specs.declared.records.Quantized.TheVariants as quantized
+use Rattle.std.specs.Prelude.{Ok, Err}
+use Rattle.game_refusals.specs.declared.Refusal.TheVariants.{TickTooLarge}
 
 -- ---- numbers
 whole_back : (x : Float) → OfI32 i32_to_f32 x → i32_to_f32 (round_to_i32 x) ≡ x
@@ -106,19 +106,19 @@ pub from_core : (c : Character) → Representable c → from_net (core_of c) ≡
 unfolding from_net core_of
 from_core c w = rw (wholes_back c.pos w.pos, 256ths_pair_back c.vel w.vel, hook_back_lem c.hook w.hook, already_back c, used_back c, angle_back c.angle w.angle, direction_back c.move_direction)
 
-pub to_core : (c : Character) → tick_of c.hook ≤ most_tick → to_net c ≡ net.Core (core_of c)
+pub to_core : (c : Character) → tick_of c.hook ≤ most_tick → to_net c ≡ Ok (core_of c)
 unfolding to_net
 to_core c h = rw (le-leb (tick_of c.hook) most_tick h)
 
 -- the record of a character is its own, and its tick fits
-pub record_of_lem : (c : Character) (core : CharacterCore) → to_net c ≡ net.Core core → (core ≡ core_of c) × (tick_of c.hook ≤ most_tick)
+pub record_of_lem : (c : Character) (core : CharacterCore) → to_net c ≡ Ok core → (core ≡ core_of c) × (tick_of c.hook ≤ most_tick)
 unfolding to_net
 record_of_lem c core = go (leb (tick_of c.hook) most_tick) refl
   where
-    go : (b : Bool) → leb (tick_of c.hook) most_tick ≡ b → cond b (net.Core (core_of c)) net.TickTooLarge ≡ net.Core core → (core ≡ core_of c) × (tick_of c.hook ≤ most_tick)
+    go : (b : Bool) → leb (tick_of c.hook) most_tick ≡ b → cond b (Ok (core_of c)) (Err TickTooLarge) ≡ Ok core → (core ≡ core_of c) × (tick_of c.hook ≤ most_tick)
     go true l q = (cc, leb-true (tick_of c.hook) most_tick l)
     go false l q = let z : ◌≡◌ {A = ℕ} 0 1 = cc in absurd (omega arith)
 
-pub representable_back : (c : Character) → Representable c → quantize c ≡ quantized.To c
+pub representable_back : (c : Character) → Representable c → quantize c ≡ Ok c
 unfolding quantize
-representable_back c w = ap back (to_core c (tick_fits c.hook w.hook)) ∙ ap quantized.To (from_core c w)
+representable_back c w = ap back (to_core c (tick_fits c.hook w.hook)) ∙ ap Ok (from_core c w)

@@ -19,10 +19,6 @@ use Rattle.map_tiles.specs.declared.point.Tile.TheVariants.{Open, Normal, Deadly
 use Rattle.map_tiles.specs.declared.tiles.Sides.{Sides}
 use Rattle.map_lines.specs.Limit.{most_turns}
 use Rattle.map_lines.specs.Line.{line_turns, or_hit, line_turn, or_nothing, line_hit, walk_line}
-use Rattle.map_lines.specs.declared.lines.LineHit.{LineHit}
-use Rattle.map_lines.specs.declared.lines.LineHit.TheVariants.{Nothing, At}
-use Rattle.map_lines.specs.declared.lines.LineWalk.{LineWalk}
-use Rattle.map_lines.specs.declared.lines.LineWalk.TheVariants as line
 use Rattle.character_motion.specs.Controls.{grounded}
 use Rattle.character_hook.specs.Hooking.{fired, fire, fly, strike, grab, retract, hold}
 use Rattle.character_hook.specs.Flying.{struck_on, flown}
@@ -30,20 +26,20 @@ use Rattle.character_hook.specs.declared.hook.Hook.{Hook}
 use Rattle.character_hook.specs.declared.hook.Hook.TheVariants.{Retracted, Idle, Flying, Grabbed, Attached, Retracting0, Retracting1, Retracting2}
 use Rattle.character_hook.specs.declared.hooking.Flight.{Flight}
 use Rattle.character_hook.specs.declared.hooking.Nearest.{Nearest}
-use Rattle.character_hook.specs.declared.hooking.Nearest.TheVariants as near
 use Rattle.character_hook.specs.declared.flying.Way.{Way}
 use Rattle.character_hook.specs.declared.flying.Way.TheVariants as way
 use Rattle.character.specs.Tick.{steer, nearest, caught, flight, hooked, ticked, tick_at}
 use Rattle.character.specs.declared.Character.{Character}
 use Rattle.character.specs.declared.Slot.{Slot}
-use Rattle.character.specs.declared.tick.HookFlight.{HookFlight}
-use Rattle.character.specs.declared.tick.HookFlight.TheVariants as reach
 use Rattle.character_laws.proofs.Choices.{either}
 use Rattle.num_order.proofs.Vectors.{FitsPair}
 use Rattle.character_laws.proofs.FitsTick.{add_pair}
 use Rattle.character_laws.proofs.Others.{Then}
 use mathlib.Core.Bool.{Bool}
 use lib.Dec.{leb}
+use Rattle.std.specs.Prelude.{Option, None, Result, Ok, Err}
+use Rattle.game_refusals.specs.declared.Refusal.{Refusal}
+use Rattle.std.specs.Prelude.{Some}
 
 abbrev pub FitsPlace : Hook → Type 0
 FitsPlace Retracted = Unit {0}
@@ -80,41 +76,41 @@ pub mix_pair : (a b : vec2) (v : Float) → FitsPair (vmix a b v)
 unfolding vmix
 mix_pair a b v = add_pair a (vmul (vsub b a) v)
 
-abbrev FitsHit : LineHit → Type 0
-FitsHit Nothing = Unit {0}
-FitsHit (At p t) = FitsPair p
+abbrev FitsHit : Option (vec2 × Tile) → Type 0
+FitsHit None = Unit {0}
+FitsHit (Some h) = FitsPair h.0
 
 hit_place : (s : Sides) (ts : List ℕ) (from to : vec2) (dist : Float) (n : ℕ) → FitsHit (line_hit s ts from to dist n)
 unfolding line_hit line_turn
-hit_place s ts from to dist n = ends (run (line_turn s ts from to dist) n 0 tt) (run-kept (line_turn s ts from to dist) (λ i u. Unit {0}) FitsHit (λ i u k. go (vmix from to (div binary32 (i32_to_f32 (pos i)) dist)) (mix_pair from to _) (check_point s ts (vmix from to (div binary32 (i32_to_f32 (pos i)) dist)))) n 0 tt tt)
+hit_place s ts from to dist n = ends (run (line_turn s ts from to dist) n 0 tt) (run-kept (line_turn s ts from to dist) (λ i u. Unit {0}) (λ h. FitsPair h.0) (λ i u k. go (vmix from to (div binary32 (i32_to_f32 (pos i)) dist)) (mix_pair from to _) (check_point s ts (vmix from to (div binary32 (i32_to_f32 (pos i)) dist)))) n 0 tt tt)
   where
-    go : (p : vec2) → FitsPair p → (t : Tile) → Ends (λ u. Unit {0}) FitsHit (or_hit p t)
+    go : (p : vec2) → FitsPair p → (t : Tile) → Ends (λ u. Unit {0}) (λ (h : vec2 × Tile). FitsPair h.0) (or_hit p t)
     go p f Open = tt
     go p f Normal = f
     go p f Deadly = tt
     go p f Unhookable = f
 
-    ends : (a : Turn (Unit {0}) LineHit) → Ends (λ u. Unit {0}) FitsHit a → FitsHit (or_nothing a)
+    ends : (a : Turn (Unit {0}) (vec2 × Tile)) → Ends (λ u. Unit {0}) (λ (h : vec2 × Tile). FitsPair h.0) a → FitsHit (or_nothing a)
     ends (more u) k = tt
     ends (stop h) k = k
 
-strike_place : (h : Hook) (hit : LineHit) → FitsPlace h → FitsHit hit → FitsPlace (strike h hit)
+strike_place : (h : Hook) (hit : Option (vec2 × Tile)) → FitsPlace h → FitsHit hit → FitsPlace (strike h hit)
 unfolding strike
-strike_place h Nothing f k = f
-strike_place h (At p Open) f k = f
-strike_place h (At p Normal) f k = k
-strike_place h (At p Deadly) f k = f
-strike_place h (At p Unhookable) f k = k
+strike_place h None f k = f
+strike_place h (Some (p, Open)) f k = f
+strike_place h (Some (p, Normal)) f k = k
+strike_place h (Some (p, Deadly)) f k = f
+strike_place h (Some (p, Unhookable)) f k = k
 
 -- the hook after its flight
-abbrev FitsWay : Way → Type 0
-FitsWay way.TooFar = Unit {0}
-FitsWay (way.Still h) = FitsPlace h
-FitsWay (way.Along from to h) = FitsPlace h
+abbrev FitsWay : Result Way Refusal → Type 0
+FitsWay (Err e) = Unit {0}
+FitsWay (Ok (way.Still h)) = FitsPlace h
+FitsWay (Ok (way.Along from to h)) = FitsPlace h
 
 line_place : (s : Sides) (ts : List ℕ) (a : vec2) (f : Flight) → FitsPlace f.hook → FitsWay (struck_on a f (walk_line s ts a f.to))
 unfolding walk_line
-line_place s ts a f k = let n = line_turns (vdistance a f.to) in either (λ (w : LineWalk). FitsWay (struck_on a f w)) (leb n most_turns) (strike_place f.hook _ k (hit_place s ts a f.to (vdistance a f.to) n)) tt
+line_place s ts a f k = let n = line_turns (vdistance a f.to) in either (λ (w : Result (Option (vec2 × Tile)) Refusal). FitsWay (struck_on a f w)) (leb n most_turns) (strike_place f.hook _ k (hit_place s ts a f.to (vdistance a f.to) n)) tt
 
 flown_place : (h : Hook) (p : vec2) (s : Sides) (ts : List ℕ) (t : Tuning) → FitsPlace h → FitsWay (flown h p s ts t)
 unfolding flown retract
@@ -139,20 +135,20 @@ hold_place z (Retracting0 a) f = f
 hold_place z (Retracting1 a) f = f
 hold_place z (Retracting2 a) f = f
 
-grab_place : (h : Hook) (best : Nearest) → FitsPlace h → FitsPlace (grab h best)
+grab_place : (h : Hook) (best : Option Nearest) → FitsPlace h → FitsPlace (grab h best)
 unfolding grab
-grab_place h near.Nobody f = f
-grab_place h (near.At distance c) f = tt
+grab_place h None f = f
+grab_place h (Some m) f = tt
 
-abbrev FitsFlight : HookFlight → Type 0
-FitsFlight reach.TooFar = Unit {0}
-FitsFlight (reach.To h) = FitsPlace h
+abbrev FitsFlight : Result Hook Refusal → Type 0
+FitsFlight (Err e) = Unit {0}
+FitsFlight (Ok h) = FitsPlace h
 
-caught_place : (n : ℕ) (w : Way) (id : ℕ) (ss : List Slot) (hooking : Float) → FitsWay w → FitsFlight (caught n w id ss hooking)
+caught_place : (n : ℕ) (w : Result Way Refusal) (id : ℕ) (ss : List Slot) (hooking : Float) → FitsWay w → FitsFlight (caught n w id ss hooking)
 unfolding caught
-caught_place n way.TooFar id ss hooking f = tt
-caught_place n (way.Still h) id ss hooking f = f
-caught_place n (way.Along from to h) id ss hooking f = either FitsPlace (ne hooking c0) (grab_place h (nearest n ss id from to) f) f
+caught_place n (Err e) id ss hooking f = tt
+caught_place n (Ok (way.Still h)) id ss hooking f = f
+caught_place n (Ok (way.Along from to h)) id ss hooking f = either FitsPlace (ne hooking c0) (grab_place h (nearest n ss id from to) f) f
 
 -- ---- the tick, which leaves the character where it is
 pub tick_place : (n : ℕ) (c : Character) (id : ℕ) (ss : List Slot) (s : Sides) (ts : List ℕ) (i : PlayerInput) (t : Tuning) → FitsPair c.pos → FitsPlace c.hook → Then (λ a. FitsPair a.me.pos × FitsPlace a.me.hook) (tick_at n c id ss s ts i t)
@@ -162,6 +158,6 @@ tick_place n c id ss s ts i t p f =
     let d = steer c on_ground i t in
     go d on_ground p (flight n d.hook c.pos id ss s ts t) (caught_place n (flown d.hook c.pos s ts t) id ss t.player_hooking (flown_place d.hook c.pos s ts t (fire_place c.hook _ c.pos _ f)))
   where
-    go : (d : Character) (on_ground : Bool) → FitsPair d.pos → (f : HookFlight) → FitsFlight f → Then (λ a. FitsPair a.me.pos × FitsPlace a.me.hook) (ticked n d on_ground id ss t f)
-    go d on_ground q reach.TooFar k = tt
-    go d on_ground q (reach.To h) k = (q, hold_place t.hook_hold h k)
+    go : (d : Character) (on_ground : Bool) → FitsPair d.pos → (f : Result Hook Refusal) → FitsFlight f → Then (λ a. FitsPair a.me.pos × FitsPlace a.me.hook) (ticked n d on_ground id ss t f)
+    go d on_ground q (Err e) k = tt
+    go d on_ground q (Ok h) k = (q, hold_place t.hook_hold h k)

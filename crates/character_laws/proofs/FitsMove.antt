@@ -20,30 +20,28 @@ use Rattle.game_tuning.specs.declared.Tuning.{Tuning}
 use Rattle.map_tiles.specs.Box.{check_box, character_box}
 use Rattle.num_ramp.specs.Ramp.{velocity_ramp}
 use Rattle.map_walks.specs.declared.moves.Body.{Body}
-use Rattle.map_walks.specs.declared.moves.BoxWalk.{BoxWalk}
-use Rattle.map_walks.specs.declared.moves.BoxWalk.TheVariants as box
 use Rattle.map_walks.specs.Move.{body_of, box_turns, blocked, box_turn, box_turns_taken, walk_box}
 use Rattle.character_walk.specs.Walking.{c50, unramped, ramped_move}
 use Rattle.character.specs.declared.Character.{Character}
 use Rattle.character.specs.declared.Slot.{Slot}
-use Rattle.character.specs.declared.walk.MovedAt.{MovedAt}
-use Rattle.character.specs.declared.walk.MovedAt.TheVariants as moved
 use Rattle.character.specs.Walk.{move_at}
 use Rattle.character_laws.proofs.Choices.{either}
 use Rattle.character_laws.proofs.FitsTick.{add_pair}
 use Rattle.character_laws.proofs.Moved.{with_box, move-alone}
+use Rattle.std.specs.Prelude.{Result, Ok, Err}
+use Rattle.game_refusals.specs.declared.Refusal.{Refusal}
 
 abbrev FitsBody : Body → Type 0
 FitsBody b = FitsPair b.pos × FitsPair b.vel
 
 -- a refusal has no body to ask about
-abbrev FitsBox : BoxWalk → Type 0
-FitsBox box.TooFar = Unit {0}
-FitsBox (box.To b) = FitsBody b
+abbrev FitsBox : Result Body Refusal → Type 0
+FitsBox (Err e) = Unit {0}
+FitsBox (Ok b) = FitsBody b
 
-abbrev FitsMoved : MovedAt → Type 0
-FitsMoved moved.TooFar = Unit {0}
-FitsMoved (moved.To d) = FitsPair d.pos × FitsPair d.vel
+abbrev FitsMoved : Result Character Refusal → Type 0
+FitsMoved (Err e) = Unit {0}
+FitsMoved (Ok d) = FitsPair d.pos × FitsPair d.vel
 
 module _ (s : Sides) (ts : List ℕ) (size : vec2) where
   blocked_fits : (b : Body) (new : vec2) → FitsBody b → FitsPair new → FitsBody (blocked s ts b new size)
@@ -75,9 +73,9 @@ module _ (s : Sides) (ts : List ℕ) (size : vec2) where
   walk_fits p v h k = let n = box_turns (vlength v) in either FitsBox (leb n most_turns) (turns_fits (record { pos = p; vel = v }) n (h, k)) tt
 
 -- the ramp taken back, and the character where the box is
-unramped_fits : (r : Float) (c : Character) (m : BoxWalk) → FitsBox m → FitsMoved (with_box c (unramped r m))
-unramped_fits r c box.TooFar h = tt
-unramped_fits r c (box.To b) h = (h.0, (mul-fits binary32 b.vel.x (div binary32 c1 r), h.1.1))
+unramped_fits : (r : Float) (c : Character) (m : Result Body Refusal) → FitsBox m → FitsMoved (with_box c (unramped r m))
+unramped_fits r c (Err e) h = tt
+unramped_fits r c (Ok b) h = (h.0, (mul-fits binary32 b.vel.x (div binary32 c1 r), h.1.1))
 
 ramped_fits : (s : Sides) (ts : List ℕ) (c : Character) (t : Tuning) → FitsPair c.pos → FitsPair c.vel → FitsMoved (with_box c (ramped_move s ts c.pos c.vel t))
 unfolding ramped_move
@@ -88,5 +86,5 @@ ramped_fits s ts c t h k =
 
 -- a move with player collision 0
 pub move_fits : (n : ℕ) (c d : Character) (id : ℕ) (ss : List Slot) (s : Sides) (ts : List ℕ) (t : Tuning) → ne t.player_collision c0 ≡ false
-    → FitsPair c.pos → FitsPair c.vel → move_at n c id ss s ts t ≡ moved.To d → FitsPair d.pos × FitsPair d.vel
+    → FitsPair c.pos → FitsPair c.vel → move_at n c id ss s ts t ≡ Ok d → FitsPair d.pos × FitsPair d.vel
 move_fits n c d id ss s ts t e h k q = subst FitsMoved (sym (move-alone n c id ss s ts t e) ∙ q) (ramped_fits s ts c t h k)

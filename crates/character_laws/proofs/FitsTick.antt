@@ -31,18 +31,19 @@ use Rattle.character_hook.specs.Dragging.{hook_vel, drag, dragged}
 use Rattle.game_constants.specs.Constants.{disable_hook_distance}
 use Rattle.character_meeting.specs.Meeting as meeting
 use Rattle.character_meeting.specs.declared.meeting.HookPull.{HookPull}
-use Rattle.character_meeting.specs.declared.meeting.HookPull.TheVariants as pull
 use Rattle.character.specs.Slot.{with_character}
 use Rattle.character.specs.declared.Character.{Character}
 use Rattle.character.specs.declared.Slot.{Slot}
 use Rattle.character.specs.declared.tick.AfterTick.{AfterTick}
-use Rattle.character.specs.declared.tick.HookFlight.{HookFlight}
-use Rattle.character.specs.declared.tick.HookFlight.TheVariants.{TooFar, To}
 use Rattle.character.specs.Character.{with_vel}
 use Rattle.character.specs.Tick.{slot_at, nowhere, steer, flight, meet_turn, meet_all, pull_from, pull_of, after_pull, hooked, ticked, tick_at}
 use Rattle.character_laws.proofs.Choices.{either, on_attached_lem, on_grabbed_lem}
 use Rattle.character_laws.proofs.Others.{Then}
 use Rattle.character_laws.proofs.Slots.{set_every}
+use Rattle.std.specs.Prelude.{Option, Result, Ok, Err}
+use Rattle.game_refusals.specs.declared.Refusal.{Refusal}
+use Rattle.std.specs.Prelude.{Some}
+use Rattle.std.specs.declared.option.Option.TheVariants as option
 
 pub add_pair : (v w : vec2) → FitsPair (vadd v w)
 unfolding vadd
@@ -102,9 +103,9 @@ abbrev pub FitsSlots : List Slot → Type 0
 FitsSlots ss = (k : ℕ) → FitsPair (slot_at ss k).character.vel
 
 -- the velocity of whom a hook pulls
-abbrev pub FitsPull : HookPull → Type 0
-FitsPull pull.Nobody = Unit {0}
-FitsPull (pull.Of k v) = FitsPair v
+abbrev pub FitsPull : Option HookPull → Type 0
+FitsPull option.None = Unit {0}
+FitsPull (Some p) = FitsPair p.vel
 
 abbrev pub FitsAfter : AfterTick → Type 0
 FitsAfter a = FitsPair a.me.vel × FitsPull a.pull
@@ -166,12 +167,12 @@ module _ (tunings : List ℤ) where
   pull_of_fits : (n : ℕ) (ss : List Slot) (id : ℕ) (p : vec2) (h : Hook) → FitsSlots ss → FitsPull (pull_of n ss id p h t)
   unfolding pull_of
   pull_of_fits n ss id p h l =
-      on_grabbed_lem FitsPull pull.Nobody tt (pull_from n ss id p t) h (λ c k. let o = slot_at ss c.0 in either FitsPull (ltb c.0 n) (either FitsPull (eqb c.0 id) tt (either FitsPull o.present (pull_on_fits p c o.character.pos o.character.vel (l c.0)) tt)) tt)
+      on_grabbed_lem FitsPull option.None tt (pull_from n ss id p t) h (λ c k. let o = slot_at ss c.0 in either FitsPull (ltb c.0 n) (either FitsPull (eqb c.0 id) tt (either FitsPull o.present (pull_on_fits p c o.character.pos o.character.vel (l c.0)) tt)) tt)
 
-  ticked_fits : (n : ℕ) (c : Character) (g : Bool) (id : ℕ) (ss : List Slot) (f : HookFlight) → FitsPair c.vel → FitsSlots ss → Then FitsAfter (ticked n c g id ss t f)
+  ticked_fits : (n : ℕ) (c : Character) (g : Bool) (id : ℕ) (ss : List Slot) (f : Result Hook Refusal) → FitsPair c.vel → FitsSlots ss → Then FitsAfter (ticked n c g id ss t f)
   unfolding hooked
-  ticked_fits n c g id ss TooFar k l = tt
-  ticked_fits n c g id ss (To f) k l =
+  ticked_fits n c g id ss (Err e) k l = tt
+  ticked_fits n c g id ss (Ok f) k l =
       let v = dragged f c.pos c.vel c.move_direction t in
       (clamp_speed_fits _ (meet_all_fits n ss id c.pos v (hold f t.hook_hold) (dragged_fits f c.pos c.vel c.move_direction t k)), pull_of_fits n ss id c.pos (hold f t.hook_hold) l)
 
@@ -185,7 +186,7 @@ tick_fits n c id ss s ts i tunings h k =
     ticked_fits tunings n d g id ss (flight n d.hook c.pos id ss s ts (tuning_of tunings)) (steer_fits tunings c g i h) k
 
 -- and so every slot's after the pull
-pub after_pull_fits : (ss : List Slot) (k : HookPull) → FitsSlots ss → FitsPull k → FitsSlots (after_pull ss k)
+pub after_pull_fits : (ss : List Slot) (k : Option HookPull) → FitsSlots ss → FitsPull k → FitsSlots (after_pull ss k)
 unfolding after_pull
-after_pull_fits ss pull.Nobody h f = h
-after_pull_fits ss (pull.Of k v) h f = set_every (λ i x. FitsPair x.character.vel) ss k.0 (with_character (slot_at ss k.0) (with_vel (slot_at ss k.0).character v)) nowhere h f
+after_pull_fits ss option.None h f = h
+after_pull_fits ss (Some p) h f = set_every (λ i x. FitsPair x.character.vel) ss p.cid.0 (with_character (slot_at ss p.cid.0) (with_vel (slot_at ss p.cid.0).character p.vel)) nowhere h f

@@ -18,25 +18,23 @@ use Rattle.map_tiles.specs.declared.tiles.Sides.{Sides}
 use Rattle.map_lines.specs.Limit.{most_turns}
 use Rattle.map_walks.specs.Move.{body_of, box_turns, blocked, box_turn, box_turns_taken, walk_box}
 use Rattle.map_walks.specs.declared.moves.Body.{Body}
-use Rattle.map_walks.specs.declared.moves.BoxWalk.{BoxWalk}
-use Rattle.map_walks.specs.declared.moves.BoxWalk.TheVariants as box
 use Rattle.character_walk.specs.Walking.{c50, player_turns, rest_at, unramped, ramped_move}
 use Rattle.character.specs.Tick.{slot_at}
 use Rattle.character.specs.Walk.{is_close, slot_turn, walk_turn, or_to, walk_among, player_walk, rested, after_box, move_at}
 use Rattle.character.specs.declared.Character.{Character}
 use Rattle.character.specs.declared.Slot.{Slot}
-use Rattle.character.specs.declared.walk.PlayerWalk.{PlayerWalk}
-use Rattle.character.specs.declared.walk.PlayerWalk.TheVariants as among
 use Rattle.character_laws.proofs.Choices.{either}
 use Rattle.character_laws.proofs.FitsHook.{mix_pair}
 use Rattle.num_order.proofs.Vectors.{FitsPair}
 use Rattle.character_laws.proofs.FitsTick.{add_pair}
 use Rattle.character_laws.proofs.Held.{Rests}
+use Rattle.std.specs.Prelude.{Result, Ok, Err}
+use Rattle.game_refusals.specs.declared.Refusal.{Refusal}
 
 -- ---- the box
-abbrev FitsBox : BoxWalk → Type 0
-FitsBox box.TooFar = Unit {0}
-FitsBox (box.To b) = FitsPair b.pos
+abbrev FitsBox : Result Body Refusal → Type 0
+FitsBox (Err e) = Unit {0}
+FitsBox (Ok b) = FitsPair b.pos
 
 module _ (s : Sides) (ts : List ℕ) (size : vec2) where
   blocked_place : (b : Body) (new : vec2) → FitsPair b.pos → FitsPair new → FitsPair (blocked s ts b new size).pos
@@ -63,9 +61,9 @@ module _ (s : Sides) (ts : List ℕ) (size : vec2) where
       let f = div binary32 c1 (i32_to_f32 (pos n)) in
       either FitsBox (leb n most_turns) (fold-kept (λ i. box_turn s ts f size) (λ (b : Body). FitsPair b.pos) (λ i. turn_place f) n 0 (record { pos = p; vel = v }) h) tt
 
-unramped_place : (r : Float) (b : BoxWalk) → FitsBox b → FitsBox (unramped r b)
-unramped_place r box.TooFar h = tt
-unramped_place r (box.To b) h = h
+unramped_place : (r : Float) (b : Result Body Refusal) → FitsBox b → FitsBox (unramped r b)
+unramped_place r (Err e) h = tt
+unramped_place r (Ok b) h = h
 
 ramped_place : (s : Sides) (ts : List ℕ) (p v : vec2) (t : Tuning) → FitsPair p → FitsBox (ramped_move s ts p v t)
 unfolding ramped_move
@@ -96,9 +94,9 @@ module _ (n : ℕ) (ss : List Slot) (id : ℕ) (from to : vec2) (a : FitsPair fr
   or_to_lem (more p) k = b
   or_to_lem (stop p) k = k
 
-  abbrev FitsAmong : PlayerWalk → Type 0
-  FitsAmong among.TooFar = Unit {0}
-  FitsAmong (among.At p) = FitsPair p
+  abbrev FitsAmong : Result vec2 Refusal → Type 0
+  FitsAmong (Err e) = Unit {0}
+  FitsAmong (Ok p) = FitsPair p
 
   among_place : (collision : Float) → FitsAmong (player_walk n ss id from to collision)
   unfolding player_walk walk_among
@@ -113,10 +111,10 @@ pub move_place : (n : ℕ) (c : Character) (id : ℕ) (ss : List Slot) (s : Side
 unfolding move_at
 move_place n c id ss s ts t h = go (ramped_move s ts c.pos c.vel t) (ramped_place s ts c.pos c.vel t h)
   where
-    on : (v to : vec2) (k : FitsPair to) (w : PlayerWalk) → FitsAmong n ss id c.pos to h k w → Rests (λ d. FitsPair d.pos) (rested c v w)
-    on v to k among.TooFar f = tt
-    on v to k (among.At p) f = f
+    on : (v to : vec2) (k : FitsPair to) (w : Result vec2 Refusal) → FitsAmong n ss id c.pos to h k w → Rests (λ d. FitsPair d.pos) (rested c v w)
+    on v to k (Err e) f = tt
+    on v to k (Ok p) f = f
 
-    go : (b : BoxWalk) → FitsBox b → Rests (λ d. FitsPair d.pos) (after_box n c id ss t b)
-    go box.TooFar k = tt
-    go (box.To b) k = on b.vel b.pos k (player_walk n ss id c.pos b.pos t.player_collision) (among_place n ss id c.pos b.pos h k t.player_collision)
+    go : (b : Result Body Refusal) → FitsBox b → Rests (λ d. FitsPair d.pos) (after_box n c id ss t b)
+    go (Err e) k = tt
+    go (Ok b) k = on b.vel b.pos k (player_walk n ss id c.pos b.pos t.player_collision) (among_place n ss id c.pos b.pos h k t.player_collision)

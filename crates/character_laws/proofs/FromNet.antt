@@ -22,15 +22,14 @@ use Rattle.num_convert.specs.Number.{c0}
 use Rattle.character_laws.proofs.Back.{representable_back}
 use Rattle.character.specs.Records.{core_of, most_tick, to_net, from_net, back, quantize}
 use Rattle.character_laws.specs.Representable.{OfI32, Pair, RepresentableHook, Representable, AllI32, HeldBelowZero}
-use Rattle.character.specs.declared.records.Net.{Net}
-use Rattle.character.specs.declared.records.Quantized.{Quantized}
 use Rattle.game_records.specs.declared.CharacterCore.{CharacterCore}
 use Rattle.game_records.specs.declared.Tick.{Tick}
 use Rattle.num_vec2.specs.Vec2.{vnew}
 use Rattle.num_vec2.specs.declared.vec2.{vec2}
 use Rattle.num_convert.proofs.Ranges.{whole_in}
-use Rattle.character.specs.declared.records.Net.TheVariants as net
-use Rattle.character.specs.declared.records.Quantized.TheVariants as quantized
+use Rattle.std.specs.Prelude.{Result, Ok, Err}
+use Rattle.game_refusals.specs.declared.Refusal.{Refusal}
+use Rattle.game_refusals.specs.declared.Refusal.TheVariants.{TickTooLarge}
 
 -- by the test of a `cond`
 either : {A : Type 0} (b : Bool) (x y : A) (P : A → Type 0) → (T b → P x) → P y → P (cond b x y)
@@ -88,9 +87,9 @@ held_ticks : (n : CharacterCore) (e : HeldBelowZero n) → tick_of (from_net n).
 unfolding from_net hook_from_net attached_or_grabbed tick_of cast_unsigned
 held_ticks n e = rw (e.state, e.somebody, e.ticks)
 
-pub held_below_zero_refused : (n : CharacterCore) → AllI32 n → HeldBelowZero n → to_net (from_net n) ≡ net.TickTooLarge
+pub held_below_zero_refused : (n : CharacterCore) → AllI32 n → HeldBelowZero n → to_net (from_net n) ≡ (Err TickTooLarge)
 unfolding to_net
-held_below_zero_refused n a e = ap (λ (t : ℕ). cond (leb t most_tick) (net.Core (core_of (from_net n))) net.TickTooLarge) (held_ticks n e) ∙ ap (λ (b : Bool). cond b (net.Core (core_of (from_net n))) net.TickTooLarge) (lt-leb (2 ^ 32 - suc e.less) most_tick far)
+held_below_zero_refused n a e = ap (λ (t : ℕ). cond (leb t most_tick) (Ok (core_of (from_net n))) (Err TickTooLarge)) (held_ticks n e) ∙ ap (λ (b : Bool). cond b (Ok (core_of (from_net n))) (Err TickTooLarge)) (lt-leb (2 ^ 32 - suc e.less) most_tick far)
   where
     far : most_tick < 2 ^ 32 - suc e.less
     far = let h = a.hook_tick in let g : e.less < 2 ^ 31 = subst IsI32 e.ticks h in omega (arith, g)
@@ -128,27 +127,27 @@ unfolding core_of
 core_not_below c e = true≢false (ap non_neg e.ticks)
 
 -- ---- what quantizing made is representable, and so quantizing again changes nothing
-abbrev made : Quantized → Character → Character
-made quantized.TickTooLarge d = d
-made (quantized.To c) d = c
+abbrev made : Result Character Refusal → Character → Character
+made (Err e) d = d
+made (Ok c) d = c
 
-abbrev accepted : Quantized → Bool
-accepted quantized.TickTooLarge = false
-accepted (quantized.To c) = true
+abbrev accepted : Result Character Refusal → Bool
+accepted (Err e) = false
+accepted (Ok c) = true
 
-pub quantized_representable : (c d : Character) → quantize c ≡ quantized.To d → Representable d
+pub quantized_representable : (c d : Character) → quantize c ≡ Ok d → Representable d
 unfolding quantize to_net
 quantized_representable c d e = go (leb (tick_of c.hook) most_tick) (leb→le (tick_of c.hook) most_tick) e
   where
-    go : (b : Bool) → (T b → tick_of c.hook ≤ most_tick) → back (cond b (net.Core (core_of c)) net.TickTooLarge) ≡ quantized.To d → Representable d
-    go true h f = subst Representable (ap (λ (q : Quantized). made q d) f) (from_net_representable (core_of c) (core_i32 c (h tt)) (core_not_below c))
+    go : (b : Bool) → (T b → tick_of c.hook ≤ most_tick) → back (cond b (Ok (core_of c)) (Err TickTooLarge)) ≡ Ok d → Representable d
+    go true h f = subst Representable (ap (λ (q : Result Character Refusal). made q d) f) (from_net_representable (core_of c) (core_i32 c (h tt)) (core_not_below c))
     go false h f = absurd (true≢false (sym (ap accepted f)))
 
-pub quantize_again : (c d : Character) → quantize c ≡ quantized.To d → quantize d ≡ quantized.To d
+pub quantize_again : (c d : Character) → quantize c ≡ Ok d → quantize d ≡ Ok d
 quantize_again c d e = representable_back d (quantized_representable c d e)
 
 -- so the representable characters are just those that quantizing leaves as they are
-pub back_representable : (c : Character) → quantize c ≡ quantized.To c → Representable c
+pub back_representable : (c : Character) → quantize c ≡ Ok c → Representable c
 back_representable c = quantized_representable c c
 
 -- ---- a spawned character

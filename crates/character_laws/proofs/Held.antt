@@ -21,12 +21,6 @@ use Rattle.game_tuning.specs.declared.Tuning.{Tuning}
 use Rattle.map_tiles.specs.declared.point.Tile.TheVariants.{Open, Normal, Deadly, Unhookable}
 use Rattle.map_tiles.specs.declared.tiles.Sides.{Sides}
 use Rattle.map_lines.specs.Line.{walk_line}
-use Rattle.map_lines.specs.declared.lines.LineHit.{LineHit}
-use Rattle.map_lines.specs.declared.lines.LineHit.TheVariants.{Nothing, At}
-use Rattle.map_lines.specs.declared.lines.LineWalk.{LineWalk}
-use Rattle.map_lines.specs.declared.lines.LineWalk.TheVariants as line
-use Rattle.map_walks.specs.declared.moves.BoxWalk.{BoxWalk}
-use Rattle.map_walks.specs.declared.moves.BoxWalk.TheVariants as box
 use Rattle.character_motion.specs.Controls.{grounded}
 use Rattle.character_walk.specs.Walking.{ramped_move}
 use Rattle.character_hook.specs.Hook.{id_of, on_grabbed, holds, net_state, net_hooked_player, attached_or_grabbed, hook_from_net}
@@ -36,7 +30,6 @@ use Rattle.character_hook.specs.declared.hook.Hook.{Hook}
 use Rattle.character_hook.specs.declared.hook.Hook.TheVariants.{Retracted, Idle, Flying, Grabbed, Attached, Retracting0, Retracting1, Retracting2}
 use Rattle.character_hook.specs.declared.hooking.Flight.{Flight}
 use Rattle.character_hook.specs.declared.hooking.Nearest.{Nearest}
-use Rattle.character_hook.specs.declared.hooking.Nearest.TheVariants as near
 use Rattle.character_hook.specs.declared.flying.Way.{Way}
 use Rattle.character_hook.specs.declared.flying.Way.TheVariants as way
 use Rattle.character.specs.Records.{core_of, from_net}
@@ -44,14 +37,13 @@ use Rattle.character.specs.Tick.{slot_at, steer, nearest_turn, nearest, caught, 
 use Rattle.character.specs.Walk.{moved_to, player_walk, rested, after_box, move_at}
 use Rattle.character.specs.declared.Character.{Character}
 use Rattle.character.specs.declared.Slot.{Slot}
-use Rattle.character.specs.declared.tick.HookFlight.{HookFlight}
-use Rattle.character.specs.declared.tick.HookFlight.TheVariants as reach
-use Rattle.character.specs.declared.walk.MovedAt.{MovedAt}
-use Rattle.character.specs.declared.walk.MovedAt.TheVariants as moved
-use Rattle.character.specs.declared.walk.PlayerWalk.{PlayerWalk}
-use Rattle.character.specs.declared.walk.PlayerWalk.TheVariants as among
 use Rattle.character_laws.proofs.Choices.{either}
 use Rattle.character_laws.proofs.Others.{Then}
+use Rattle.std.specs.Prelude.{Option, None, Result, Ok, Err}
+use Rattle.map_tiles.specs.declared.point.Tile.{Tile}
+use Rattle.map_walks.specs.declared.moves.Body.{Body}
+use Rattle.game_refusals.specs.declared.Refusal.{Refusal}
+use Rattle.std.specs.Prelude.{Some}
 
 -- ---- nobody is held but who has P
 abbrev pub Only : (ℕ → Type 0) → Hook → Type 0
@@ -101,19 +93,19 @@ module _ (P : ℕ → Type 0) where
   unfolding fly
   fly_only p d c t = either (λ (f : Flight). Only P f.hook) (lt t.hook_length _) tt tt
 
-  strike_only : (h : Hook) (hit : LineHit) → Only P h → Only P (strike h hit)
+  strike_only : (h : Hook) (hit : Option (vec2 × Tile)) → Only P h → Only P (strike h hit)
   unfolding strike
-  strike_only h Nothing k = k
-  strike_only h (At p Open) k = k
-  strike_only h (At p Normal) k = tt
-  strike_only h (At p Deadly) k = k
-  strike_only h (At p Unhookable) k = tt
+  strike_only h None k = k
+  strike_only h (Some (p, Open)) k = k
+  strike_only h (Some (p, Normal)) k = tt
+  strike_only h (Some (p, Deadly)) k = k
+  strike_only h (Some (p, Unhookable)) k = tt
 
   -- the hook after its flight
-  abbrev WayOnly : Way → Type 0
-  WayOnly way.TooFar = Unit {0}
-  WayOnly (way.Still h) = Only P h
-  WayOnly (way.Along from to h) = Only P h
+  abbrev WayOnly : Result Way Refusal → Type 0
+  WayOnly (Err e) = Unit {0}
+  WayOnly (Ok (way.Still h)) = Only P h
+  WayOnly (Ok (way.Along from to h)) = Only P h
 
   flown_only : (h : Hook) (p : vec2) (s : Sides) (ts : List ℕ) (t : Tuning) → Only P h → WayOnly (flown h p s ts t)
   unfolding flown retract
@@ -121,9 +113,9 @@ module _ (P : ℕ → Type 0) where
   flown_only Idle p s ts t k = tt
   flown_only (Flying a d) p s ts t k = go (walk_line s ts a (fly a d p t).to)
     where
-      go : (w : LineWalk) → WayOnly (struck_on a (fly a d p t) w)
-      go line.TooFar = tt
-      go (line.Met hit) = strike_only (fly a d p t).hook hit (fly_only a d p t)
+      go : (w : Result (Option (vec2 × Tile)) Refusal) → WayOnly (struck_on a (fly a d p t) w)
+      go (Err e) = tt
+      go (Ok hit) = strike_only (fly a d p t).hook hit (fly_only a d p t)
   flown_only (Grabbed c m) p s ts t k = k
   flown_only (Attached a) p s ts t k = tt
   flown_only (Retracting0 a) p s ts t k = tt
@@ -143,16 +135,16 @@ module _ (P : ℕ → Type 0) where
 
   -- ---- who is met has P, where everybody who is there has it
   module _ (ss : List Slot) (there : (k : ℕ) → (slot_at ss k).present ≡ true → P k) where
-    abbrev NearestOnly : Nearest → Type 0
-    NearestOnly near.Nobody = Unit {0}
-    NearestOnly (near.At distance c) = P c.0
+    abbrev NearestOnly : Option Nearest → Type 0
+    NearestOnly None = Unit {0}
+    NearestOnly (Some m) = P m.cid.0
 
-    closer-only : (best : Nearest) (j : ℕ) (distance : Float) → NearestOnly best → P j → NearestOnly (closer best (id_of j) distance)
+    closer-only : (best : Option Nearest) (j : ℕ) (distance : Float) → NearestOnly best → P j → NearestOnly (closer best (id_of j) distance)
     unfolding closer
-    closer-only near.Nobody j distance b p = p
-    closer-only (near.At least c) j distance b p = either NearestOnly (lt distance least) p b
+    closer-only None j distance b p = p
+    closer-only (Some m) j distance b p = either NearestOnly (lt distance m.distance) p b
 
-    turn-only : (id : ℕ) (from to : vec2) (j : ℕ) (best : Nearest) → NearestOnly best → NearestOnly (nearest_turn ss id from to j best)
+    turn-only : (id : ℕ) (from to : vec2) (j : ℕ) (best : Option Nearest) → NearestOnly best → NearestOnly (nearest_turn ss id from to j best)
     unfolding nearer
     turn-only id from to j best b = either NearestOnly (eqb j id) b (go (slot_at ss j).present refl)
       where
@@ -162,22 +154,22 @@ module _ (P : ℕ → Type 0) where
 
     nearest-only : (n id : ℕ) (from to : vec2) → NearestOnly (nearest n ss id from to)
     unfolding nearest
-    nearest-only n id from to = fold-kept (nearest_turn ss id from to) NearestOnly (turn-only id from to) n 0 near.Nobody tt
+    nearest-only n id from to = fold-kept (nearest_turn ss id from to) NearestOnly (turn-only id from to) n 0 None tt
 
-    grab-only : (h : Hook) (best : Nearest) → Only P h → NearestOnly best → Only P (grab h best)
+    grab-only : (h : Hook) (best : Option Nearest) → Only P h → NearestOnly best → Only P (grab h best)
     unfolding grab
-    grab-only h near.Nobody k b = k
-    grab-only h (near.At distance c) k b = b
+    grab-only h None k b = k
+    grab-only h (Some m) k b = b
 
-    abbrev FlightOnly : HookFlight → Type 0
-    FlightOnly reach.TooFar = Unit {0}
-    FlightOnly (reach.To h) = Only P h
+    abbrev FlightOnly : Result Hook Refusal → Type 0
+    FlightOnly (Err e) = Unit {0}
+    FlightOnly (Ok h) = Only P h
 
-    caught-only : (n : ℕ) (w : Way) (id : ℕ) (hooking : Float) → WayOnly w → FlightOnly (caught n w id ss hooking)
+    caught-only : (n : ℕ) (w : Result Way Refusal) (id : ℕ) (hooking : Float) → WayOnly w → FlightOnly (caught n w id ss hooking)
     unfolding caught
-    caught-only n way.TooFar id hooking k = tt
-    caught-only n (way.Still h) id hooking k = k
-    caught-only n (way.Along from to h) id hooking k = either (Only P) (ne hooking c0) (grab-only h (nearest n ss id from to) k (nearest-only n id from to)) k
+    caught-only n (Err e) id hooking k = tt
+    caught-only n (Ok (way.Still h)) id hooking k = k
+    caught-only n (Ok (way.Along from to h)) id hooking k = either (Only P) (ne hooking c0) (grab-only h (nearest n ss id from to) k (nearest-only n id from to)) k
 
     pub tick-only : (n : ℕ) (c : Character) (id : ℕ) (s : Sides) (ts : List ℕ) (i : PlayerInput) (t : Tuning) → Only P c.hook → Then (λ a. Only P a.me.hook) (tick_at n c id ss s ts i t)
     unfolding tick_at steer hooked
@@ -186,9 +178,9 @@ module _ (P : ℕ → Type 0) where
         let d = steer c on_ground i t in
         go d on_ground (flight n d.hook c.pos id ss s ts t) (caught-only n (flown d.hook c.pos s ts t) id t.player_hooking (flown_only d.hook c.pos s ts t (fire_only c.hook _ c.pos _ k)))
       where
-        go : (d : Character) (on_ground : Bool) (f : HookFlight) → FlightOnly f → Then (λ a. Only P a.me.hook) (ticked n d on_ground id ss t f)
-        go d on_ground reach.TooFar q = tt
-        go d on_ground (reach.To h) q = hold_only t.hook_hold h q
+        go : (d : Character) (on_ground : Bool) (f : Result Hook Refusal) → FlightOnly f → Then (λ a. Only P a.me.hook) (ticked n d on_ground id ss t f)
+        go d on_ground (Err e) q = tt
+        go d on_ground (Ok h) q = hold_only t.hook_hold h q
 
   -- ---- a record, and back: who is held is read as nobody else
   player_only : (m : ℕ) (p : vec2) (t : Tick) → P m → Only P (attached_or_grabbed p (cast_signed m) t)
@@ -219,25 +211,25 @@ module _ (P : ℕ → Type 0) where
   record_only c k = net_only c.hook _ _ _ k
 
 -- ---- a move changes position and velocity alone
-abbrev pub Rests : (Character → Type 0) → MovedAt → Type 0
-Rests P moved.TooFar = Unit {0}
-Rests P (moved.To c) = P c
+abbrev pub Rests : (Character → Type 0) → Result Character Refusal → Type 0
+Rests P (Err e) = Unit {0}
+Rests P (Ok c) = P c
 
 pub move_rest : (n : ℕ) (c : Character) (id : ℕ) (ss : List Slot) (s : Sides) (ts : List ℕ) (t : Tuning) → Rests (λ d. d ≡ moved_to c d.pos d.vel) (move_at n c id ss s ts t)
 unfolding move_at
 move_rest n c id ss s ts t = go (ramped_move s ts c.pos c.vel t)
   where
-    on : (v : vec2) (w : PlayerWalk) → Rests (λ d. d ≡ moved_to c d.pos d.vel) (rested c v w)
-    on v among.TooFar = tt
-    on v (among.At p) = refl
+    on : (v : vec2) (w : Result vec2 Refusal) → Rests (λ d. d ≡ moved_to c d.pos d.vel) (rested c v w)
+    on v (Err e) = tt
+    on v (Ok p) = refl
 
-    go : (b : BoxWalk) → Rests (λ d. d ≡ moved_to c d.pos d.vel) (after_box n c id ss t b)
-    go box.TooFar = tt
-    go (box.To b) = on b.vel (player_walk n ss id c.pos b.pos t.player_collision)
+    go : (b : Result Body Refusal) → Rests (λ d. d ≡ moved_to c d.pos d.vel) (after_box n c id ss t b)
+    go (Err e) = tt
+    go (Ok b) = on b.vel (player_walk n ss id c.pos b.pos t.player_collision)
 
-rests_map : (P Q : Character → Type 0) → ((d : Character) → P d → Q d) → (o : MovedAt) → Rests P o → Rests Q o
-rests_map P Q f moved.TooFar h = tt
-rests_map P Q f (moved.To d) h = f d h
+rests_map : (P Q : Character → Type 0) → ((d : Character) → P d → Q d) → (o : Result Character Refusal) → Rests P o → Rests Q o
+rests_map P Q f (Err e) h = tt
+rests_map P Q f (Ok d) h = f d h
 
 pub move_hook : (n : ℕ) (c : Character) (id : ℕ) (ss : List Slot) (s : Sides) (ts : List ℕ) (t : Tuning) → Rests (λ d. d.hook ≡ c.hook) (move_at n c id ss s ts t)
 move_hook n c id ss s ts t = rests_map (λ d. d ≡ moved_to c d.pos d.vel) (λ d. d.hook ≡ c.hook) (λ d e. ap (λ (x : Character). x.hook) e) (move_at n c id ss s ts t) (move_rest n c id ss s ts t)

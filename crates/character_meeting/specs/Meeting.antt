@@ -1,5 +1,5 @@
 -- What a meeting does to a velocity in `tick` of lib.rs, and what a hook does to the one that it holds. Definitions only.
-use Rattle.std.specs.Prelude.{ℕ, Bool, cond, ◌&&◌, eqb, Float}
+use Rattle.std.specs.Prelude.{ℕ, Bool, cond, ◌&&◌, eqb, Float, Option, Some, None}
 use Rattle.std.specs.Float.{binary32}
 use Rattle.std.specs.Float.Ieee.{neg, add, sub, mul, div, lt, le, ne, of_bits}
 use Rattle.num_convert.specs.Number.{c0, c1, saturated_add, c1_5, c0_75}
@@ -11,7 +11,6 @@ use Rattle.character_hook.specs.declared.hook.CharacterId.{CharacterId}
 use Rattle.character_hook.specs.declared.hook.Hook.{Hook}
 use Rattle.game_tuning.specs.declared.Tuning.{Tuning}
 use Rattle.character_meeting.specs.declared.meeting.HookPull.{HookPull}
-use Rattle.character_meeting.specs.declared.meeting.HookPull.TheVariants.{Nobody, Of}
 
 -- CHARACTER_SIZE times 1.25, and 1.45
 abbrev pub c35 : Float
@@ -87,8 +86,8 @@ unfoldable pub drags : Float → Tuning → Bool
 drags distance t = ne t.player_hooking c0 && lt c42 distance
 
 -- what a hook does to the character cid, which it holds
-unfoldable pub pull_on : vec2 → CharacterId → vec2 → vec2 → Tuning → HookPull
-pull_on p cid q u t = let distance = vdistance p q in cond (drags distance t) (Of cid (pulled p q u distance t)) Nobody
+unfoldable pub pull_on : vec2 → CharacterId → vec2 → vec2 → Tuning → Option HookPull
+pull_on p cid q u t = let distance = vdistance p q in cond (drags distance t) (Some (record { cid = cid; vel = pulled p q u distance t })) None
 
 -- and what it does to its own character
 unfoldable pub held : vec2 → vec2 → vec2 → Tuning → vec2

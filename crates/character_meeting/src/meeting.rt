@@ -11,9 +11,9 @@ use num_vec2::vec2;
 
 // Whom a hook pulls, and the velocity that it leaves them.
 #[derive(Clone, Copy)]
-pub enum HookPull {
-    Nobody,
-    Of(CharacterId, vec2),
+pub struct HookPull {
+    pub cid: CharacterId,
+    pub vel: vec2,
 }
 
 // How much of the push is added to a velocity, by how it goes towards the other.
@@ -30,14 +30,11 @@ fn additional_vel(vel: vec2, dir_to_self: vec2) -> f32
 fn pushed(pos: vec2, vel: vec2, other: vec2, distance: f32) -> vec2
     ensures { result ≡ pushed pos vel other distance }
 {
-    let dir_to_self = pos.sub(other).normalize();
+    let dir_to_self = (pos - other).normalize();
     let arbitrary_factor = CHARACTER_SIZE * 1.45 - distance;
     let additional_vel = additional_vel(vel, dir_to_self);
-    let push = dir_to_self
-        .mul(arbitrary_factor)
-        .mul(additional_vel)
-        .mul(0.75);
-    vel.add(push).mul(0.85)
+    let push = dir_to_self * arbitrary_factor * additional_vel * 0.75;
+    (vel + push) * 0.85
 }
 
 // The same, where the other is near and not in the same place.
@@ -58,7 +55,7 @@ fn push(pos: vec2, vel: vec2, other: vec2, distance: f32, player_collision: f32)
 pub fn is_beyond(pos: vec2, other: vec2) -> bool
     ensures { result ≡ is_beyond pos other }
 {
-    let way = other.sub(pos);
+    let way = other - pos;
     1225.0 <= vec2::dot(way, way)
 }
 
@@ -99,7 +96,7 @@ fn drag_accel(distance: f32, tuning: Tuning) -> f32
 fn pulled(pos: vec2, other_pos: vec2, other_vel: vec2, distance: f32, tuning: Tuning) -> vec2
     ensures { result ≡ pulled pos other_pos other_vel distance tuning }
 {
-    let dir = pos.sub(other_pos).normalize();
+    let dir = (pos - other_pos).normalize();
     let accel = drag_accel(distance, tuning);
     pull(other_vel, accel, dir, 1.5, tuning.hook_drag_speed)
 }
@@ -108,7 +105,7 @@ fn pulled(pos: vec2, other_pos: vec2, other_vel: vec2, distance: f32, tuning: Tu
 fn dragged(pos: vec2, vel: vec2, other_pos: vec2, distance: f32, tuning: Tuning) -> vec2
     ensures { result ≡ dragged pos vel other_pos distance tuning }
 {
-    let dir = pos.sub(other_pos).normalize();
+    let dir = (pos - other_pos).normalize();
     let accel = drag_accel(distance, tuning);
     pull(vel, -accel, dir, 0.25, tuning.hook_drag_speed)
 }
@@ -130,14 +127,15 @@ pub fn pull_on(
     other_pos: vec2,
     other_vel: vec2,
     tuning: Tuning,
-) -> HookPull
+) -> Option<HookPull>
     ensures { result ≡ pull_on pos cid other_pos other_vel tuning }
 {
     let distance = vec2::distance(pos, other_pos);
     if drags(distance, tuning) {
-        return HookPull::Of(cid, pulled(pos, other_pos, other_vel, distance, tuning));
+        let vel = pulled(pos, other_pos, other_vel, distance, tuning);
+        return Some(HookPull { cid, vel });
     }
-    HookPull::Nobody
+    None
 }
 
 // The own velocity of a character whose hook holds another.
@@ -166,7 +164,7 @@ pub fn meet(
     let Hook::Grabbed(hooked, _) = hook else {
         return pushed;
     };
-    if hooked.0 == cid.0 {
+    if hooked == cid {
         return held(pos, pushed, other_pos, tuning);
     }
     pushed

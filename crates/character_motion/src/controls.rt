@@ -31,11 +31,11 @@ pub fn grounded(sides: Sides, tiles: &[u8], pos: vec2) -> bool
     requires { T (is_map sides tiles.now) }
     ensures { result ≡ grounded sides tiles.now pos }
 {
-    let bottom_left = pos.add(vec2::new(-14.0, 19.0));
+    let bottom_left = pos + vec2::new(-14.0, 19.0);
     if check_point(sides, tiles, bottom_left).is_solid() {
         return true;
     }
-    let bottom_right = pos.add(vec2::new(14.0, 19.0));
+    let bottom_right = pos + vec2::new(14.0, 19.0);
     check_point(sides, tiles, bottom_right).is_solid()
 }
 
@@ -111,7 +111,7 @@ pub fn clamp_speed(vel: vec2) -> vec2
     ensures { result ≡ clamp_speed vel }
 {
     if vel.length() > MAX_VELOCITY {
-        return vel.normalize().mul(MAX_VELOCITY);
+        return vel.normalize() * MAX_VELOCITY;
     }
     vel
 }

@@ -12,6 +12,7 @@ use Rattle.game_constants.specs.Constants.{character_size}
 use Rattle.character_hook.specs.Hooking.{closer, nearer}
 use Rattle.character_hook.specs.declared.hook.CharacterId.{CharacterId}
 use Rattle.character_hook.specs.declared.hooking.Nearest.{Nearest}
+use Rattle.std.specs.Prelude.{Option}
 use Rattle.character_walk.proofs.Mixed.{Away, mixed-apart}
 
 module _ (q from to : vec2) (t : FitsPair from) (k : Away from to q) where
@@ -28,6 +29,6 @@ module _ (q from to : vec2) (t : FitsPair from) (k : Away from to q) where
       ap (λ (d : Float). lt d character_size) (distance_symmetric q (closest_point_on_line q from to) ∙ ap (λ (p : vec2). vdistance p q) closest_is)
       ∙ mixed-apart from to q (clamp along c0 c1) (clamp_factor along) t k
 
-  pub unmet : (best : Nearest) (cid : CharacterId) → nearer best cid q from to ≡ best
+  pub unmet : (best : Option Nearest) (cid : CharacterId) → nearer best cid q from to ≡ best
   unfolding nearer
   unmet best cid = ap (λ (b : Bool). cond b (closer best cid (vdistance from q)) best) closest_apart

@@ -9,7 +9,7 @@ use num_vec2::vec2;
 pub fn touches(p: vec2, q: vec2) -> bool
     ensures { result ≡ touches p q }
 {
-    let way = q.sub(p);
+    let way = q - p;
     let square = vec2::dot(way, way);
     // Most are far: a comparison spares the root.
     if 784.0 <= square {

@@ -4,14 +4,21 @@ ghost use Rattle.map_tiles.specs.Map.{is_map};
 ghost use Rattle.character_walk.specs.Walking.{ramped_move, player_turns, rest_at};
 
 use game_constants::CHARACTER_SIZE;
+use game_refusals::Refusal;
 use game_tuning::Tuning;
 use map_tiles::{Sides, count};
-use map_walks::{Body, BoxWalk, walk_box};
+use map_walks::{Body, walk_box};
 use num_ramp::velocity_ramp;
 use num_vec2::vec2;
 
 // The box is moved with the velocity sideways ramped, and the ramp is taken back after.
-pub fn ramped_move(sides: Sides, tiles: &[u8], pos: vec2, vel: vec2, tuning: Tuning) -> BoxWalk
+pub fn ramped_move(
+    sides: Sides,
+    tiles: &[u8],
+    pos: vec2,
+    vel: vec2,
+    tuning: Tuning,
+) -> Result<Body, Refusal>
     requires { T (is_map sides tiles.now) }
     ensures { result ≡ ramped_move sides tiles.now pos vel tuning }
 {
@@ -23,13 +30,10 @@ pub fn ramped_move(sides: Sides, tiles: &[u8], pos: vec2, vel: vec2, tuning: Tun
     );
     let ramped = vec2::new(vel.x * ramp_value, vel.y);
     let box_ = vec2::new(CHARACTER_SIZE, CHARACTER_SIZE);
-    let moved = walk_box(sides, tiles, pos, ramped, box_);
-    let BoxWalk::To(body) = moved else {
-        return BoxWalk::TooFar;
-    };
+    let body = walk_box(sides, tiles, pos, ramped, box_)?;
     let new_pos = body.pos;
     let new_vel = body.vel;
-    BoxWalk::To(Body {
+    Ok(Body {
         pos: new_pos,
         vel: vec2::new(new_vel.x * (1.0 / ramp_value), new_vel.y),
     })

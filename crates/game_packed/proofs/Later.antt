@@ -6,24 +6,41 @@ use mathlib.Core.Path.{◌≡◌, refl, sym, ap, ◌∙◌, subst}
 use native.Mathlib.Omega.{arith}
 use lib.Dec.{eqb, leb}
 use borrow.Author.Tests.{lt-ltb, le-ltb, eqb-false, leb-false}
-use Rattle.game_packed.specs.Unpacked.{signed, is_wrong, later_read, int_read}
-use Rattle.game_packed.specs.declared.number.IntRead.{IntRead}
-use Rattle.game_packed.specs.declared.number.IntRead.TheVariants as int
+use Rattle.std.specs.Prelude.{Result, Ok, Err}
+use Rattle.game_refusals.specs.declared.Refusal.{Refusal}
+use Rattle.game_refusals.specs.declared.Refusal.TheVariants.{BytesEnd, BadBytes}
+use Rattle.game_packed.specs.Unpacked.{IntRead, signed, is_wrong, later_read, int_read}
+
+-- ---- what answers are not
+
+pub ok_no_fault : {A : Type 0} {a : A} {fault : Refusal} → ◌≡◌ {A = Result A Refusal} (Ok a) (Err fault) → ⊥
+ok_no_fault e = let q : ◌≡◌ {A = ℕ} 0 1 = cc in omega arith
+
+pub same_fault : {A : Type 0} {fault other : Refusal} → ◌≡◌ {A = Result A Refusal} (Err fault) (Err other) → fault ≡ other
+same_fault e = cc
+
+pub same_read : {A : Type 0} {a b : A} {m n : ℕ} → ◌≡◌ {A = Result (A × ℕ) Refusal} (Ok (a, m)) (Ok (b, n)) → (a ≡ b) × (m ≡ n)
+same_read {A} {a} {b} {m} {n} e =
+    let p : ◌≡◌ {A = A × ℕ} (a, m) (b, n) = cc in
+    (ap (λ (q : A × ℕ). q.0) p, ap (λ (q : A × ℕ). q.1) p)
+
+pub wrong_no_end : BadBytes ≡ BytesEnd → ⊥
+wrong_no_end e = let q : ◌≡◌ {A = ℕ} 0 1 = cc in omega arith
 
 -- ---- one byte
 
-pub later_ends : (negative : Bool) (k at v c : ℕ) → later_read negative k [] at v c ≡ int.Ends
+pub later_ends : (negative : Bool) (k at v c : ℕ) → later_read negative k [] at v c ≡ Err BytesEnd
 unfolding later_read
 later_ends negative zero at v c = refl
 later_ends negative (suc k) at v c = refl
 
 module _ (negative : Bool) (s : List ℕ) (at v c : ℕ) where
-  pub later_wrong : (k b : ℕ) → is_wrong k b ≡ true → later_read negative k (b ∷ s) at v c ≡ int.Wrong
+  pub later_wrong : (k b : ℕ) → is_wrong k b ≡ true → later_read negative k (b ∷ s) at v c ≡ Err BadBytes
   unfolding later_read
   later_wrong zero b e = rw e
   later_wrong (suc k) b e = rw e
 
-  pub later_last : (k b : ℕ) → is_wrong k b ≡ false → b < 128 → later_read negative k (b ∷ s) at v c ≡ int.Read (signed negative (v + b * c)) (at + 1)
+  pub later_last : (k b : ℕ) → is_wrong k b ≡ false → b < 128 → later_read negative k (b ∷ s) at v c ≡ Ok (signed negative (v + b * c), at + 1)
   unfolding later_read
   later_last zero b e h = rw e
   later_last (suc k) b e h = rw (e, lt-ltb b 128 h)
@@ -92,7 +109,7 @@ module _ (negative : Bool) (s : List ℕ) (at v c : ℕ) {e : IntRead} where
 
 -- ---- the first byte
 module _ (s : List ℕ) (at b : ℕ) where
-  pub first_last : b < 128 → int_read (b ∷ s) at ≡ int.Read (signed (eqb (b / 64 % 2) 1) (b % 64)) (at + 1)
+  pub first_last : b < 128 → int_read (b ∷ s) at ≡ Ok (signed (eqb (b / 64 % 2) 1) (b % 64), at + 1)
   unfolding int_read
   first_last h = rw (lt-ltb b 128 h)
 
@@ -100,6 +117,6 @@ module _ (s : List ℕ) (at b : ℕ) where
   unfolding int_read
   first_more h = rw (le-ltb b 128 h)
 
-pub none_there : (at : ℕ) → int_read [] at ≡ int.Ends
+pub none_there : (at : ℕ) → int_read [] at ≡ Err BytesEnd
 unfolding int_read
 none_there at = refl

@@ -5,13 +5,14 @@ use mathlib.Core.Path.{◌≡◌, refl, sym, ap, ◌∙◌, subst}
 use native.Mathlib.Omega.{arith}
 use lib.IntN.{pos}
 use lib.ListN.{length, replicate, length-append}
+use Rattle.std.specs.Prelude.{Ok}
 use Rattle.game_records.specs.Numbers.{core_count, core_numbers, core_in}
 use Rattle.game_records.proofs.Back.{core_numbers_back}
 use Rattle.game_packed.specs.Packed.{ints_bytes, core_bytes}
-use Rattle.game_packed.specs.Unpacked.{unpacked}
+use Rattle.game_packed.specs.Unpacked.{Unpacked, unpacked}
 use Rattle.game_packed.specs.Laws.{AllI32, ReadAsWritten, SizesHold, NoneBegins}
-use Rattle.game_packed.specs.declared.Unpacked.TheVariants as answer
 use Rattle.game_packed.proofs.Back.{all_set, round_trip_lem}
+use Rattle.game_packed.proofs.Later.{same_read}
 use Rattle.game_packed.proofs.Sizes.{core_short}
 use Rattle.game_packed.proofs.Sound.{ints_found}
 
@@ -33,8 +34,8 @@ empty (x ∷ t) h = absurd (omega arith)
 
 pub none_begins_lem : NoneBegins
 none_begins_lem n m t a b e =
-    let p : unpacked (core_bytes m ++ []) ≡ answer.Record n (length (core_bytes n)) = ap unpacked (append-nil (core_bytes m) ∙ sym e) ∙ round_trip_lem n a t in
-    let q : answer.Record n (length (core_bytes n)) ≡ answer.Record m (length (core_bytes m)) = sym p ∙ round_trip_lem m b [] in
-    let long : length (core_bytes n) ≡ length (core_bytes m) = cc in
-    let none : length t ≡ 0 = omega (arith, length-append (core_bytes n) t, ap length e) in
-    (cc, empty t none)
+    let p : unpacked (core_bytes m ++ []) ≡ Ok (n, length (core_bytes n)) = ap unpacked (append-nil (core_bytes m) ∙ sym e) ∙ round_trip_lem n a t in
+    let q : ◌≡◌ {A = Unpacked} (Ok (n, length (core_bytes n))) (Ok (m, length (core_bytes m))) = sym p ∙ round_trip_lem m b [] in
+    let same = same_read q in
+    let none : length t ≡ 0 = omega (arith, length-append (core_bytes n) t, ap length e, same.1) in
+    (same.0, empty t none)

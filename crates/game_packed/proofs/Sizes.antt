@@ -10,7 +10,7 @@ use lib.IntN.{ℤ, pos}
 use lib.ListN.{length, take, drop, get_or, replicate, length-append, length-take, length-replicate}
 use lib.Seq.{take-suc}
 use Rattle.base_rows.specs.Put.{put}
-use Rattle.base_rows.proofs.Puts.{put-put, put_end}
+use Rattle.base_rows.proofs.Puts.{put-put}
 use Rattle.game_records.specs.Numbers.{core_count, core_numbers}
 use Rattle.game_records.specs.declared.CharacterCore.{CharacterCore}
 use Rattle.game_records.proofs.Back.{core_long}
@@ -84,7 +84,3 @@ module _ (zs : List ℤ) (long : length zs ≡ core_count) (i : ℕ) (h : i < co
 pub packed_long : (n : CharacterCore) → length (packed n).bytes ≡ most_packed
 unfolding packed
 packed_long n = let h = (core_short n).1 in omega (arith, length-append (core_bytes n) (zeros (most_packed - length (core_bytes n))), length-replicate {A = ℕ} (most_packed - length (core_bytes n)) 0)
-
--- a row put over another of its length
-pub put_whole : {A : Type 0} (d w : List A) → length w ≡ length d → put d 0 w ≡ w
-put_whole d w h = put_end d 0 w (omega arith)

@@ -10,15 +10,13 @@ use lib.IntN.{ℤ}
 use lib.ListN.{length, drop, set, length-append}
 use lib.Seq.{sets}
 use borrow.Author.Tests.{eqb-true, eqb-false, ltb-true, ltb-false}
+use Rattle.std.specs.Prelude.{Ok, Err}
 use Rattle.num_convert.specs.Casts.{IsI32}
 use Rattle.game_records.specs.Numbers.{core_in}
 use Rattle.game_records.specs.declared.CharacterCore.{CharacterCore}
 use Rattle.game_packed.specs.Packed.{kept, sign_bit, more_bit, later_bytes, most_later, int_bytes, ints_bytes}
-use Rattle.game_packed.specs.Unpacked.{signed, is_wrong, later_read, int_read, on_read, ints_read}
+use Rattle.game_packed.specs.Unpacked.{signed, is_wrong, later_read, int_read, on_read, ints_read, IntRead}
 use Rattle.game_packed.specs.Laws.{AllBytes, AllI32}
-use Rattle.game_packed.specs.declared.Unpacked.TheVariants as answer
-use Rattle.game_packed.specs.declared.number.IntRead.{IntRead}
-use Rattle.game_packed.specs.declared.number.IntRead.TheVariants as int
 use Rattle.game_packed.proofs.Later as reading
 use Rattle.game_packed.proofs.Putting.{room_of, later_none}
 use Rattle.game_packed.proofs.Putting as writing
@@ -44,12 +42,13 @@ one_byte k b h l =
     writing.later_more k b h ∙ ap₂ (λ (x : ℕ) (s : List ℕ). x ∷ s) byte (ap (later_bytes k) none ∙ later_none k)
 
 module _ (negative : Bool) (at v c : ℕ) {z : ℤ} {next : ℕ} where
-  last_found : (k b : ℕ) (s : List ℕ) → is_wrong k b ≡ false → b < 128 → b < room_of (suc k) → int.Read (signed negative (v + b * c)) (at + 1) ≡ int.Read z next → LaterFound negative k (b ∷ s) at v c z next
+  last_found : (k b : ℕ) (s : List ℕ) → is_wrong k b ≡ false → b < 128 → b < room_of (suc k) → ◌≡◌ {A = IntRead} (Ok (signed negative (v + b * c), at + 1)) (Ok (z, next)) → LaterFound negative k (b ∷ s) at v c z next
   last_found k b s w l r e =
       let some = reading.not_empty k b w in
       let one = one_byte k b some l in
-      let place : at + 1 ≡ next = cc in
-      record { m = b; t = s; some = some; room = r; bytes = ap (λ (x : List ℕ). x ++ s) (sym one); value = cc; place = omega (arith, ap length one) }
+      let same = reading.same_read e in
+      let place : at + 1 ≡ next = same.1 in
+      record { m = b; t = s; some = some; room = r; bytes = ap (λ (x : List ℕ). x ++ s) (sym one); value = sym same.0; place = omega (arith, ap length one) }
 
 room_128 : (k b : ℕ) → b < 128 → b < room_of (suc (suc k))
 room_128 zero b h = omega arith
@@ -85,23 +84,17 @@ before_found negative k b s at v c z next l h u f =
       place = omega (arith, ap length all);
     }
 
-ends_not : {z : ℤ} {next : ℕ} → int.Ends ≡ int.Read z next → ⊥
-ends_not e = let q : ◌≡◌ {A = ℕ} 0 1 = cc in omega arith
-
-wrong_not : {z : ℤ} {next : ℕ} → int.Wrong ≡ int.Read z next → ⊥
-wrong_not e = let q : ◌≡◌ {A = ℕ} 0 1 = cc in omega arith
-
-later_found : (negative : Bool) (k : ℕ) → k ≤ 3 → (s : List ℕ) → AllBytes s → (at v c : ℕ) (z : ℤ) (next : ℕ) → later_read negative k s at v c ≡ int.Read z next → LaterFound negative k s at v c z next
-later_found negative k l [] all at v c z next e = absurd (ends_not (sym (reading.later_ends negative k at v c) ∙ e))
+later_found : (negative : Bool) (k : ℕ) → k ≤ 3 → (s : List ℕ) → AllBytes s → (at v c : ℕ) (z : ℤ) (next : ℕ) → later_read negative k s at v c ≡ Ok (z, next) → LaterFound negative k s at v c z next
+later_found negative k l [] all at v c z next e = absurd (reading.ok_no_fault (sym e ∙ reading.later_ends negative k at v c))
 later_found negative zero l (b ∷ s) all at v c z next e = go (is_wrong 0 b) refl
   where
     go : (w : Bool) → is_wrong 0 b ≡ w → LaterFound negative zero (b ∷ s) at v c z next
-    go true q = absurd (wrong_not (sym (reading.later_wrong negative s at v c 0 b q) ∙ e))
+    go true q = absurd (reading.ok_no_fault (sym e ∙ reading.later_wrong negative s at v c 0 b q))
     go false q = let f = reading.fifth_small b q in last_found negative at v c 0 b s q (omega arith) f (sym (reading.later_last negative s at v c 0 b q (omega arith)) ∙ e)
 later_found negative (suc k) l (b ∷ s) all at v c z next e = go (is_wrong (suc k) b) refl (ltb b 128) refl (later_found negative k (omega arith) s all.1 (at + 1) (v + b % 128 * c) (c * 128) z next)
   where
-    go : (w : Bool) → is_wrong (suc k) b ≡ w → (d : Bool) → ltb b 128 ≡ d → (later_read negative k s (at + 1) (v + b % 128 * c) (c * 128) ≡ int.Read z next → LaterFound negative k s (at + 1) (v + b % 128 * c) (c * 128) z next) → LaterFound negative (suc k) (b ∷ s) at v c z next
-    go true q d r ih = absurd (wrong_not (sym (reading.later_wrong negative s at v c (suc k) b q) ∙ e))
+    go : (w : Bool) → is_wrong (suc k) b ≡ w → (d : Bool) → ltb b 128 ≡ d → (later_read negative k s (at + 1) (v + b % 128 * c) (c * 128) ≡ Ok (z, next) → LaterFound negative k s (at + 1) (v + b % 128 * c) (c * 128) z next) → LaterFound negative (suc k) (b ∷ s) at v c z next
+    go true q d r ih = absurd (reading.ok_no_fault (sym e ∙ reading.later_wrong negative s at v c (suc k) b q))
     go false q true r ih = let h = ltb-true b 128 r in last_found negative at v c (suc k) b s q h (room_128 k b h) (sym (reading.later_last negative s at v c (suc k) b q h) ∙ e)
     go false q false r ih = let h = ltb-false b 128 r in before_found negative k b s at v c z next l h all.0 (ih (sym (reading.later_more negative s at v c k b q h) ∙ e))
 
@@ -155,8 +148,8 @@ int_made b m more q e =
     let first : kept (signed negative value) % 64 + sign_bit (signed negative value) + more_bit (kept (signed negative value) / 64) ≡ b = omega (arith, ap more_bit high) in
     ap₂ (λ (x y : ℕ). x ∷ later_bytes most_later y) first high
 
-pub int_found : (s : List ℕ) → AllBytes s → (at : ℕ) (z : ℤ) (next : ℕ) → int_read s at ≡ int.Read z next → IntFound s at z next
-int_found [] all at z next e = absurd (ends_not (sym (reading.none_there at) ∙ e))
+pub int_found : (s : List ℕ) → AllBytes s → (at : ℕ) (z : ℤ) (next : ℕ) → int_read s at ≡ Ok (z, next) → IntFound s at z next
+int_found [] all at z next e = absurd (reading.ok_no_fault (sym e ∙ reading.none_there at))
 int_found (b ∷ s) all at z next e = go (ltb b 128) refl
   where
     negative : Bool
@@ -165,10 +158,10 @@ int_found (b ∷ s) all at z next e = go (ltb b 128) refl
     go : (d : Bool) → ltb b 128 ≡ d → IntFound (b ∷ s) at z next
     go true r =
         let h = ltb-true b 128 r in
-        let q : int.Read (signed (eqb (b / 64 % 2) 1) (b % 64)) (at + 1) ≡ int.Read z next = sym (reading.first_last s at b h) ∙ e in
+        let q : ◌≡◌ {A = IntRead} (Ok (signed (eqb (b / 64 % 2) 1) (b % 64), at + 1)) (Ok (z, next)) = sym (reading.first_last s at b h) ∙ e in
         let same : b % 64 ≡ b % 64 + 0 * 64 = omega arith in
-        let is : signed (eqb (b / 64 % 2) 1) (b % 64) ≡ z = cc in
-        let place : at + 1 ≡ next = cc in
+        let is : signed (eqb (b / 64 % 2) 1) (b % 64) ≡ z = (reading.same_read q).0 in
+        let place : at + 1 ≡ next = (reading.same_read q).1 in
         let made : int_bytes z ≡ b ∷ later_bytes most_later 0 = ap int_bytes (sym is ∙ ap (signed (eqb (b / 64 % 2) 1)) same) ∙ int_made b 0 0 refl (omega arith) in
         let one : int_bytes z ≡ b ∷ [] = made ∙ ap (λ (x : List ℕ). b ∷ x) (later_none most_later) in
         record { t = s; in_i32 = subst IsI32 is (signed_i32 _ (b % 64) (omega arith)); bytes = ap (λ (x : List ℕ). x ++ s) (sym one); place = omega (arith, ap length one) }
@@ -197,24 +190,17 @@ pub record IntsFound (k i : ℕ) (s : List ℕ) (at : ℕ) (ns : List ℤ) (n : 
   pub core : n ≡ core_in (sets ns i zs)
   pub place : used ≡ at + length (ints_bytes zs)
 
-ends_no_record : {n : CharacterCore} {used : ℕ} → answer.Ends ≡ answer.Record n used → ⊥
-ends_no_record e = let q : ◌≡◌ {A = ℕ} 0 1 = cc in omega arith
-
-wrong_no_record : {n : CharacterCore} {used : ℕ} → answer.Wrong ≡ answer.Record n used → ⊥
-wrong_no_record e = let q : ◌≡◌ {A = ℕ} 0 1 = cc in omega arith
-
-pub ints_found : (k i : ℕ) (s : List ℕ) → AllBytes s → (at : ℕ) (ns : List ℤ) (n : CharacterCore) (used : ℕ) → ints_read k i s at ns ≡ answer.Record n used → IntsFound k i s at ns n used
+pub ints_found : (k i : ℕ) (s : List ℕ) → AllBytes s → (at : ℕ) (ns : List ℤ) (n : CharacterCore) (used : ℕ) → ints_read k i s at ns ≡ Ok (n, used) → IntsFound k i s at ns n used
 unfolding ints_read ints_bytes
 ints_found zero i s bs at ns n used e =
-    let core : core_in ns ≡ n = cc in
-    let place : at ≡ used = cc in
+    let core : core_in ns ≡ n = (reading.same_read e).0 in
+    let place : at ≡ used = (reading.same_read e).1 in
     record { zs = []; t = drop at s; long = refl; all = tt; bytes = refl; core = sym core; place = omega arith }
 ints_found (suc k) i s bs at ns n used e = go (int_read (drop at s) at) refl e (λ z next. ints_found k (i + 1) s bs next (set ns i z) n used)
   where
-    go : (r : IntRead) → int_read (drop at s) at ≡ r → on_read (λ z next. ints_read k (i + 1) s next (set ns i z)) r ≡ answer.Record n used → ((z : ℤ) (next : ℕ) → ints_read k (i + 1) s next (set ns i z) ≡ answer.Record n used → IntsFound k (i + 1) s next (set ns i z) n used) → IntsFound (suc k) i s at ns n used
-    go int.Ends q h ih = absurd (ends_no_record h)
-    go int.Wrong q h ih = absurd (wrong_no_record h)
-    go (int.Read z next) q h ih =
+    go : (r : IntRead) → int_read (drop at s) at ≡ r → on_read (λ z next. ints_read k (i + 1) s next (set ns i z)) r ≡ Ok (n, used) → ((z : ℤ) (next : ℕ) → ints_read k (i + 1) s next (set ns i z) ≡ Ok (n, used) → IntsFound k (i + 1) s next (set ns i z) n used) → IntsFound (suc k) i s at ns n used
+    go (Err fault) q h ih = absurd (reading.ok_no_fault (sym h))
+    go (Ok (z, next)) q h ih =
         let f = int_found (drop at s) (drop_bytes at s bs) at z next q in
         let g = ih z next h in
         let there : drop next s ≡ f.t = ap (λ (j : ℕ). drop j s) f.place ∙ past s at (int_bytes z) f.t f.bytes in

@@ -1,11 +1,12 @@
 -- What is claimed of packed records. Definitions only; proofs/ proves each.
-use Rattle.std.specs.Prelude.{ℕ, ◌≤◌, ◌<◌, List, [], ◌∷◌, ◌++◌, ◌≢◌, ◌≡◌, ℤ, pos, negsuc, length}
+use Rattle.std.specs.Prelude.{ℕ, ◌≤◌, ◌<◌, List, [], ◌∷◌, ◌++◌, ◌⊎◌, ◌≢◌, ◌≡◌, ℤ, pos, negsuc, length, Ok, Err}
 use Rattle.num_convert.specs.Casts.{IsI32}
+use Rattle.game_refusals.specs.declared.Refusal.{Refusal}
+use Rattle.game_refusals.specs.declared.Refusal.TheVariants.{BytesEnd, BadBytes}
 use Rattle.game_records.specs.Numbers.{core_count, core_numbers}
 use Rattle.game_records.specs.declared.CharacterCore.{CharacterCore}
 use Rattle.game_packed.specs.Packed.{int_bytes, core_bytes, most_packed}
 use Rattle.game_packed.specs.Unpacked.{unpacked, unpacked_number}
-use Rattle.game_packed.specs.declared.Unpacked.TheVariants as answer
 
 abbrev pub AllI32 : List ℤ → Type 0
 AllI32 [] = Unit {0}
@@ -17,11 +18,11 @@ AllBytes (b ∷ s) = (b < 256) × AllBytes s
 
 -- every record of fifteen i32 returns from its bytes, whatever follows them, and the reader tells how many they are
 abbrev pub RoundTrip : Type 0
-RoundTrip = (n : CharacterCore) → AllI32 (core_numbers n) → (t : List ℕ) → unpacked (core_bytes n ++ t) ≡ answer.Record n (length (core_bytes n))
+RoundTrip = (n : CharacterCore) → AllI32 (core_numbers n) → (t : List ℕ) → unpacked (core_bytes n ++ t) ≡ Ok (n, length (core_bytes n))
 
 -- the bytes that the reader used are those that the writer makes of the record that it tells
 abbrev pub ReadAsWritten : Type 0
-ReadAsWritten = (s : List ℕ) → AllBytes s → (n : CharacterCore) (used : ℕ) → unpacked s ≡ answer.Record n used → AllI32 (core_numbers n) × ((t : List ℕ) × (s ≡ core_bytes n ++ t) × (used ≡ length (core_bytes n)))
+ReadAsWritten = (s : List ℕ) → AllBytes s → (n : CharacterCore) (used : ℕ) → unpacked s ≡ Ok (n, used) → AllI32 (core_numbers n) × ((t : List ℕ) × (s ≡ core_bytes n ++ t) × (used ≡ length (core_bytes n)))
 
 -- a record has at least 15 and at most 75 bytes
 abbrev pub SizesHold : Type 0
@@ -39,9 +40,9 @@ pub record BeginsRecord (s : List ℕ) : Type 0 where
   pub bytes : core_bytes core ≡ s ++ rest
   pub more : rest ≢ []
 
--- 11 is told just of these; so 12 is told of all other bytes that have no record at their start
+-- 11 is told just of these; no fault is told but 11 and 12, so 12 is told of all other bytes that have no record at their start
 abbrev pub ToldEnds : Type 0
-ToldEnds = (s : List ℕ) → AllBytes s → (unpacked_number (unpacked s) ≡ 11 → BeginsRecord s) × (BeginsRecord s → unpacked_number (unpacked s) ≡ 11)
+ToldEnds = (s : List ℕ) → AllBytes s → (unpacked_number (unpacked s) ≡ 11 → BeginsRecord s) × (BeginsRecord s → unpacked_number (unpacked s) ≡ 11) × ((fault : Refusal) → unpacked s ≡ Err fault → (fault ≡ BytesEnd) ⊎ (fault ≡ BadBytes))
 
 -- the bytes of some numbers: around 0, where a second byte begins, and the ends of i32
 pub record WorkedBytes : Type 0 where

@@ -1,12 +1,10 @@
 -- Packing and unpacking between lent buffers: what each answers, and what it leaves there. Definitions only.
-use Rattle.std.specs.Prelude.{ℕ, cond, ◌&&◌, List, eqb, ℤ, length}
+use Rattle.std.specs.Prelude.{ℕ, cond, ◌&&◌, List, eqb, ℤ, length, Ok, Err}
 use Rattle.game_refusals.specs.Refusals.{bad_length}
 use Rattle.game_records.specs.Numbers.{core_count, core_numbers, core_in}
 use Rattle.game_packed.specs.Packed.{most_packed, packed}
-use Rattle.game_packed.specs.Unpacked.{unpacked, unpacked_number}
+use Rattle.game_packed.specs.Unpacked.{Unpacked, unpacked, unpacked_number}
 use Rattle.game_packed.specs.declared.Packed.{Packed}
-use Rattle.game_packed.specs.declared.Unpacked.{Unpacked}
-use Rattle.game_packed.specs.declared.Unpacked.TheVariants as answer
 
 -- a number, and the bytes and the count that are left
 pub record LeftPacked : Type 0 where
@@ -29,9 +27,8 @@ pub record LeftUnpacked : Type 0 where
 
 -- a refusal leaves what was there
 abbrev pub left_unpacked : List ℤ → ℕ → Unpacked → LeftUnpacked
-left_unpacked l k answer.Ends = record { number = unpacked_number answer.Ends; numbers = l; used = k }
-left_unpacked l k answer.Wrong = record { number = unpacked_number answer.Wrong; numbers = l; used = k }
-left_unpacked l k (answer.Record n used) = record { number = 0; numbers = core_numbers n; used = used }
+left_unpacked l k (Err fault) = record { number = unpacked_number (Err fault); numbers = l; used = k }
+left_unpacked l k (Ok (n, used)) = record { number = 0; numbers = core_numbers n; used = used }
 
 -- the record whose bytes s starts with, as numbers in l; 17 where l has another length than it must
 unfoldable pub unpack_in : List ℕ → List ℤ → ℕ → LeftUnpacked

@@ -1,12 +1,11 @@
 -- What is claimed of the writer, by value and in lent buffers, and one worked record. Definitions only; proofs/Writing.antt proves each.
-use Rattle.std.specs.Prelude.{ℕ, ◌-◌, List, [], ◌∷◌, ◌++◌, ◌⊎◌, ◌≢◌, ◌≡◌, ℤ, pos, negsuc, length, take, drop, replicate}
+use Rattle.std.specs.Prelude.{ℕ, ◌-◌, List, [], ◌∷◌, ◌++◌, ◌⊎◌, ◌≢◌, ◌≡◌, ℤ, pos, negsuc, length, take, drop, replicate, Ok}
 use Rattle.game_records.specs.Numbers.{core_in}
 use Rattle.game_records.specs.declared.CharacterCore.{CharacterCore}
 use Rattle.game_packed.specs.Packed.{core_bytes, packed}
 use Rattle.game_packed.specs.Unpacked.{unpacked}
 use Rattle.game_packed.specs.Lent.{pack_in, unpack_in}
 use Rattle.game_packed.specs.Laws.{AllI32}
-use Rattle.game_packed.specs.declared.Unpacked.TheVariants as answer
 
 -- 75 bytes: the record's bytes, as many as the count says, then zeros
 pub record Written (n : CharacterCore) (bytes : List ℕ) (count : ℕ) : Type 0 where
@@ -79,4 +78,4 @@ sample_bytes =
 pub record WorkedRecord : Type 0 where
   pub bytes : core_bytes sample ≡ sample_bytes
   pub writes : packed sample ≡ record { bytes = sample_bytes ++ replicate 48 0; count = 27 }
-  pub reads : unpacked sample_bytes ≡ answer.Record sample 27
+  pub reads : unpacked sample_bytes ≡ Ok (sample, 27)

@@ -9,8 +9,9 @@ ghost use Rattle.game_packed.specs.Packed.{packed};
 ghost use Rattle.game_packed.specs.Unpacked.{unpacked};
 
 use game_records::{CORE, CharacterCore, core_numbers, core_of};
+use game_refusals::Refusal;
 pub use lent::{pack_in, unpack_in};
-use number::{IntRead, MOST_INT, put_int, read_int};
+use number::{MOST_INT, put_int, read_int};
 
 // The most bytes that a record has.
 pub const MOST_PACKED: usize = MOST_INT * CORE;
@@ -22,42 +23,25 @@ pub struct Packed {
     pub count: usize,
 }
 
-// What reading a record answers: that the bytes end before its last number is complete, that a number is not as the writer makes it, or the record
-// with the number of bytes that were used.
-#[derive(Clone, Copy)]
-pub enum Unpacked {
-    Ends,
-    Wrong,
-    Record(CharacterCore, usize),
-}
-
 pub fn pack(core: CharacterCore) -> Packed
     ensures { result ≡ packed core }
 {
-    let numbers = core_numbers(core);
     let mut bytes = [0u8; MOST_PACKED];
     let mut count = 0;
-    for i in 0..CORE {
-        count = put_int(&mut bytes, count, numbers[i]);
+    for z in core_numbers(core) {
+        count = put_int(&mut bytes, count, z);
     }
     Packed { bytes, count }
 }
 
-// Bytes after the fifteenth number are not looked at.
-pub fn unpack(bytes: &[u8]) -> Unpacked
+// Reads the record that bytes start with, and answers it with how many of them were used. Bytes after the fifteenth number are not looked at.
+pub fn unpack(bytes: &[u8]) -> Result<(CharacterCore, usize), Refusal>
     ensures { result ≡ unpacked bytes.now }
 {
     let mut numbers = [0i32; CORE];
     let mut at = 0;
-    for i in 0..CORE {
-        match read_int(bytes, at) {
-            IntRead::Ends => return Unpacked::Ends,
-            IntRead::Wrong => return Unpacked::Wrong,
-            IntRead::Read(z, next) => {
-                numbers[i] = z;
-                at = next;
-            }
-        }
+    for number in &mut numbers {
+        (*number, at) = read_int(bytes, at)?;
     }
-    Unpacked::Record(core_of(&numbers), at)
+    Ok((core_of(&numbers), at))
 }

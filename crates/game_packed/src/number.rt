@@ -4,40 +4,25 @@ ghost use Rattle.base_rows.specs.Put.{put};
 ghost use Rattle.game_packed.specs.Packed.{kept, sign_bit, more_bit, most_later, int_bytes};
 ghost use Rattle.game_packed.specs.Unpacked.{signed, is_wrong, later_read, int_read};
 
-use num_convert::{cast_signed, cast_unsigned};
+use game_refusals::Refusal;
 
-// From here on the bits are those of a number below zero.
-const SIGN: u32 = 0x8000_0000;
+// The most bytes of a number after its first one.
+const MOST_LATER: usize = 4;
 
 // The most bytes of a number.
-pub const MOST_INT: usize = 5;
-
-// What reading a number answers: the bytes end before it is complete, it is not in its shortest form or too large, or the number with the place past it.
-#[derive(Clone, Copy)]
-pub enum IntRead {
-    Ends,
-    Wrong,
-    Read(i32, usize),
-}
+pub const MOST_INT: usize = 1 + MOST_LATER;
 
 // A negative n is kept as -1 - n.
 fn kept(z: i32) -> u32
     ensures { result ≡ kept z }
 {
-    let bits = cast_unsigned(z);
-    if bits < SIGN {
-        return bits;
-    }
-    0xffff_ffff - bits
+    if z < 0 { (-1 - z) as u32 } else { z as u32 }
 }
 
 fn sign_bit(z: i32) -> u32
     ensures { result ≡ sign_bit z }
 {
-    if cast_unsigned(z) < SIGN {
-        return 0;
-    }
-    64
+    if z < 0 { 64 } else { 0 }
 }
 
 // More follows where anything is left.
@@ -70,60 +55,49 @@ fn signed(negative: bool, m: u32) -> i32
     requires { m < 2 ^ 31 }
     ensures { result ≡ signed negative m }
 {
-    if negative {
-        return cast_signed(0xffff_ffff - m);
-    }
-    cast_signed(m)
+    if negative { -1 - m as i32 } else { m as i32 }
 }
 
-// Reads the number that starts at `at`.
-pub fn read_int(bytes: &[u8], at: usize) -> IntRead
+// Reads the number that starts at `at`, and answers it with the place past it.
+pub fn read_int(bytes: &[u8], at: usize) -> Result<(i32, usize), Refusal>
     ensures { result ≡ int_read (drop at bytes.now) at }
 {
-    if bytes.len() <= at {
-        return IntRead::Ends;
-    }
-    let first = bytes[at] as u32;
+    let first = u32::from(*bytes.get(at).ok_or(Refusal::BytesEnd)?);
     let negative = first / 64 % 2 == 1;
+    let value = first % 64;
     if first < 128 {
-        return IntRead::Read(signed(negative, first % 64), at + 1);
+        Ok((signed(negative, value), at + 1))
+    } else {
+        read_later(&bytes[at + 1..], at + 1, negative, value)
     }
-    read_later(bytes, at + 1, negative, first % 64)
 }
 
 // A last byte with nothing in it, or a fifth one with a bit above the lowest four.
 fn is_wrong(left: usize, b: u32) -> bool
     ensures { result ≡ is_wrong left b }
 {
-    if b == 0 {
-        return true;
-    }
-    left == 0 && 16 <= b
+    b == 0 || (left == 0 && 16 <= b)
 }
 
-// Reads the later bytes of a number from `at` on.
-fn read_later(bytes: &[u8], at: usize, negative: bool, first: u32) -> IntRead
-    requires { first < 64 }
-    ensures { result ≡ later_read negative (most_later - 1) (drop at bytes.now) at first 64 }
+// Reads a number's later bytes, which stand from `at` on, and answers the number with the place past it.
+fn read_later(later: &[u8], at: usize, negative: bool, first: u32) -> Result<(i32, usize), Refusal>
+    requires small { first < 64 }
+    requires room { at + length later.now < 2 ^ 64 }
+    ensures { result ≡ later_read negative (most_later - 1) later.now at first 64 }
 {
-    let mut next = at;
     let mut value = first;
-    let mut scale: u32 = 64;
-    let mut left: usize = MOST_INT - 2;
-    loop {
-        if bytes.len() <= next {
-            return IntRead::Ends;
-        }
-        let b = bytes[next] as u32;
+    let mut scale = 64;
+    for (i, byte) in later.iter().enumerate() {
+        let b = u32::from(*byte);
+        let left = MOST_LATER - 1 - i;
         if is_wrong(left, b) {
-            return IntRead::Wrong;
+            return Err(Refusal::BadBytes);
         }
-        next += 1;
         if b < 128 {
-            return IntRead::Read(signed(negative, value + b * scale), next);
+            return Ok((signed(negative, value + b * scale), at + i + 1));
         }
         value += b % 128 * scale;
         scale *= 128;
-        left -= 1;
     }
+    Err(Refusal::BytesEnd)
 }

@@ -10,11 +10,11 @@ pub const CORE: usize = 15;
 pub const INPUT: usize = 5;
 
 // A count of steps: never an id.
-#[derive(Clone, Copy)]
+#[derive(Clone, Copy, PartialEq, Eq, Debug)]
 pub struct Tick(pub i32);
 
 // The five of its fields that the physics reads.
-#[derive(Clone, Copy)]
+#[derive(Clone, Copy, PartialEq, Eq, Debug)]
 pub struct PlayerInput {
     pub direction: i32,
     pub target_x: i32,
@@ -23,7 +23,7 @@ pub struct PlayerInput {
     pub hook: i32,
 }
 
-#[derive(Clone, Copy)]
+#[derive(Clone, Copy, PartialEq, Eq, Debug)]
 pub struct CharacterCore {
     pub tick: i32,
     pub x: i32,

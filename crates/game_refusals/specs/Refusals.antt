@@ -1,5 +1,7 @@
 -- The numbers with which a call is declined. Definitions only.
-use Rattle.std.specs.Prelude.{ℕ}
+use Rattle.std.specs.Prelude.{ℕ, Result, Ok, Err}
+use Rattle.game_refusals.specs.declared.Refusal.{Refusal}
+use Rattle.game_refusals.specs.declared.Refusal.TheVariants.{BadMap, BadId, BadTuning, OutOfReach, NotClear, BadText, Present, Absent, TooFar, TickTooLarge, BytesEnd, BadBytes, NotAllowed, BadArea, BadTrial, BadHold, BadLength}
 
 -- a map's sides are not 1 to 1,024 each, or its bytes are not width times height
 abbrev pub bad_map : ℕ
@@ -68,3 +70,28 @@ bad_hold = 16
 -- a lent buffer of numbers that has another length than it must
 abbrev pub bad_length : ℕ
 bad_length = 17
+
+-- the number of each refusal
+abbrev pub number_of : Refusal → ℕ
+number_of BadMap = bad_map
+number_of BadId = bad_id
+number_of BadTuning = bad_tuning
+number_of OutOfReach = out_of_reach
+number_of NotClear = not_clear
+number_of BadText = bad_text
+number_of Present = already_present
+number_of Absent = not_present
+number_of TooFar = too_far
+number_of TickTooLarge = tick_too_large
+number_of BytesEnd = bytes_end
+number_of BadBytes = bad_bytes
+number_of NotAllowed = not_allowed
+number_of BadArea = bad_area
+number_of BadTrial = bad_trial
+number_of BadHold = bad_hold
+number_of BadLength = bad_length
+
+-- the number that a call is answered with: 0 where it is accepted
+abbrev pub number_of_answer : {A : Type 0} → Result A Refusal → ℕ
+number_of_answer (Ok a) = 0
+number_of_answer (Err refusal) = number_of refusal

@@ -82,33 +82,21 @@ fn tuning_at(hundredths: [i32; TUNINGS], index: usize) -> f32
 pub fn is_hold(steps: i32) -> bool
     ensures { result ≡ is_hold steps }
 {
-    if steps < 1 {
-        return false;
-    }
-    steps as u32 <= MAX_HOOK_GRAB_TIME
+    1 <= steps && steps as u32 <= MAX_HOOK_GRAB_TIME
 }
 
 // Whether a tuning takes a number: any of hundredths, and a hold.
 pub fn may_tune(index: usize, value: i32) -> bool
     ensures { result ≡ may_tune index value }
 {
-    if index == HOOK_HOLD {
-        return is_hold(value);
-    }
-    true
+    index != HOOK_HOLD || is_hold(value)
 }
 
 // The hold that a number stands for: the nearest.
 pub fn hold_of(steps: i32) -> u32
     ensures { result ≡ hold_of steps }
 {
-    if steps < 1 {
-        return 1;
-    }
-    if steps as u32 > MAX_HOOK_GRAB_TIME {
-        return MAX_HOOK_GRAB_TIME;
-    }
-    steps as u32
+    steps.clamp(1, MAX_HOOK_GRAB_TIME as i32) as u32
 }
 
 // A tuning as a reader is told it.
@@ -116,7 +104,8 @@ pub fn told_tuning(index: usize, value: i32) -> i32
     ensures { result ≡ told_tuning index value }
 {
     if index == HOOK_HOLD {
-        return hold_of(value) as i32;
+        hold_of(value) as i32
+    } else {
+        value
     }
-    value
 }

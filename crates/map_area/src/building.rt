@@ -1,25 +1,26 @@
 // Running totals of the solid tiles over rows and columns, in one pass.
 ghost use Rattle.std.specs.Prelude.{◌≡◌, suc, ◌*◌, ◌<◌, T, length, take};
+ghost use Rattle.game_refusals.specs.Refusals.{number_of_answer};
 ghost use Rattle.map_tiles.specs.Map.{is_map};
 ghost use Rattle.map_totals.specs.Area.{solid_at, totals_of};
 ghost use Rattle.map_totals.specs.Calls.{build_in};
 
 use crate::counting::entry_at;
-use game_refusals::{BAD_AREA, BAD_MAP};
+use game_refusals::Refusal;
 use map_tiles::{Sides, is_map, is_solid_at};
 
 // Builds the totals of a map in a lent buffer, which has one entry for each tile.
-pub fn build(sides: Sides, tiles: &[u8], totals: &mut [u32]) -> u32
-    ensures { build_in sides tiles.now totals.old ≡ record { number = result; totals = totals.new } }
+pub fn build(sides: Sides, tiles: &[u8], totals: &mut [u32]) -> Result<(), Refusal>
+    ensures { build_in sides tiles.now totals.old ≡ record { number = number_of_answer result; totals = totals.new } }
 {
     if !is_map(sides, tiles) {
-        return BAD_MAP;
+        return Err(Refusal::BadMap);
     }
     if totals.len() != tiles.len() {
-        return BAD_AREA;
+        return Err(Refusal::BadArea);
     }
     total_rows(sides, tiles, totals);
-    0
+    Ok(())
 }
 
 fn total_rows(sides: Sides, tiles: &[u8], totals: &mut [u32])
@@ -51,8 +52,5 @@ pub fn solid_at(sides: Sides, tiles: &[u8], column: u32, row: u32) -> u32
     requires { T (is_map sides tiles.now) × (column < sides.width) × (row < sides.height) }
     ensures { result ≡ solid_at sides tiles.now column row }
 {
-    if is_solid_at(sides, tiles, column, row) {
-        return 1;
-    }
-    0
+    is_solid_at(sides, tiles, column, row) as u32
 }

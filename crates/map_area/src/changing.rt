@@ -1,12 +1,13 @@
 // A tile's byte is changed, and the totals with it.
 ghost use Rattle.std.specs.Prelude.{◌≡◌, ◌*◌, ◌<◌, T, map, length};
+ghost use Rattle.game_refusals.specs.Refusals.{number_of_answer};
 ghost use Rattle.map_tiles.specs.Map.{is_map};
 ghost use Rattle.map_totals.specs.Area.{added, changed_totals};
 ghost use Rattle.map_totals.specs.Calls.{changed, change_in};
 
 use crate::building::solid_at;
 use crate::counting::is_area;
-use game_refusals::{BAD_AREA, BAD_MAP};
+use game_refusals::Refusal;
 use map_tiles::{Sides, count, is_map};
 use std::num::{wrapping_add_u32, wrapping_sub_u32};
 
@@ -18,17 +19,14 @@ pub fn change(
     column: i32,
     row: i32,
     byte: u8,
-) -> u32
-    ensures { change_in sides tiles.old totals.old column row byte ≡ record { number = result; tiles = tiles.new; totals = totals.new } }
+) -> Result<(), Refusal>
+    ensures { change_in sides tiles.old totals.old column row byte ≡ record { number = number_of_answer result; tiles = tiles.new; totals = totals.new } }
 {
     if !is_map(sides, tiles) {
-        return BAD_MAP;
+        return Err(Refusal::BadMap);
     }
-    if totals.len() != tiles.len() {
-        return BAD_AREA;
-    }
-    if !is_area(sides, column, row, 1, 1) {
-        return BAD_AREA;
+    if totals.len() != tiles.len() || !is_area(sides, column, row, 1, 1) {
+        return Err(Refusal::BadArea);
     }
     change_at(
         sides,
@@ -38,7 +36,7 @@ pub fn change(
         count(row) as u32,
         byte,
     );
-    0
+    Ok(())
 }
 
 fn change_at(sides: Sides, tiles: &mut [u8], totals: &mut [u32], column: u32, row: u32, byte: u8)

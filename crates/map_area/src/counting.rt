@@ -1,13 +1,15 @@
 // The count of a rectangle from four entries of the totals.
-ghost use Rattle.std.specs.Prelude.{◌≡◌, ◌+◌, ◌*◌, ◌≤◌, length};
+ghost use Rattle.std.specs.Prelude.{◌≡◌, ℕ, ◌+◌, ◌*◌, ◌≤◌, length};
+ghost use Rattle.std.specs.Result.{result_unwrap_or};
+ghost use Rattle.game_refusals.specs.Refusals.{number_of_answer};
 ghost use Rattle.map_totals.specs.Area.{entry_at, count_in};
 ghost use Rattle.map_totals.specs.Calls.{is_span, is_area, area_in};
 
-use game_refusals::{BAD_AREA, BAD_MAP};
+use game_refusals::Refusal;
 use map_tiles::{Sides, count as whole, is_map};
 use std::num::{wrapping_add_u32, wrapping_sub_u32};
 
-// Counts the solid tiles of a rectangle, into a lent place.
+// Counts the solid tiles of a rectangle.
 pub fn area(
     sides: Sides,
     tiles: &[u8],
@@ -16,51 +18,37 @@ pub fn area(
     top: i32,
     columns: i32,
     rows: i32,
-    count: &mut u32,
-) -> u32
-    ensures { area_in sides tiles.now totals.now left top columns rows count.old ≡ record { number = result; count = count.new } }
+) -> Result<u32, Refusal>
+    ensures { (k : ℕ) → area_in sides tiles.now totals.now left top columns rows k ≡ record { number = number_of_answer result; count = result_unwrap_or result k } }
 {
     if !is_map(sides, tiles) {
-        return BAD_MAP;
+        return Err(Refusal::BadMap);
     }
-    if totals.len() != tiles.len() {
-        return BAD_AREA;
+    if totals.len() != tiles.len() || !is_area(sides, left, top, columns, rows) {
+        return Err(Refusal::BadArea);
     }
-    if !is_area(sides, left, top, columns, rows) {
-        return BAD_AREA;
-    }
-    *count = count_in(
+    Ok(count_in(
         sides,
         totals,
         whole(left) as usize,
         whole(top) as usize,
         whole(columns) as usize,
         whole(rows) as usize,
-    );
-    0
+    ))
 }
 
 // Whether a rectangle has tiles, and none outside the map.
 pub fn is_area(sides: Sides, left: i32, top: i32, columns: i32, rows: i32) -> bool
     ensures { result ≡ is_area sides left top columns rows }
 {
-    if !is_span(left, columns, sides.width) {
-        return false;
-    }
-    is_span(top, rows, sides.height)
+    is_span(left, columns, sides.width) && is_span(top, rows, sides.height)
 }
 
 // The end is computed in 64 bits, where it does not wrap.
 fn is_span(from: i32, n: i32, side: u32) -> bool
     ensures { result ≡ is_span from n side }
 {
-    if from < 0 {
-        return false;
-    }
-    if n < 1 {
-        return false;
-    }
-    whole(from) + whole(n) <= side as u64
+    from >= 0 && n >= 1 && whole(from) + whole(n) <= side as u64
 }
 
 // The sum and difference of four entries: where the rectangle ends, beside it, above it, and both.
@@ -89,10 +77,7 @@ pub fn entry_at(sides: Sides, totals: &[u32], columns: usize, rows: usize) -> u3
     requires { (columns ≤ sides.width) × (rows ≤ sides.height) × (length totals.now ≡ sides.width * sides.height) }
     ensures { result ≡ entry_at sides totals.now columns rows }
 {
-    if columns == 0 {
-        return 0;
-    }
-    if rows == 0 {
+    if columns == 0 || rows == 0 {
         return 0;
     }
     totals[(rows - 1) * sides.width as usize + (columns - 1)]

@@ -5,7 +5,7 @@ mod lines;
 mod open;
 mod points;
 
-pub use lines::{LineCheck, LineHit, LineWalk, check_line, walk_line};
+pub use lines::{check_line, walk_line};
 pub use points::{min, point_at};
 
 // A walk of more turns is refused with 9.

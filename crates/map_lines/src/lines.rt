@@ -6,54 +6,41 @@ ghost use Rattle.map_lines.specs.Line.{line_turns, line_hit, walk_line, check_li
 
 use crate::MOST_TURNS;
 use crate::open::open_turns;
+use game_refusals::Refusal;
 use map_tiles::{Sides, Tile, check_point, count, is_map};
 use num_vec2::vec2;
 
-// What a line meets.
-#[derive(Clone, Copy)]
-pub enum LineHit {
-    Nothing,
-    At(vec2, Tile),
-}
-
-// What `check_line` answers.
-#[derive(Clone, Copy)]
-pub enum LineCheck {
-    BadMap,
-    TooFar,
-    Met(LineHit),
-}
-
-// What it answers on a map that is one.
-#[derive(Clone, Copy)]
-pub enum LineWalk {
-    TooFar,
-    Met(LineHit),
-}
-
-pub fn check_line(sides: Sides, tiles: &[u8], from: vec2, to: vec2) -> LineCheck
+// The first solid tile of the way, with where it is met; none where nothing is. Refused on a map that is none.
+pub fn check_line(
+    sides: Sides,
+    tiles: &[u8],
+    from: vec2,
+    to: vec2,
+) -> Result<Option<(vec2, Tile)>, Refusal>
     ensures { result ≡ check_line sides tiles.now from to }
 {
     if is_map(sides, tiles) {
-        return match walk_line(sides, tiles, from, to) {
-            LineWalk::TooFar => LineCheck::TooFar,
-            LineWalk::Met(hit) => LineCheck::Met(hit),
-        };
+        return walk_line(sides, tiles, from, to);
     }
-    LineCheck::BadMap
+    Err(Refusal::BadMap)
 }
 
 // The same on a map that is known to be one.
-pub fn walk_line(sides: Sides, tiles: &[u8], from: vec2, to: vec2) -> LineWalk
+pub fn walk_line(
+    sides: Sides,
+    tiles: &[u8],
+    from: vec2,
+    to: vec2,
+) -> Result<Option<(vec2, Tile)>, Refusal>
     requires { T (is_map sides tiles.now) }
     ensures { result ≡ walk_line sides tiles.now from to }
 {
     let dist = vec2::distance(from, to);
     let turns = line_turns(dist);
     if turns > MOST_TURNS {
-        return LineWalk::TooFar;
+        return Err(Refusal::TooFar);
     }
-    LineWalk::Met(line_hit(sides, tiles, from, to, dist, turns as u32))
+    Ok(line_hit(sides, tiles, from, to, dist, turns as u32))
 }
 
 // How many points of a line of length dist are tested.
@@ -64,24 +51,23 @@ fn line_turns(dist: f32) -> u64
 }
 
 // The first solid tile of the line. The turns before it are passed in intervals, the rest one by one.
-fn line_hit(sides: Sides, tiles: &[u8], from: vec2, to: vec2, dist: f32, turns: u32) -> LineHit
+fn line_hit(
+    sides: Sides,
+    tiles: &[u8],
+    from: vec2,
+    to: vec2,
+    dist: f32,
+    turns: u32,
+) -> Option<(vec2, Tile)>
     requires { T (is_map sides tiles.now) × (turns ≤ 65536) × (dist ≡ vdistance from to) }
     ensures { result ≡ line_hit sides tiles.now from to dist turns }
 {
-    let mut i = open_turns(sides, tiles, from, to, dist, turns);
-    let hit = loop {
-        if i >= turns {
-            break LineHit::Nothing;
-        }
+    for i in open_turns(sides, tiles, from, to, dist, turns)..turns {
         let point = vec2::mix(from, to, i as f32 / dist);
         let tile = check_point(sides, tiles, point);
-        match tile {
-            Tile::Open => {}
-            Tile::Normal => break LineHit::At(point, tile),
-            Tile::Deadly => {}
-            Tile::Unhookable => break LineHit::At(point, tile),
+        if tile.is_solid() {
+            return Some((point, tile));
         }
-        i += 1;
-    };
-    hit
+    }
+    None
 }

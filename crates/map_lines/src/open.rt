@@ -74,7 +74,7 @@ fn same_tile(sides: Sides, a: vec2, b: vec2) -> bool
 fn is_bounded_line(from: vec2, to: vec2, dist: f32) -> bool
     ensures { result ≡ is_bounded_line from to dist }
 {
-    let way = to.sub(from);
+    let way = to - from;
     let start = is_bounded(from.x) & is_bounded(from.y);
     let bounded_way = is_bounded(way.x) & is_bounded(way.y);
     let length = (1.0 <= dist) & (dist <= 131072.0);

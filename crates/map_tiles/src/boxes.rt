@@ -12,7 +12,7 @@ pub fn check_box(sides: Sides, tiles: &[u8], pos: vec2, box_: vec2) -> bool
     requires { T (is_map sides tiles.now) }
     ensures { result ≡ check_box sides tiles.now pos box_ }
 {
-    let half = box_.mul(0.5);
+    let half = box_ * 0.5;
     let right = tile_at(pos.x + half.x, sides.width);
     let left = tile_at(pos.x - half.x, sides.width);
     let bottom = tile_at(pos.y + half.y, sides.height);

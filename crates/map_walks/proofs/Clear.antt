@@ -16,7 +16,8 @@ use Rattle.map_tiles.specs.declared.tiles.Sides.{Sides}
 use Rattle.map_lines.specs.Limit.{most_turns}
 use Rattle.map_tiles.specs.Box.{check_box, Clear}
 use Rattle.map_walks.specs.declared.moves.Body.{Body}
-use Rattle.map_walks.specs.declared.moves.BoxWalk.TheVariants.{TooFar, To}
+use Rattle.std.specs.Prelude.{Ok, Err}
+use Rattle.game_refusals.specs.declared.Refusal.TheVariants.{TooFar}
 use Rattle.map_walks.specs.Move.{body_of, box_turns, blocked, box_turn, box_turns_taken, walk_box}
 
 module _ (s : Sides) (ts : List ℕ) (box : vec2) where
@@ -43,10 +44,10 @@ module _ (s : Sides) (ts : List ℕ) (box : vec2) where
   unfolding box_turns_taken
   turns_clear b n h = fold-kept (λ i. box_turn s ts (div binary32 c1 (i32_to_f32 (pos n))) box) (λ c. Clear s ts c.pos box) (λ i c k. turn_clear (div binary32 c1 (i32_to_f32 (pos n))) c k) n 0 b h
 
-  pub walk_clear : (at vel : vec2) (b : Body) → Clear s ts at box → walk_box s ts at vel box ≡ To b → Clear s ts b.pos box
+  pub walk_clear : (at vel : vec2) (b : Body) → Clear s ts at box → walk_box s ts at vel box ≡ Ok b → Clear s ts b.pos box
   unfolding walk_box
   walk_clear at vel b h e = go (leb (box_turns (vlength vel)) most_turns) e
     where
-      go : (t : Bool) → cond t (To (box_turns_taken s ts (record { pos = at; vel = vel }) box (box_turns (vlength vel)))) TooFar ≡ To b → Clear s ts b.pos box
+      go : (t : Bool) → cond t (Ok (box_turns_taken s ts (record { pos = at; vel = vel }) box (box_turns (vlength vel)))) (Err TooFar) ≡ Ok b → Clear s ts b.pos box
       go true q = let p : box_turns_taken s ts (record { pos = at; vel = vel }) box (box_turns (vlength vel)) ≡ b = cc in subst (λ (c : Body). Clear s ts c.pos box) p (turns_clear (record { pos = at; vel = vel }) (box_turns (vlength vel)) h)
       go false q = let z : ◌≡◌ {A = ℕ} 0 1 = cc in absurd (omega arith)

@@ -1,8 +1,9 @@
 -- `move_box` of lib.rs. Definitions only.
-use Rattle.std.specs.Prelude.{ℕ, ◌+◌, cond, ◌||◌, List, leb, pos, Float}
+use Rattle.std.specs.Prelude.{ℕ, ◌+◌, cond, ◌||◌, List, leb, pos, Float, Result, Ok, Err}
 use Rattle.std.specs.Float.{binary32}
 use Rattle.std.specs.Float.Ieee.{div, lt, of_bits}
-use Rattle.game_refusals.specs.Refusals.{bad_map, too_far}
+use Rattle.game_refusals.specs.declared.Refusal.{Refusal}
+use Rattle.game_refusals.specs.declared.Refusal.TheVariants.{BadMap, TooFar}
 use Rattle.num_convert.specs.Whole.{round_to_i32}
 use Rattle.num_convert.specs.Convert.{i32_to_f32}
 use Rattle.num_convert.specs.Number.{c0, c1}
@@ -14,10 +15,6 @@ use Rattle.map_lines.specs.Limit.{most_turns}
 use Rattle.map_tiles.specs.declared.tiles.Sides.{Sides}
 use Rattle.map_tiles.specs.Box.{check_box}
 use Rattle.map_walks.specs.declared.moves.Body.{Body}
-use Rattle.map_walks.specs.declared.moves.BoxMove.{BoxMove}
-use Rattle.map_walks.specs.declared.moves.BoxMove.TheVariants.{BadMap, TooFar, To}
-use Rattle.map_walks.specs.declared.moves.BoxWalk.{BoxWalk}
-use Rattle.map_walks.specs.declared.moves.BoxWalk.TheVariants as walk
 
 -- 0.00001
 abbrev pub least_dist : Float
@@ -48,22 +45,11 @@ unfoldable pub box_turns_taken : Sides → List ℕ → Body → vec2 → ℕ �
 box_turns_taken s ts b box n = fold (λ i. box_turn s ts (div binary32 c1 (i32_to_f32 (pos n))) box) n 0 b
 
 -- the walk on a map that is one: 9 where it is too far
-unfoldable pub walk_box : Sides → List ℕ → vec2 → vec2 → vec2 → BoxWalk
+unfoldable pub walk_box : Sides → List ℕ → vec2 → vec2 → vec2 → Result Body Refusal
 walk_box s ts at vel box =
     let turns = box_turns (vlength vel) in
-    cond (leb turns most_turns) (walk.To (box_turns_taken s ts (record { pos = at; vel = vel }) box turns)) walk.TooFar
-
--- a walk's answer as that of `move_box`
-abbrev pub of_walk : BoxWalk → BoxMove
-of_walk walk.TooFar = TooFar
-of_walk (walk.To b) = To b
+    cond (leb turns most_turns) (Ok (box_turns_taken s ts (record { pos = at; vel = vel }) box turns)) (Err TooFar)
 
 -- refused with 1 where the map is none, before the walk is measured
-unfoldable pub move_box : Sides → List ℕ → vec2 → vec2 → vec2 → BoxMove
-move_box s ts at vel box = cond (is_map s ts) (of_walk (walk_box s ts at vel box)) BadMap
-
--- document 01's number of an answer
-abbrev pub box_number : BoxMove → ℕ
-box_number BadMap = bad_map
-box_number TooFar = too_far
-box_number (To b) = 0
+unfoldable pub move_box : Sides → List ℕ → vec2 → vec2 → vec2 → Result Body Refusal
+move_box s ts at vel box = cond (is_map s ts) (walk_box s ts at vel box) (Err BadMap)

@@ -4,4 +4,4 @@
 mod moves;
 mod way;
 
-pub use moves::{Body, BoxMove, BoxWalk, move_box, walk_box};
+pub use moves::{Body, move_box, walk_box};

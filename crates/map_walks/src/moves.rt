@@ -5,6 +5,7 @@ ghost use Rattle.map_walks.specs.Move.{box_turns, body_of, blocked, box_turn, bo
 ghost use Rattle.map_walks.specs.Way.{turns_taken, at_rest, is_stuck, stays_at_rest};
 
 use crate::way::{is_clear_way, way_end};
+use game_refusals::Refusal;
 use map_lines::{MOST_TURNS, min};
 use map_tiles::{Sides, check_box, count, is_map};
 use num_vec2::vec2;
@@ -25,44 +26,38 @@ pub struct Body {
     pub vel: vec2,
 }
 
-// What `move_box` answers.
-#[derive(Clone, Copy)]
-pub enum BoxMove {
-    BadMap,
-    TooFar,
-    To(Body),
-}
-
-// What it answers on a map that is one.
-#[derive(Clone, Copy)]
-pub enum BoxWalk {
-    TooFar,
-    To(Body),
-}
-
 // Moves a box by its velocity, turn by turn.
-pub fn move_box(sides: Sides, tiles: &[u8], pos: vec2, vel: vec2, box_: vec2) -> BoxMove
+pub fn move_box(
+    sides: Sides,
+    tiles: &[u8],
+    pos: vec2,
+    vel: vec2,
+    box_: vec2,
+) -> Result<Body, Refusal>
     ensures { result ≡ move_box sides tiles.now pos vel box_ }
 {
     if is_map(sides, tiles) {
-        return match walk_box(sides, tiles, pos, vel, box_) {
-            BoxWalk::TooFar => BoxMove::TooFar,
-            BoxWalk::To(body) => BoxMove::To(body),
-        };
+        return walk_box(sides, tiles, pos, vel, box_);
     }
-    BoxMove::BadMap
+    Err(Refusal::BadMap)
 }
 
 // The same on a map that is known to be one.
-pub fn walk_box(sides: Sides, tiles: &[u8], pos: vec2, vel: vec2, box_: vec2) -> BoxWalk
+pub fn walk_box(
+    sides: Sides,
+    tiles: &[u8],
+    pos: vec2,
+    vel: vec2,
+    box_: vec2,
+) -> Result<Body, Refusal>
     requires { T (is_map sides tiles.now) }
     ensures { result ≡ walk_box sides tiles.now pos vel box_ }
 {
     let turns = box_turns(vel.length());
     if turns > MOST_TURNS {
-        return BoxWalk::TooFar;
+        return Err(Refusal::TooFar);
     }
-    BoxWalk::To(box_turns_taken(
+    Ok(box_turns_taken(
         sides,
         tiles,
         Body { pos: pos, vel: vel },
@@ -124,7 +119,7 @@ fn is_stuck(sides: Sides, tiles: &[u8], body: Body, fraction: f32, box_: vec2) -
 {
     let pos = body.pos;
     let vel = body.vel;
-    let new_pos = pos.add(vel.mul(fraction));
+    let new_pos = pos + vel * fraction;
     if check_box(sides, tiles, new_pos, box_) {
         if check_box(sides, tiles, vec2::new(pos.x, new_pos.y), box_) {
             return check_box(sides, tiles, vec2::new(new_pos.x, pos.y), box_);
@@ -167,7 +162,7 @@ fn long_stretch(
     }
     let start = body.pos;
     let vel = body.vel;
-    let end = way_end(start, vel.mul(fraction), turns);
+    let end = way_end(start, vel * fraction, turns);
     if is_clear_way(sides, tiles, start, end, box_) {
         return Body { pos: end, vel: vel };
     }
@@ -196,7 +191,7 @@ fn stretch(sides: Sides, tiles: &[u8], body: Body, fraction: f32, box_: vec2, tu
     let start = body.pos;
     let vel = body.vel;
     if turns > 2 {
-        let end = way_end(start, vel.mul(fraction), turns);
+        let end = way_end(start, vel * fraction, turns);
         if is_clear_way(sides, tiles, start, end, box_) {
             return Body { pos: end, vel: vel };
         }
@@ -228,7 +223,7 @@ fn box_turn(sides: Sides, tiles: &[u8], body: Body, fraction: f32, box_: vec2) -
 {
     let pos = body.pos;
     let vel = body.vel;
-    let new_pos = pos.add(vel.mul(fraction));
+    let new_pos = pos + vel * fraction;
     if check_box(sides, tiles, new_pos, box_) {
         return blocked(sides, tiles, body, new_pos, box_);
     }

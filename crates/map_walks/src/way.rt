@@ -19,7 +19,7 @@ pub fn way_end(p: vec2, step: vec2, turns: u32) -> vec2
 {
     let mut at = p;
     for _ in 0..turns {
-        at = at.add(step);
+        at = at + step;
     }
     at
 }
@@ -29,7 +29,7 @@ pub fn is_clear_way(sides: Sides, tiles: &[u8], a: vec2, b: vec2, box_: vec2) ->
     requires { T (is_map sides tiles.now) }
     ensures { result ≡ is_clear_way sides tiles.now a b box_ }
 {
-    let half = box_.mul(0.5);
+    let half = box_ * 0.5;
     if !has_span(half.x, b.x) {
         return false;
     }
@@ -74,12 +74,10 @@ fn solid_among(sides: Sides, tiles: &[u8], columns: Span, rows: Span) -> bool
     requires { T (is_map sides tiles.now) × (columns.last < sides.width) × (rows.last < sides.height) }
     ensures { result ≡ solid_among sides tiles.now columns rows }
 {
-    let mut row = rows.first;
-    while row <= rows.last {
+    for row in rows.first..rows.last + 1 {
         if solid_in_row(sides, tiles, columns, row) {
             return true;
         }
-        row += 1;
     }
     false
 }
@@ -88,12 +86,10 @@ fn solid_in_row(sides: Sides, tiles: &[u8], columns: Span, row: u32) -> bool
     requires { T (is_map sides tiles.now) × (columns.last < sides.width) × (row < sides.height) }
     ensures { result ≡ solid_in_row sides tiles.now columns row }
 {
-    let mut column = columns.first;
-    while column <= columns.last {
+    for column in columns.first..columns.last + 1 {
         if is_solid_at(sides, tiles, column, row) {
             return true;
         }
-        column += 1;
     }
     false
 }

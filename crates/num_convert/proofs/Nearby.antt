@@ -1,5 +1,5 @@
 -- The nearest whole number is within 1/2 below 2 ^ 30, and the nearest 256th within 1/512 below 2 ^ 22. Assumes nothing.
-use Rattle.std.proofs.Common.{◌≡◌, ℕ, zero, suc, ◌+◌, ◌-◌, ◌*◌, ◌%◌, ◌^◌, ◌<◌, ◌≤◌, Bool, true, false, cond, not, T, ltb, ℤ, pos, negsuc, ◌-ℤ◌, ◌*ℤ◌, nat_abs, sym, refl, ap, ◌∙◌, lt_of_lt_of_le, mod-lt, mul_assoc, div-lt_iff_lt-mul, mul-lt-mul_of_pos_right, mul-pos, div-add-mod', zero-mul, mul-one, mul_right_comm, arith, lit<, ltb→lt, nltb→le, pow_pos}
+use Rattle.std.proofs.Common.{◌≡◌, ℕ, zero, suc, ◌+◌, ◌-◌, ◌*◌, ◌%◌, ◌^◌, ◌<◌, ◌≤◌, Bool, true, false, cond, not, T, ltb, pos, negsuc, ◌-ℤ◌, ◌*ℤ◌, nat_abs, sym, refl, ap, ◌∙◌, lt_of_lt_of_le, mod-lt, mul_assoc, div-lt_iff_lt-mul, mul-lt-mul_of_pos_right, mul-pos, div-add-mod', zero-mul, mul-one, mul_right_comm, arith, lit<, ltb→lt, nltb→le, pow_pos}
 use lib.IntN.{sub_ℕ}
 use lib.Ieee.{Float, nan, inf, fin, binary32, up, down, fits, mul}
 use lib.Ieee.Fits.{down_pos}

@@ -1,5 +1,5 @@
 -- `whole_of` of a value, by its pattern. Assumes nothing.
-use Rattle.std.proofs.Common.{◌≡◌, ℕ, zero, suc, ◌+◌, ◌-◌, ◌*◌, ◌/◌, ◌%◌, ◌^◌, ◌<◌, ◌≤◌, min, Bool, true, false, cond, not, T, eqb, ◌⊎◌, ℤ, pos, ◌-ℤ◌, neg_ℤ, sym, refl, ap, ◌∙◌, subst, inl, inr, le_trans, le_of_eq, le-add_right, mul-le-mul_right, mul_assoc, eq-or-lt_of_le, mul-le-mul_left, mul-pos, le-div_iff_mul-le, arith, lit<, lit≤, pow_pos, pow_mono, w32, Fits, SFits}
+use Rattle.std.proofs.Common.{◌≡◌, ℕ, zero, suc, ◌+◌, ◌-◌, ◌*◌, ◌/◌, ◌%◌, ◌^◌, ◌<◌, ◌≤◌, min, Bool, true, false, cond, not, T, eqb, ◌⊎◌, ℤ, pos, ◌-ℤ◌, neg_ℤ, sym, refl, ap, ◌∙◌, subst, inl, inr, le_trans, le_of_eq, le-add_right, mul-le-mul_right, mul_assoc, eq-or-lt_of_le, mul-le-mul_left, mul-pos, le-div_iff_mul-le, arith, lit<, lit≤, pow_pos, pow_mono, w32, SFits}
 use lib.IntN.{+ℤ_idl}
 use lib.Signed.{mag}
 use lib.Ieee.{Float, nan, inf, fin, binary32, up, down, of_fields, of_bits, fits, is_nan, ne, to_signed}

@@ -1,13 +1,14 @@
 -- Below 256 an f32 times 65,536 is exact, so that the code's cut of it is the definition's. Assumes nothing.
-use Rattle.std.proofs.Common.{◌≡◌, ℕ, zero, suc, ◌+◌, ◌-◌, ◌*◌, ◌/◌, ◌^◌, ◌<◌, ◌≤◌, min, Bool, true, false, not, ◌&&◌, ◌||◌, T, eqb, ◌⊎◌, ℤ, pos, sym, refl, ap, ◌∙◌, subst, ap₂, inl, inr, true≢false, le_of_eq, lt_of_lt_of_le, lt_of_le_of_lt, lt_irrefl, mul_assoc, div-lt_iff_lt-mul, eq-zero-or-pos, lt_of_mul-lt-mul_right, mul-lt-mul_of_pos_right, mul-pos, le-div_iff_mul-le, zero-mul, mul-one, mul_right_comm, arith, lit<, lit≤, eqb→eq, ltb→lt, lt→ltb, pow-add, ltb-false, ltb-true}
+use Rattle.std.proofs.Common.{◌≡◌, ℕ, zero, suc, ◌+◌, ◌-◌, ◌*◌, ◌/◌, ◌^◌, ◌<◌, ◌≤◌, min, Bool, true, false, not, ◌&&◌, ◌||◌, T, eqb, ◌⊎◌, ℤ, pos, sym, refl, ap, ◌∙◌, subst, ap₂, inl, inr, true≢false, le_of_eq, lt_of_lt_of_le, lt_of_le_of_lt, lt_irrefl, mul_assoc, div-lt_iff_lt-mul, eq-zero-or-pos, lt_of_mul-lt-mul_right, mul-lt-mul_of_pos_right, le-div_iff_mul-le, zero-mul, mul-one, mul_right_comm, arith, lit<, lit≤, eqb→eq, ltb→lt, lt→ltb, pow-add, ltb-false, ltb-true}
 use mathlib.Core.Bool.{beq}
 use native.Mathlib.Nat.{zero-div}
 use lib.Ieee.{Float, nan, inf, fin, binary32, up, down, mul, neg, lt, eq, fits, to_unsigned, is_nan}
-use lib.Ieee.Fits.{up_pos, down_pos, and_l, neg-fits}
+use lib.Ieee.Fits.{down_pos, and_l, neg-fits}
 use lib.Ieee.Exact.{HasValue, round_exact}
 use lib.Ieee.Nearest.{div_same}
 use lib.Ieee.Positive.{above}
 use Rattle.base_binary32.proofs.Grid.{on_grid}
+use Rattle.std.specs.Float.{float_with_sign}
 use Rattle.num_ramp.specs.Power.{parts}
 
 abbrev zero32 : Float
@@ -133,28 +134,16 @@ some s m x z = go (eq-zero-or-pos m)
     go (inl e) = absurd (true≢false (sym (zero_is s m x (ap (λ (n : ℕ). n * up x * 1) e ∙ ap (λ (n : ℕ). n * 1) (zero-mul (up x)))) ∙ z))
     go (inr h) = h
 
--- where e is no NaN and not 0, the size that the code finds is above 0, and is counted as e is
-abbrev pub Size : Float → Float → Type 0
-Size e a = ((lt e zero32 ≡ true) × (a ≡ neg e)) ⊎ ((lt e zero32 ≡ false) × (a ≡ e))
+-- where e is no NaN and not 0, its size a is above 0, and is counted as e is
+pub sized : (e a : Float) → a ≡ float_with_sign false e → T (not (is_nan e)) → eq e zero32 ≡ false → T (above a) × (parts a ≡ parts e)
+unfolding is_nan parts float_with_sign
+sized nan a d n z = absurd n
+sized (inf s) a d n z = subst (λ (b : Float). T (above b) × (parts b ≡ 16777215)) (sym d) (tt, refl)
+sized (fin s m x) a d n z = subst (λ (b : Float). T (above b) × (parts b ≡ parts (fin s m x))) (sym d) (lt→ltb 0 m (some s m x z), refl)
 
-pub sized : (e a : Float) → T (not (is_nan e)) → eq e zero32 ≡ false → Size e a → T (above a) × (parts a ≡ parts e)
-unfolding lt neg is_nan parts
-sized nan a n z d = absurd n
-sized (inf true) a n z (inl d) = subst (λ (b : Float). T (above b) × (parts b ≡ 16777215)) (sym d.1) (tt, refl)
-sized (inf true) a n z (inr d) = absurd (true≢false d.0)
-sized (inf false) a n z (inl d) = absurd (true≢false (sym d.0))
-sized (inf false) a n z (inr d) = subst (λ (b : Float). T (above b) × (parts b ≡ 16777215)) (sym d.1) (tt, refl)
-sized (fin true m x) a n z (inl d) = subst (λ (b : Float). T (above b) × (parts b ≡ parts (fin true m x))) (sym d.1) (lt→ltb 0 m (some true m x z), refl)
-sized (fin true m x) a n z (inr d) = absurd (low (m * up x) (down x) (mul-pos (some true m x z) (up_pos x)) (ltb-false 0 (m * up x * 1 + 0 * down x) d.0))
-  where
-    low : (a c : ℕ) → 0 < a → a * 1 + 0 * c ≤ 0 → ⊥
-    low a c h k = omega arith
-sized (fin false m x) a n z (inl d) = absurd (low (m * up x) (down x) (ltb-true (m * up x * 1) (0 * down x) d.0))
-  where
-    low : (a c : ℕ) → a * 1 < 0 * c → ⊥
-    low a c h = omega arith
-sized (fin false m x) a n z (inr d) = subst (λ (b : Float). T (above b) × (parts b ≡ parts (fin false m x))) (sym d.1) (lt→ltb 0 m (some false m x z), refl)
-
-pub sized_fits : (e a : Float) → T (fits binary32 e) → Size e a → T (fits binary32 a)
-sized_fits e a t (inl d) = subst (λ (b : Float). T (fits binary32 b)) (sym d.1) (neg-fits binary32 e t)
-sized_fits e a t (inr d) = subst (λ (b : Float). T (fits binary32 b)) (sym d.1) t
+pub sized_fits : (e a : Float) → a ≡ float_with_sign false e → T (fits binary32 e) → T (fits binary32 a)
+unfolding float_with_sign neg fits
+sized_fits nan a d t = subst (λ (b : Float). T (fits binary32 b)) (sym d) t
+sized_fits (inf s) a d t = subst (λ (b : Float). T (fits binary32 b)) (sym d) tt
+sized_fits (fin true m x) a d t = subst (λ (b : Float). T (fits binary32 b)) (sym d) (neg-fits binary32 (fin true m x) t)
+sized_fits (fin false m x) a d t = subst (λ (b : Float). T (fits binary32 b)) (sym d) t

@@ -7,15 +7,12 @@ use num_root::root;
 pub fn powf(c: f32, e: f32) -> f32
     ensures { result ≡ powf c e }
 {
-    if e != e {
+    if e.is_nan() {
         return e;
     }
     let k = parts(e);
     let p = roots(c, k, squares(c, k));
-    if e < 0.0 {
-        return 1.0 / p;
-    }
-    p
+    if e < 0.0 { 1.0 / p } else { p }
 }
 
 // The exponent's size in parts of 65,536, cut.
@@ -26,14 +23,12 @@ fn parts(e: f32) -> u64
     if e == 0.0 {
         return 0;
     }
-    let mut size = e;
-    if e < 0.0 {
-        size = -e;
-    }
+    let size = e.abs();
     if size < 256.0 {
-        return std::num::truncating_f32_to_u64(size * 65536.0);
+        std::num::truncating_f32_to_u64(size * 65536.0)
+    } else {
+        16777215
     }
-    16777215
 }
 
 // Bits 16 to 23 of k.

@@ -1,8 +1,8 @@
 -- The whole part of a root: `isqrt` is one, and the roots of n and of n * (T * T) go together. Assumes nothing.
 use mathlib.Core.Path.{◌≡◌, refl, sym, ap, ◌∙◌, subst}
 use mathlib.Core.Bool.{Bool, true, false, not, cond}
-use Prim.Native.Nat.{ℕ, zero, suc, ◌+◌, ◌-◌, ◌*◌, ◌/◌, ◌%◌, ◌^◌, ◌≤◌, ◌<◌, zero-le}
-use native.Mathlib.Nat.{le_trans, le_of_eq, le_of_lt, lt_of_lt_of_le, lt_of_le_of_lt, lt_of_not-le, not-le_of_lt, le_of_suc-le-suc, le_antisymm, mul-le-mul_right, mul-lt-mul_of_pos_right, mul-pos, mul_assoc, mul_comm, mul_left_comm, mul-mul-mul_comm, pow-suc, div-add-mod', mul-add, add-mul, add_assoc, add_comm, add_left_comm}
+use Prim.Native.Nat.{ℕ, zero, suc, ◌+◌, ◌*◌, ◌/◌, ◌%◌, ◌^◌, ◌≤◌, ◌<◌, zero-le}
+use native.Mathlib.Nat.{le_trans, le_of_eq, lt_of_lt_of_le, lt_of_le_of_lt, lt_of_not-le, not-le_of_lt, le_of_suc-le-suc, le_antisymm, mul-le-mul_right, mul-lt-mul_of_pos_right, mul-pos, mul_assoc, mul_comm, mul_left_comm, mul-mul-mul_comm, pow-suc, div-add-mod', mul-add, add-mul, add_assoc, add_comm, add_left_comm}
 use native.Mathlib.Omega.{arith}
 use lib.Dec.{T, leb, ltb, leb→le, nleb→lt, nltb→le}
 use lib.Ieee.{size}

@@ -4,7 +4,7 @@ use mathlib.Core.Logic.{inl, inr, ◌⊎◌}
 use mathlib.Core.Bool.{Bool, true, false, ◌&&◌, ◌||◌, true≢false}
 use Prim.Native.Nat.{ℕ, zero, suc, ◌+◌, ◌*◌, ◌≤◌, ◌<◌, zero-le}
 use native.Mathlib.Omega.{arith}
-use native.Mathlib.Nat.{le_trans, le_of_eq, le_of_lt, lt_irrefl, lt_of_lt_of_le, lt_of_le_of_lt, lt_trans, le_of_suc-le-suc, lt_of_not-le, mul-pos, mul_comm, mul_assoc, mul_left_comm, mul_right_comm, zero-mul, mul-le-mul_right, mul-lt-mul_of_pos_right, add_comm, zero-lt-suc}
+use native.Mathlib.Nat.{le_trans, le_of_eq, lt_irrefl, lt_of_lt_of_le, lt_of_le_of_lt, lt_trans, le_of_suc-le-suc, lt_of_not-le, mul-pos, mul_comm, mul_assoc, mul_left_comm, mul_right_comm, zero-mul, mul-le-mul_right, mul-lt-mul_of_pos_right, add_comm, zero-lt-suc}
 use lib.Dec.{T, ltb, eqb, ltb→lt, lt→ltb, eqb→eq}
 use lib.IntN.{ℤ, pos}
 use lib.Ieee.{Float, nan, inf, fin, binary32, up, down, fits, lt, eq, le}

@@ -5,7 +5,7 @@ ghost use Rattle.std.specs.Float.Ieee.{fits, of_bits};
 ghost use Rattle.std.specs.Float.Ieee.Exact.{HasValue};
 ghost use Rattle.num_root.specs.Root.{root};
 
-use crate::segments::{c0, c1, c2, c3};
+use crate::segments::row;
 
 // The square root, rounded to the nearest f32.
 pub fn root(x: f32) -> f32
@@ -32,13 +32,12 @@ fn root_bits(b: u32) -> u32
 {
     let e = b / 0x80_0000;
     let f = b % 0x80_0000;
-    let mut w = f + 0x80_0000;
-    let mut t = e + 148;
-    if e == 0 {
-        let z = u32::leading_zeros(f) - 8;
-        w = f << z;
-        t = 149 - z;
-    }
+    let (w, t) = if e == 0 {
+        let z = f.leading_zeros() - 8;
+        (f << z, 149 - z)
+    } else {
+        (f + 0x80_0000, e + 148)
+    };
     root_parts(w, t)
 }
 
@@ -60,10 +59,8 @@ fn isqrt(n: u64, guess: u64) -> u64
     ensures { (result * result ≤ n) × (n < (result + 1) * (result + 1)) }
 {
     let q = guess * guess;
-    if q <= n {
-        if n - q <= 2 * guess {
-            return guess;
-        }
+    if q <= n && n - q <= 2 * guess {
+        return guess;
     }
     raised(n, lowered(n, guess))
 }
@@ -96,10 +93,10 @@ fn raised(n: u64, s: u64) -> u64
 fn guess(v: u32) -> u64
     ensures { result < 2 ^ 25 }
 {
-    let k = (v / 0x8_0000 % 32) as u64;
+    let [c0, c1, c2, c3] = row((v / 0x8_0000 % 32) as usize);
     let d = (v % 0x8_0000) as u64;
-    let bend = c2(k) - scaled(c3(k), d);
-    (c0(k) + scaled(c1(k), d) - scaled(bend, scaled(d, d))) / 128 % 0x200_0000
+    let bend = c2 - scaled(c3, d);
+    (c0 + scaled(c1, d) - scaled(bend, scaled(d, d))) / 128 % 0x200_0000
 }
 
 // a times b / 2^19, cut.

@@ -12,7 +12,7 @@ use Rattle.world.specs.Run.{ran}
 use Rattle.world.specs.Step.{step_refused}
 use Rattle.world.specs.declared.call.Call.{Call}
 use Rattle.world.specs.declared.call.Call.TheVariants.{Join, Leave, Input, Step, Tune}
-use Rattle.world.specs.declared.reading.Reading.TheVariants as reading
+use Rattle.world.specs.ReadAnswer as reading
 use Rattle.role_rule.specs.Roles.{allowed, role_number, may_ask}
 use Rattle.role_rule.specs.declared.Ask.{Ask}
 use Rattle.role_rule.specs.declared.Ask.TheVariants as ask

@@ -3,12 +3,14 @@ ghost use Rattle.std.specs.Prelude.{◌≡◌};
 ghost use Rattle.map_tiles.specs.Map.{sides_of};
 ghost use Rattle.map_totals.specs.Calls.{build_in, area_in, change_in};
 
+use crate::answers::answer_with;
+use game_refusals::number_of_answer;
 use map_tiles::Sides;
 
 pub fn ponguriena_area_build(width: u32, height: u32, tiles: &[u8], totals: &mut [u32]) -> u32
     ensures { build_in (sides_of width height) tiles.now totals.old ≡ record { number = result; totals = totals.new } }
 {
-    map_area::build(Sides { width, height }, tiles, totals)
+    number_of_answer(map_area::build(Sides { width, height }, tiles, totals))
 }
 
 pub fn ponguriena_area_count(
@@ -24,14 +26,16 @@ pub fn ponguriena_area_count(
 ) -> u32
     ensures { area_in (sides_of width height) tiles.now totals.now left top columns rows count.old ≡ record { number = result; count = count.new } }
 {
-    map_area::area(
-        Sides { width, height },
-        tiles,
-        totals,
-        left,
-        top,
-        columns,
-        rows,
+    answer_with(
+        map_area::area(
+            Sides { width, height },
+            tiles,
+            totals,
+            left,
+            top,
+            columns,
+            rows,
+        ),
         count,
     )
 }
@@ -47,5 +51,5 @@ pub fn ponguriena_area_change(
 ) -> u32
     ensures { change_in (sides_of width height) tiles.old totals.old column row byte ≡ record { number = result; tiles = tiles.new; totals = totals.new } }
 {
-    map_area::change(Sides { width, height }, tiles, totals, column, row, byte)
+    number_of_answer(map_area::change(Sides { width, height }, tiles, totals, column, row, byte))
 }

@@ -7,8 +7,9 @@ ghost use Rattle.world_buffers.specs.Buffers.{fresh_in, join_in, leave_in, input
 ghost use Rattle.world_buffers.specs.Stepping.{step_in};
 ghost use Rattle.ponguriena.specs.ByRole.{call_as, step_as};
 
+use crate::answers::answer_with;
 use game_records::PlayerInput;
-use game_refusals::NOT_ALLOWED;
+use game_refusals::{Refusal, number_of_answer};
 use map_tiles::Sides;
 use role_calls::may_ask;
 use role_rule::Ask;
@@ -17,7 +18,7 @@ use world::Call;
 pub fn ponguriena_fresh(world: &mut [i32]) -> u32
     ensures { fresh_in world.old ≡ record { number = result; world = world.new } }
 {
-    world_buffers::fresh_in(world)
+    number_of_answer(world_buffers::fresh_in(world))
 }
 
 pub fn ponguriena_join(
@@ -33,18 +34,18 @@ pub fn ponguriena_join(
     ensures { call_as role (call.Join id x y) world.old (join_in (sides_of width height) tiles.now world.old id x y) ≡ record { number = result; world = world.new } }
 {
     if !may_ask(role, Ask::Call(Call::Join { id, x, y })) {
-        return NOT_ALLOWED;
+        return Refusal::NotAllowed.into();
     }
-    world_buffers::join_in(world, Sides { width, height }, tiles, id, x, y)
+    number_of_answer(world_buffers::join_in(world, Sides { width, height }, tiles, id, x, y))
 }
 
 pub fn ponguriena_leave(role: i32, world: &mut [i32], id: i32) -> u32
     ensures { call_as role (call.Leave id) world.old (leave_in world.old id) ≡ record { number = result; world = world.new } }
 {
     if !may_ask(role, Ask::Call(Call::Leave { id })) {
-        return NOT_ALLOWED;
+        return Refusal::NotAllowed.into();
     }
-    world_buffers::leave_in(world, id)
+    number_of_answer(world_buffers::leave_in(world, id))
 }
 
 pub fn ponguriena_input(
@@ -70,7 +71,7 @@ pub fn ponguriena_input(
             hook,
         }),
     ) {
-        return NOT_ALLOWED;
+        return Refusal::NotAllowed.into();
     }
     let values = PlayerInput {
         direction,
@@ -79,16 +80,16 @@ pub fn ponguriena_input(
         jump,
         hook,
     };
-    world_buffers::input_in(world, id, values)
+    number_of_answer(world_buffers::input_in(world, id, values))
 }
 
 pub fn ponguriena_tune(role: i32, world: &mut [i32], index: i32, value: i32) -> u32
     ensures { call_as role (call.Tune index value) world.old (tune_in world.old index value) ≡ record { number = result; world = world.new } }
 {
     if !may_ask(role, Ask::Call(Call::Tune { index, value })) {
-        return NOT_ALLOWED;
+        return Refusal::NotAllowed.into();
     }
-    world_buffers::tune_in(world, index, value)
+    number_of_answer(world_buffers::tune_in(world, index, value))
 }
 
 pub fn ponguriena_step(
@@ -104,14 +105,10 @@ pub fn ponguriena_step(
     ensures { step_as role world.old (record { records = records.entry.now; removed = removed.old; count = count.old }) (step_in (sides_of width height) tiles.now world.old (record { records = records.entry.now; removed = removed.old; count = count.old })) ≡ record { number = result; world = world.new; told = record { records = records.exit.now; removed = removed.new; count = count.new } } }
 {
     if !may_ask(role, Ask::Call(Call::Step)) {
-        return NOT_ALLOWED;
+        return Refusal::NotAllowed.into();
     }
-    world_buffers::step_in(
-        world,
-        Sides { width, height },
-        tiles,
-        records,
-        removed,
+    answer_with(
+        world_buffers::step_in(world, Sides { width, height }, tiles, records, removed),
         count,
     )
 }

@@ -4,6 +4,7 @@
 #![tactic(auto)]
 
 mod aim;
+mod answers;
 mod area;
 mod calls;
 mod layout;

@@ -4,7 +4,7 @@ ghost use Rattle.map_tiles.specs.Map.{sides_of};
 ghost use Rattle.search_calls.specs.Numbers.{search_in};
 ghost use Rattle.ponguriena.specs.ByRole.{search_as};
 
-use game_refusals::NOT_ALLOWED;
+use game_refusals::{Refusal, number_of_answer};
 use map_tiles::Sides;
 use role_calls::may_ask;
 use role_rule::Ask;
@@ -24,7 +24,7 @@ pub fn ponguriena_search(
     ensures { search_as role way.old (search_in (sides_of width height) tiles.now world.now id x y way.old) ≡ record { number = result; numbers = way.new } }
 {
     if !may_ask(role, Ask::Call(Call::Step)) {
-        return NOT_ALLOWED;
+        return Refusal::NotAllowed.into();
     }
-    search_calls::search_in(world, Sides { width, height }, tiles, id, x, y, way)
+    number_of_answer(search_calls::search_in(world, Sides { width, height }, tiles, id, x, y, way))
 }

@@ -4,6 +4,7 @@ ghost use Rattle.map_tiles.specs.Map.{sides_of};
 ghost use Rattle.character.specs.Tick.{seats};
 ghost use Rattle.trial_rule.specs.Calls.{trial_in};
 
+use game_refusals::number_of_answer;
 use map_tiles::Sides;
 
 pub fn ponguriena_trial(
@@ -18,7 +19,7 @@ pub fn ponguriena_trial(
 ) -> u32
     ensures { trial_in seats (sides_of width height) tiles.now joins.now targets.now tunings.now steps res.old ≡ record { number = result; result = res.new } }
 {
-    trial_runs::trial(
+    number_of_answer(trial_runs::trial(
         Sides { width, height },
         tiles,
         joins,
@@ -26,5 +27,5 @@ pub fn ponguriena_trial(
         tunings,
         steps,
         res,
-    )
+    ))
 }

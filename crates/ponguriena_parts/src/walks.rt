@@ -1,16 +1,14 @@
 // The walks of a line and of a box, and the tile of a point. Their answers are a refusal's number, or 0 with the values written through the references.
 ghost use Rattle.std.specs.Prelude.{cond, ◌≡◌};
 ghost use Rattle.num_vec2.specs.Vec2.{vnew};
-ghost use Rattle.map_walks.specs.Move.{move_box, box_number};
-ghost use Rattle.map_lines.specs.Line.{check_line, line_number};
-ghost use Rattle.game_refusals.specs.Refusals.{bad_map};
+ghost use Rattle.map_walks.specs.Move.{move_box};
+ghost use Rattle.map_lines.specs.Line.{check_line};
+ghost use Rattle.game_refusals.specs.Refusals.{bad_map, number_of_answer};
 ghost use Rattle.map_tiles.specs.Map.{sides_of, is_map, check_point};
 ghost use Rattle.ponguriena_parts.specs.Walks.{body_or, point_or, byte_of, tile_or};
 
-use game_refusals::{BAD_MAP, TOO_FAR};
-use map_lines::{LineCheck, LineHit};
+use game_refusals::Refusal;
 use map_tiles::{Sides, Tile, check_point, is_map};
-use map_walks::BoxMove;
 use num_vec2::vec2;
 
 pub fn ponguriena_move_box(
@@ -24,7 +22,7 @@ pub fn ponguriena_move_box(
     box_x: f32,
     box_y: f32,
 ) -> u32
-    ensures number { result ≡ box_number (move_box (sides_of width height) tiles.now (vnew pos_x.old pos_y.old) (vnew vel_x.old vel_y.old) (vnew box_x box_y)) }
+    ensures number { result ≡ number_of_answer (move_box (sides_of width height) tiles.now (vnew pos_x.old pos_y.old) (vnew vel_x.old vel_y.old) (vnew box_x box_y)) }
     ensures body { body_or pos_x.old pos_y.old vel_x.old vel_y.old (move_box (sides_of width height) tiles.now (vnew pos_x.old pos_y.old) (vnew vel_x.old vel_y.old) (vnew box_x box_y)) ≡ record { pos = vnew pos_x.new pos_y.new; vel = vnew vel_x.new vel_y.new } }
 {
     let sides = Sides { width, height };
@@ -36,17 +34,14 @@ pub fn ponguriena_move_box(
         vec2::new(box_x, box_y),
     );
     match moved {
-        BoxMove::BadMap => BAD_MAP,
-        BoxMove::TooFar => TOO_FAR,
-        BoxMove::To(body) => {
-            let pos = body.pos;
-            let vel = body.vel;
-            *pos_x = pos.x;
-            *pos_y = pos.y;
-            *vel_x = vel.x;
-            *vel_y = vel.y;
+        Ok(body) => {
+            *pos_x = body.pos.x;
+            *pos_y = body.pos.y;
+            *vel_x = body.vel.x;
+            *vel_y = body.vel.y;
             0
         }
+        Err(refusal) => refusal.into(),
     }
 }
 
@@ -62,7 +57,7 @@ pub fn ponguriena_check_line(
     point_y: &mut f32,
     tile: &mut u32,
 ) -> u32
-    ensures number { result ≡ line_number (check_line (sides_of width height) tiles.now (vnew from_x from_y) (vnew to_x to_y)) }
+    ensures number { result ≡ number_of_answer (check_line (sides_of width height) tiles.now (vnew from_x from_y) (vnew to_x to_y)) }
     ensures point { point_or point_x.old point_y.old (check_line (sides_of width height) tiles.now (vnew from_x from_y) (vnew to_x to_y)) ≡ vnew point_x.new point_y.new }
     ensures hit_tile { tile.new ≡ tile_or tile.old (check_line (sides_of width height) tiles.now (vnew from_x from_y) (vnew to_x to_y)) }
 {
@@ -74,20 +69,19 @@ pub fn ponguriena_check_line(
         vec2::new(to_x, to_y),
     );
     match check {
-        LineCheck::BadMap => BAD_MAP,
-        LineCheck::TooFar => TOO_FAR,
-        LineCheck::Met(hit) => match hit {
-            LineHit::Nothing => {
+        Ok(hit) => match hit {
+            None => {
                 *tile = 0;
                 0
             }
-            LineHit::At(p, t) => {
+            Some((p, t)) => {
                 *point_x = p.x;
                 *point_y = p.y;
                 *tile = byte_of(t);
                 0
             }
         },
+        Err(refused) => refused.into(),
     }
 }
 
@@ -108,7 +102,7 @@ pub fn ponguriena_check_point(
         *tile = byte_of(check_point(sides, tiles, vec2::new(x, y)));
         return 0;
     }
-    BAD_MAP
+    Refusal::BadMap as u32
 }
 
 fn byte_of(tile: Tile) -> u32

@@ -1,9 +1,9 @@
 // The walks of a line and of a box, and the tile of a point.
 ghost use Rattle.std.specs.Prelude.{cond, ◌≡◌};
 ghost use Rattle.num_vec2.specs.Vec2.{vnew};
-ghost use Rattle.map_walks.specs.Move.{move_box, box_number};
-ghost use Rattle.map_lines.specs.Line.{check_line, line_number};
-ghost use Rattle.game_refusals.specs.Refusals.{bad_map};
+ghost use Rattle.map_walks.specs.Move.{move_box};
+ghost use Rattle.map_lines.specs.Line.{check_line};
+ghost use Rattle.game_refusals.specs.Refusals.{bad_map, number_of_answer};
 ghost use Rattle.map_tiles.specs.Map.{sides_of, is_map, check_point};
 ghost use Rattle.ponguriena_parts.specs.Walks.{body_or, point_or, byte_of, tile_or};
 
@@ -19,7 +19,7 @@ pub extern "C" fn ponguriena_move_box(
     box_x: f32,
     box_y: f32,
 ) -> u32
-    ensures number { result ≡ box_number (move_box (sides_of width height) tiles.now (vnew pos_x.old pos_y.old) (vnew vel_x.old vel_y.old) (vnew box_x box_y)) }
+    ensures number { result ≡ number_of_answer (move_box (sides_of width height) tiles.now (vnew pos_x.old pos_y.old) (vnew vel_x.old vel_y.old) (vnew box_x box_y)) }
     ensures body { body_or pos_x.old pos_y.old vel_x.old vel_y.old (move_box (sides_of width height) tiles.now (vnew pos_x.old pos_y.old) (vnew vel_x.old vel_y.old) (vnew box_x box_y)) ≡ record { pos = vnew pos_x.new pos_y.new; vel = vnew vel_x.new vel_y.new } }
 {
     ponguriena_parts::ponguriena_move_box(
@@ -40,7 +40,7 @@ pub extern "C" fn ponguriena_check_line(
     point_y: &mut f32,
     tile: &mut u32,
 ) -> u32
-    ensures number { result ≡ line_number (check_line (sides_of width height) tiles.now (vnew from_x from_y) (vnew to_x to_y)) }
+    ensures number { result ≡ number_of_answer (check_line (sides_of width height) tiles.now (vnew from_x from_y) (vnew to_x to_y)) }
     ensures point { point_or point_x.old point_y.old (check_line (sides_of width height) tiles.now (vnew from_x from_y) (vnew to_x to_y)) ≡ vnew point_x.new point_y.new }
     ensures hit_tile { tile.new ≡ tile_or tile.old (check_line (sides_of width height) tiles.now (vnew from_x from_y) (vnew to_x to_y)) }
 {

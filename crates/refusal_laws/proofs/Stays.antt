@@ -7,14 +7,13 @@ use lib.Dec.{eqb, ltb}
 use lib.IntN.{ℤ, pos}
 use lib.ListN.{length, set}
 use borrow.Author.Tests.{ltb-true, eqb-true, eq-eqb}
+use Rattle.std.specs.Prelude.{Ok, Err}
 use Rattle.base_turns.specs.Turns.{Turn, more, stop}
 use Rattle.base_turns.proofs.Tests.{both}
 use Rattle.game_refusals.specs.Refusals.{bad_length}
 use Rattle.game_packed.specs.Lent.{LeftPacked, LeftUnpacked, left_unpacked, pack_in, unpack_in}
 use Rattle.game_packed.specs.Packed.{most_packed}
-use Rattle.game_packed.specs.Unpacked.{unpacked}
-use Rattle.game_packed.specs.declared.Unpacked.{Unpacked}
-use Rattle.game_packed.specs.declared.Unpacked.TheVariants as answer
+use Rattle.game_packed.specs.Unpacked.{Unpacked, unpacked}
 use Rattle.game_records.specs.Numbers.{core_count}
 use Rattle.game_tuning.specs.Tuning.{tuning_count, may_tune}
 use Rattle.map_tiles.specs.Map.{sides_of, is_map, count}
@@ -41,10 +40,9 @@ use Rattle.world_buffers.specs.Stepping.{StepBuffers, LeftByStep, left_by_step, 
 use Rattle.world_buffers.proofs.Refusals.{refusals_leave}
 use Rattle.world_buffers.proofs.Stands.{there}
 use Rattle.send_rule.specs.Send.{no_copies, fresh_screen}
-use Rattle.send_numbers.specs.Reading.{read_passed}
+use Rattle.send_numbers.specs.Reading.{PassedRead, read_passed}
 use Rattle.send_numbers.specs.Copies.{sender_count, screen_count, copies_encoding, screen_encoding}
-use Rattle.send_numbers.specs.declared.reading.PassedRead.{PassedRead}
-use Rattle.send_numbers.specs.declared.reading.PassedRead.TheVariants as passed
+use Rattle.std.specs.Prelude.{Ok, Err}
 use Rattle.send_buffers.specs.Sends.{LeftIn, fresh_buffer, SenderBuffers, has_room, sent_for, passes, passed_in, LeftBySend, send_in, LeftBySendStep, send_step_in}
 use Rattle.send_buffers.specs.Screens.{LeftByReceive, take_in, receive_in}
 use Rattle.send_buffers.proofs.Kept.{sent_left}
@@ -159,8 +157,8 @@ receive_stays s ts l ps used = by_test KeptScreen (has screen_count l) (λ e. ta
     KeptScreen a = Refuses a.number → (a.screen ≡ l) × (a.used ≡ used)
 
     taken : (p : PassedRead) → KeptScreen (take_in s ts l used p)
-    taken (passed.Refused k) z = (refl, refl)
-    taken (passed.Of p k) z = absurd (z refl)
+    taken (Err refusal) z = (refl, refl)
+    taken (Ok (p, k)) z = absurd (z refl)
 
 -- ---- no world
 pack_stays : (l : List ℤ) (bytes : List ℕ) (k : ℕ) → let a = pack_in l bytes k in Refuses a.number → (a.bytes ≡ bytes) × (a.count ≡ k)
@@ -175,9 +173,8 @@ unpack_stays bytes l used = by_test KeptRecord (eqb (length l) core_count) (λ e
     KeptRecord a = Refuses a.number → (a.numbers ≡ l) × (a.used ≡ used)
 
     read : (u : Unpacked) → KeptRecord (left_unpacked l used u)
-    read answer.Ends z = (refl, refl)
-    read answer.Wrong z = (refl, refl)
-    read (answer.Record n k) z = absurd (z refl)
+    read (Err fault) z = (refl, refl)
+    read (Ok told) z = absurd (z refl)
 
 -- refused with 1 or 14, or done
 on_map_lem : {A : Type 0} (P : A → Type 0) (s : Sides) (ts : List ℕ) (fits : Bool) (refused : ℕ → A) (a : A) → ((k : ℕ) → P (refused k)) → P a → P (on_map s ts fits refused a)

@@ -1,31 +1,39 @@
 // What each role may ask, and calls and reads by a role.
 ghost use Rattle.std.specs.Prelude.{◌≡◌};
 ghost use Rattle.character.specs.Tick.{seats};
+ghost use Rattle.world.specs.ReadAnswer.{read_answer};
+ghost use Rattle.world.specs.Step.{stepped};
 ghost use Rattle.role_rule.specs.Roles.{is_input_for, is_shown, allowed, called_as, read_as};
 
-use game_refusals::NOT_ALLOWED;
+use game_refusals::Refusal;
 use map_tiles::Sides;
 use role_rule::{Ask, Role};
-use world::{Call, Query, Reading, Stepped, World};
+use world::{AfterStep, Call, Query, Reading, World};
 use world_calls::read;
-use world_step::{refused, run_call};
+use world_step::run_call;
 
-pub fn call_as(role: Role, world: World, sides: Sides, tiles: &[u8], call: Call) -> Stepped
-    ensures { result ≡ called_as seats role sides tiles.now world call }
+pub fn call_as(
+    role: Role,
+    world: World,
+    sides: Sides,
+    tiles: &[u8],
+    call: Call,
+) -> Result<AfterStep, Refusal>
+    ensures { stepped seats world result ≡ called_as seats role sides tiles.now world call }
 {
     if allowed(role, Ask::Call(call)) {
         return run_call(world, sides, tiles, call);
     }
-    refused(world, NOT_ALLOWED)
+    Err(Refusal::NotAllowed)
 }
 
-pub fn read_as(role: Role, world: World, query: Query) -> Reading
-    ensures { result ≡ read_as seats role world query }
+pub fn read_as(role: Role, world: World, query: Query) -> Result<Reading, Refusal>
+    ensures { read_answer result ≡ read_as seats role world query }
 {
     if allowed(role, Ask::Read(query)) {
         return read(world, query);
     }
-    Reading::Refused(NOT_ALLOWED)
+    Err(Refusal::NotAllowed)
 }
 
 pub fn allowed(role: Role, ask: Ask) -> bool

@@ -21,8 +21,8 @@ use Rattle.world.specs.Step.{step_refused}
 use Rattle.world.specs.declared.call.Call.{Call}
 use Rattle.world.specs.declared.call.Call.TheVariants.{Join, Leave, Input, Step, Tune}
 use Rattle.world.specs.declared.reading.Query.TheVariants as query
-use Rattle.world.specs.declared.reading.Reading.TheVariants as reading
-use Rattle.world.specs.declared.Stepped.{Stepped}
+use Rattle.world.specs.ReadAnswer as reading
+use Rattle.world.specs.Answered.{Stepped}
 use Rattle.world.specs.declared.World.{World}
 use Rattle.world.proofs.Outcomes.{input_outcome, outcome_kept}
 use Rattle.world.proofs.Seats.{present_within}

@@ -13,8 +13,8 @@ use Rattle.world.specs.declared.call.Call.{Call}
 use Rattle.world.specs.declared.call.Call.TheVariants.{Input}
 use Rattle.world.specs.declared.reading.Query.{Query}
 use Rattle.world.specs.declared.reading.Query.TheVariants as query
-use Rattle.world.specs.declared.reading.Reading.{Reading}
-use Rattle.world.specs.declared.reading.Reading.TheVariants as reading
+use Rattle.world.specs.ReadAnswer.{ReadAnswer}
+use Rattle.world.specs.ReadAnswer as reading
 use Rattle.world.specs.declared.World.{World}
 use Rattle.role_rule.specs.Roles.{allowed, called_as, read_as}
 use Rattle.role_rule.specs.declared.Ask.{Ask}
@@ -32,7 +32,7 @@ pub record Request : Type 0 where
 -- all that is told: by a call its number, records and removed ids, by a read what was read
 pub data Said : Type 0 where
   called : Told → Said
-  read : Reading → Said
+  read : ReadAnswer → Said
 
 -- that, and the next world
 pub record Reply : Type 0 where

@@ -9,9 +9,9 @@ use Rattle.world.specs.declared.call.Call.{Call}
 use Rattle.world.specs.declared.call.Call.TheVariants.{Join, Leave, Input, Step, Tune}
 use Rattle.world.specs.declared.reading.Query.{Query}
 use Rattle.world.specs.declared.reading.Query.TheVariants as query
-use Rattle.world.specs.declared.reading.Reading.{Reading}
-use Rattle.world.specs.declared.reading.Reading.TheVariants as reading
-use Rattle.world.specs.declared.Stepped.{Stepped}
+use Rattle.world.specs.ReadAnswer.{ReadAnswer}
+use Rattle.world.specs.ReadAnswer as reading
+use Rattle.world.specs.Answered.{Stepped}
 use Rattle.world.specs.declared.World.{World}
 use Rattle.role_rule.specs.declared.Ask.{Ask}
 use Rattle.role_rule.specs.declared.Ask.TheVariants as ask
@@ -55,7 +55,7 @@ abbrev pub called_as : ℕ → Role → Sides → List ℕ → World → Call �
 called_as n role s ts w c = cond (allowed role (ask.Call c)) (ran n s ts w c) (step_refused n w not_allowed)
 
 -- a read by a role
-abbrev pub read_as : ℕ → Role → World → Query → Reading
+abbrev pub read_as : ℕ → Role → World → Query → ReadAnswer
 read_as n role w q = cond (allowed role (ask.Read q)) (read_of n w q) (reading.Refused not_allowed)
 
 -- ---- a role as one number

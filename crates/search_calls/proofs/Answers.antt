@@ -17,13 +17,14 @@ use Rattle.character.specs.declared.Slot.{Slot}
 use Rattle.world.specs.Calls.{place_of}
 use Rattle.world.specs.Readers.{seated}
 use Rattle.world.specs.declared.World.{World}
-use Rattle.world.specs.declared.reading.Seated.{Seated}
-use Rattle.world.specs.declared.reading.Seated.TheVariants as seat
 use Rattle.world_numbers.specs.Encoding.{world_count}
 use Rattle.world_numbers.specs.Decoding.{decoding}
 use Rattle.world_buffers.specs.Readers.{untold, told_as}
 use Rattle.search_rule.specs.Search.{Found, answer_of, search_from, search}
 use Rattle.search_calls.specs.Numbers.{way_count, found_numbers, search_told, search_in}
+use Rattle.std.specs.Prelude.{Result, Ok, Err}
+use Rattle.game_refusals.specs.declared.Refusal.{Refusal}
+use Rattle.game_refusals.specs.declared.Refusal.TheVariants.{BadId, Absent}
 
 module _ (s : Sides) (ts : List ℕ) (l : List ℤ) (id x y : ℤ) (out : List ℤ) where
   pub wrong_world : (length l ≡ world_count → ⊥) → search_in s ts l id x y out ≡ untold out bad_length
@@ -41,7 +42,7 @@ module _ (s : Sides) (ts : List ℕ) (l : List ℤ) (id x y : ℤ) (out : List �
       no_map e = rw (eq-eqb (length l) world_count h, eq-eqb (length out) way_count g, e)
 
       -- on a map, where z is who is at the id
-      pub searched : (z : Seated) → is_map s ts ≡ true → seated seats (decoding seats l) id ≡ z → search_in s ts l id x y out ≡ search_told out (search_from seats s ts (decoding seats l) id x y z)
+      pub searched : (z : Result Slot Refusal) → is_map s ts ≡ true → seated seats (decoding seats l) id ≡ z → search_in s ts l id x y out ≡ search_told out (search_from seats s ts (decoding seats l) id x y z)
       unfolding search_in search
       searched z e q = rw (eq-eqb (length l) world_count h, eq-eqb (length out) way_count g, e, q)
 
@@ -51,10 +52,10 @@ found_told out (more z) = refl
 found_told out (stop u) = refl
 
 -- somebody sits within the seats
-pub seat_within : (n : ℕ) (w : World) (id : ℤ) (x : Slot) → seated n w id ≡ seat.There x → place_of n id < n
+pub seat_within : (n : ℕ) (w : World) (id : ℤ) (x : Slot) → seated n w id ≡ Ok x → place_of n id < n
 unfolding seated
 seat_within n w id x = go (ltb (place_of n id) n) (slot_at w.slots (place_of n id)).present refl
   where
-    go : (b c : Bool) → ltb (place_of n id) n ≡ b → cond b (cond c (seat.There (slot_at w.slots (place_of n id))) (seat.Refused not_present)) (seat.Refused bad_id) ≡ seat.There x → place_of n id < n
+    go : (b c : Bool) → ltb (place_of n id) n ≡ b → cond b (cond c (Ok (slot_at w.slots (place_of n id))) (Err Absent)) (Err BadId) ≡ Ok x → place_of n id < n
     go true c l e = ltb-true (place_of n id) n l
     go false c l e = let z : ◌≡◌ {A = ℕ} 0 1 = cc in absurd (omega arith)

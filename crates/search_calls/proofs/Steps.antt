@@ -1,21 +1,20 @@
 -- A step of a way on numbers is the one of the world that they stand for. Assumes nothing.
 use Prim.Native.Nat.{ℕ, ◌+◌, ◌*◌, ◌<◌}
-use mathlib.Core.Bool.{true, false}
+use mathlib.Core.Bool.{Bool, true, false}
 use mathlib.Core.List.{List}
-use mathlib.Core.Path.{◌≡◌, sym, ap, ◌∙◌, subst}
+use mathlib.Core.Path.{◌≡◌, refl, sym, ap, ◌∙◌, subst}
 use native.Mathlib.Decide.{dec_lt}
 use native.Mathlib.Omega.{arith}
 use lib.Dec.{eqb, lit<}
 use lib.IntN.{ℤ, pos}
 use lib.ListN.{length, drop, get_or-eq_default}
 use lib.Seq.{get_or-take, get_or-drop}
-use borrow.Author.Tests.{eq-eqb, ne_eqb}
+use borrow.Author.Tests.{eq-eqb, ne_eqb, eqb-true, eqb-false}
 use mir.Syntax.{w32}
 use mir.Val.{to_z, of_z}
 use Rattle.num_convert.specs.Casts.{IsI32}
 use Rattle.num_convert.proofs.Signed.{read}
-use Rattle.game_records.specs.Numbers.{number_at, core_numbers}
-use Rattle.game_records.specs.Numbers.{number_at, core_numbers}
+use Rattle.game_records.specs.Numbers.{number_at, core_numbers, same_number}
 use Rattle.map_tiles.specs.declared.tiles.Sides.{Sides}
 use Rattle.character.specs.Tick.{seats, slot_at}
 use Rattle.world.specs.Calls.{place_of, input}
@@ -23,7 +22,7 @@ use Rattle.world.specs.Demand3.{record_at}
 use Rattle.world.specs.Settled.{Settled}
 use Rattle.world.specs.Step.{unpublished, step}
 use Rattle.world.specs.declared.Published.{Published}
-use Rattle.world.specs.declared.Stepped.{Stepped}
+use Rattle.world.specs.Answered.{Stepped}
 use Rattle.world.specs.declared.World.{World}
 use Rattle.world.specs.declared.call.Call.{Call}
 use Rattle.world.specs.declared.call.Call.TheVariants.{Input, Step}
@@ -56,6 +55,14 @@ every_i32 l k h = go (dec_lt k (length l))
 pub same_bits : (x y : ℤ) → IsI32 x → IsI32 y → of_z w32 x ≡ of_z w32 y → x ≡ y
 same_bits x y h k e = sym (read x h) ∙ ap (to_z w32) e ∙ read y k
 
+-- two numbers are the same where their bits are
+pub same_test : (x y : ℤ) → IsI32 x → IsI32 y → eqb (of_z w32 x) (of_z w32 y) ≡ same_number x y
+same_test x y h k = go (eqb (of_z w32 x) (of_z w32 y)) refl
+  where
+    go : (b : Bool) → eqb (of_z w32 x) (of_z w32 y) ≡ b → b ≡ same_number x y
+    go true e = sym (ap (λ (z : ℤ). same_number z y) (same_bits x y h k (eqb-true _ _ e)) ∙ number_self y)
+    go false e = sym (number_differs x y (λ q. eqb-false _ _ e (ap (of_z w32) q)))
+
 -- by the tests that decide it
 module _ (rs : List ℤ) (k : ℕ) (g : Goal) where
   abbrev x : ℤ
@@ -64,17 +71,13 @@ module _ (rs : List ℤ) (k : ℕ) (g : Goal) where
   abbrev y : ℤ
   y = number_at rs (record_count * k + 3)
 
-  pub is_there_lem : is_set (number_at rs (record_count * k)) ≡ true → x ≡ g.x → y ≡ g.y → true ≡ record_is_at rs k g
+  pub is_there_lem : is_set (number_at rs (record_count * k)) ≡ true → same_number x g.x ≡ true → same_number y g.y ≡ record_is_at rs k g
   unfolding record_is_at
-  is_there_lem e p q = rw (e, p, q, number_self g.x, number_self g.y)
+  is_there_lem e p = rw (e, p) refl
 
-  pub not_y : is_set (number_at rs (record_count * k)) ≡ true → x ≡ g.x → (y ≡ g.y → ⊥) → false ≡ record_is_at rs k g
+  pub not_x : is_set (number_at rs (record_count * k)) ≡ true → same_number x g.x ≡ false → false ≡ record_is_at rs k g
   unfolding record_is_at
-  not_y e p q = rw (e, p, number_self g.x, number_differs y g.y q)
-
-  pub not_x : is_set (number_at rs (record_count * k)) ≡ true → (x ≡ g.x → ⊥) → false ≡ record_is_at rs k g
-  unfolding record_is_at
-  not_x e p = rw (e, number_differs x g.x p)
+  not_x e p = rw (e, p) refl
 
   pub nobody : is_set (number_at rs (record_count * k)) ≡ false → false ≡ record_is_at rs k g
   unfolding record_is_at

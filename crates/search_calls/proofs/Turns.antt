@@ -12,7 +12,7 @@ use Rattle.base_turns.specs.Turns.{stop, run}
 use Rattle.base_turns.proofs.Loop.{Left, turn_on, turn_off, turn_end}
 use Rattle.map_tiles.specs.declared.tiles.Sides.{Sides}
 use Rattle.character.specs.Tick.{seats}
-use Rattle.world.specs.declared.Stepped.{Stepped}
+use Rattle.world.specs.Answered.{Stepped}
 use Rattle.world.specs.declared.World.{World}
 use Rattle.world_numbers.specs.Encoding.{each}
 use Rattle.search_rule.specs.Ways.{longest}

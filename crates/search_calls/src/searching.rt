@@ -1,5 +1,6 @@
 // The ways of one, two and three steps, the shorter first. Steps that ways of one length share are taken once.
 ghost use Rattle.std.specs.Prelude.{◌≡◌, ◌+◌, ◌*◌, ◌≤◌, ◌<◌, length};
+ghost use Rattle.game_refusals.specs.Refusals.{number_of_answer};
 ghost use Rattle.character.specs.Tick.{seats};
 ghost use Rattle.world.specs.Calls.{place_of};
 ghost use Rattle.world_numbers.specs.Encoding.{world_count};
@@ -10,10 +11,9 @@ ghost use Rattle.search_calls.specs.Numbers.{way_count, found_numbers, found_in,
 use crate::stepping::{CHOICES, buttons_at, copy_world, step_with};
 use base_rows::copy;
 use game_records::PlayerInput;
-use game_refusals::{BAD_LENGTH, BAD_MAP};
+use game_refusals::Refusal;
 use map_tiles::{Sides, is_map};
 use search_rule::Goal;
-use world::Seated;
 use world_buffers::seated_in;
 use world_numbers::WORLD;
 
@@ -92,23 +92,16 @@ pub fn search_in(
     x: i32,
     y: i32,
     way: &mut [i32],
-) -> u32
-    ensures { search_in sides tiles.now world.now id x y way.old ≡ record { number = result; numbers = way.new } }
+) -> Result<(), Refusal>
+    ensures { search_in sides tiles.now world.now id x y way.old ≡ record { number = number_of_answer result; numbers = way.new } }
 {
-    if world.len() != WORLD {
-        return BAD_LENGTH;
-    }
-    if way.len() != WAY {
-        return BAD_LENGTH;
+    if world.len() != WORLD || way.len() != WAY {
+        return Err(Refusal::BadLength);
     }
     if !is_map(sides, tiles) {
-        return BAD_MAP;
+        return Err(Refusal::BadMap);
     }
-    match seated_in(world, id) {
-        Seated::Refused(number) => number,
-        Seated::There(slot) => {
-            tell_way(world, sides, tiles, goal_of(id, x, y, slot.input), way);
-            0
-        }
-    }
+    let slot = seated_in(world, id)?;
+    tell_way(world, sides, tiles, goal_of(id, x, y, slot.input), way);
+    Ok(())
 }

@@ -75,15 +75,8 @@ fn record_is_at(records: &[i32], at: usize, goal: Goal) -> bool
     ensures { result ≡ record_is_at records.now at goal }
 {
     let place = RECORD * at;
-    if is_set(records[place]) {
-        // After the presence the record begins with its tick.
-        if records[place + 2] == goal.x {
-            if records[place + 3] == goal.y {
-                return true;
-            }
-        }
-    }
-    false
+    // After the presence the record begins with its tick.
+    is_set(records[place]) && records[place + 2] == goal.x && records[place + 3] == goal.y
 }
 
 // What is pressed, hook 0 and the stored target.
@@ -109,20 +102,19 @@ pub fn step_with(
     requires { (length world.old ≡ world_count) × Settled seats (decoding seats world.old) × (place_of seats goal.id < seats) }
     ensures { Took sides tiles.now goal buttons world.old result world.new }
 {
-    input_in(world, goal.id, input_with(goal, buttons));
+    // Where nobody is at the id the input is refused, and the step is taken all the same.
+    let _ = input_in(world, goal.id, input_with(goal, buttons));
     let mut records = [0i32; RECORDS];
     let mut removed = [0i32; SEATS];
-    let mut count = 0usize;
-    let number = step_in(world, sides, tiles, &mut records, &mut removed, &mut count);
-    if number == 0 {
-        let at = place_of(SEATS, goal.id);
+    if step_in(world, sides, tiles, &mut records, &mut removed).is_err() {
         return StepOutcome {
-            arrives: record_is_at(&records, at, goal),
-            goes_on: is_set(world[seat_place(at)]),
+            arrives: false,
+            goes_on: false,
         };
     }
+    let at = place_of(SEATS, goal.id);
     StepOutcome {
-        arrives: false,
-        goes_on: false,
+        arrives: record_is_at(&records, at, goal),
+        goes_on: is_set(world[seat_place(at)]),
     }
 }

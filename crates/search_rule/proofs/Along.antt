@@ -20,7 +20,7 @@ use Rattle.world.specs.Removal.{ids_in, is_in}
 use Rattle.world.specs.Run.{Told, told}
 use Rattle.world.specs.Step.{step}
 use Rattle.world.specs.World.{with_slot}
-use Rattle.world.specs.declared.Answer.{Answer}
+use Rattle.world.specs.Answered.{Answer}
 use Rattle.world.specs.declared.Published.{Published}
 use Rattle.world.specs.declared.World.{World}
 use Rattle.world.proofs.Outcomes.{Outcome, no, yes, Seated, input_outcome}

@@ -21,7 +21,6 @@ use Rattle.world.specs.Readers.{seated}
 use Rattle.world.specs.Run.{after}
 use Rattle.world.specs.Step.{step_on, step_refused, step}
 use Rattle.world.specs.declared.World.{World}
-use Rattle.world.specs.declared.reading.Seated.TheVariants as seat
 use Rattle.world.proofs.Outcomes.{Seated}
 use Rattle.search_rule.specs.Ways.{Way, IsWay}
 use Rattle.search_rule.specs.Search.{input_of_way, step_with, counts, Found, first_way, goal_of, Refused, NoWay, WayTo, answer_of, search_from, search}
@@ -31,6 +30,8 @@ use Rattle.search_rule.specs.declared.Goal.{Goal}
 use Rattle.search_rule.proofs.Along.{input_seat, leads_there, there_counts, lost_to_spikes}
 use Rattle.search_rule.proofs.Found.{Chooses, way_chosen}
 use Rattle.search_rule.proofs.Order.{only_first}
+use Rattle.std.specs.Prelude.{Ok, Err}
+use Rattle.game_refusals.specs.declared.Refusal.TheVariants.{BadId, Absent}
 
 no_number : (t : Found) → number_of (answer_of t) ≡ 0
 no_number (more z) = refl
@@ -71,7 +72,7 @@ module _ (n : ℕ) (s : Sides) (ts : List ℕ) (w : World) (id x y : ℤ) where
       slot : Slot
       slot = slot_at w.slots k
 
-      go : (a b c : Bool) → number_of (cond a (search_from n s ts w id x y (cond b (cond c (seat.There slot) (seat.Refused not_present)) (seat.Refused bad_id))) (Refused bad_map)) ≡ cond a (cond b (cond c (accepted (with_slot w k (with_input slot i))) (refused w not_present)) (refused w bad_id)).number bad_map
+      go : (a b c : Bool) → number_of (cond a (search_from n s ts w id x y (cond b (cond c (Ok slot) (Err Absent)) (Err BadId))) (Refused bad_map)) ≡ cond a (cond b (cond c (accepted (with_slot w k (with_input slot i))) (refused w not_present)) (refused w bad_id)).number bad_map
       go false b c = refl
       go true false c = refl
       go true true false = refl

@@ -13,14 +13,16 @@ use Rattle.world.specs.Readers.{seated}
 use Rattle.world.specs.Run.{input_of}
 use Rattle.world.specs.Step.{step}
 use Rattle.world.specs.declared.Published.{Published}
-use Rattle.world.specs.declared.Stepped.{Stepped}
+use Rattle.world.specs.Answered.{Stepped}
 use Rattle.world.specs.declared.World.{World}
-use Rattle.world.specs.declared.reading.Seated.{Seated}
-use Rattle.world.specs.declared.reading.Seated.TheVariants as seat
 use Rattle.game_records.specs.Numbers.{same_number}
 use Rattle.search_rule.specs.Ways.{Way, longest}
 use Rattle.search_rule.specs.declared.Buttons.{Buttons}
 use Rattle.search_rule.specs.declared.Goal.{Goal}
+use Rattle.std.specs.Prelude.{Result, Ok, Err}
+use Rattle.character.specs.declared.Slot.{Slot}
+use Rattle.game_refusals.specs.declared.Refusal.{Refusal}
+use Rattle.game_refusals.specs.Refusals.{number_of}
 
 -- ---- one step of a way
 
@@ -109,9 +111,9 @@ answer_of (more z) = NoWay
 answer_of (stop u) = WayTo u
 
 -- 2 where the id has no slot, 8 where nobody is there
-abbrev pub search_from : ℕ → Sides → List ℕ → World → ℤ → ℤ → ℤ → Seated → SearchAnswer
-search_from n s ts w id x y (seat.Refused k) = Refused k
-search_from n s ts w id x y (seat.There slot) = answer_of (first_way n s ts (goal_of id x y slot.input) w)
+abbrev pub search_from : ℕ → Sides → List ℕ → World → ℤ → ℤ → ℤ → Result Slot Refusal → SearchAnswer
+search_from n s ts w id x y (Err e) = Refused (number_of e)
+search_from n s ts w id x y (Ok slot) = answer_of (first_way n s ts (goal_of id x y slot.input) w)
 
 -- 1 where the map is none
 unfoldable pub search : ℕ → Sides → List ℕ → World → ℤ → ℤ → ℤ → SearchAnswer

@@ -19,34 +19,31 @@ use Rattle.character_motion.specs.Controls.{grounded}
 use Rattle.character.specs.Records.{from_net, to_net}
 use Rattle.character.specs.Tick.{steer}
 use Rattle.character.specs.declared.Character.{Character}
-use Rattle.character.specs.declared.records.Net.{Net}
-use Rattle.character.specs.declared.records.Net.TheVariants as net
-use Rattle.character.specs.declared.tick.HookFlight.{HookFlight}
-use Rattle.character.specs.declared.tick.HookFlight.TheVariants.{TooFar, To}
-use Rattle.character.specs.declared.walk.MovedAt.{MovedAt}
-use Rattle.character.specs.declared.walk.MovedAt.TheVariants as moved
 use Rattle.world.specs.Step.{of_net, record_of}
-use Rattle.world.specs.declared.Recorded.{Recorded}
-use Rattle.world.specs.declared.Recorded.TheVariants.{Refused, Core}
-use Rattle.world.specs.declared.Stepped.{Stepped}
+use Rattle.world.specs.Answered.{Stepped}
 use Rattle.send_rule.specs.Send.{copy_at, alone, stepped_to, staying, step_copy, step_turn, step_copies}
 use Rattle.send_rule.specs.declared.Copy.{Copy}
 use Rattle.send_alone.specs.Alone.{flown_to, record_alone, step_alone, ToldAlone, after_alone, copy_alone, alone_turn, copies_alone, CopiesAlone}
 use Rattle.send_alone.proofs.Alone.{steps_alone}
+use Rattle.std.specs.Prelude.{Result, Ok, Err}
+use Rattle.character_hook.specs.declared.hook.Hook.{Hook}
+use Rattle.game_refusals.specs.declared.Refusal.{Refusal}
+use Rattle.game_refusals.specs.declared.Refusal.TheVariants.{BadMap}
+use Rattle.game_refusals.specs.Refusals.{number_of}
 
 -- ---- a refusal has a number
-abbrev Numbered : Recorded → Type 0
-Numbered (Refused r) = r ≡ 0 → ⊥
-Numbered (Core core) = Unit {0}
+abbrev Numbered : Result CharacterCore Refusal → Type 0
+Numbered (Err r) = number_of r ≡ 0 → ⊥
+Numbered (Ok core) = Unit {0}
 
-net_numbered : (a : Net) → Numbered (of_net a)
-net_numbered net.TickTooLarge = λ e. omega (arith, e)
-net_numbered (net.Core core) = tt
+net_numbered : (a : Result CharacterCore Refusal) → Numbered (of_net a)
+net_numbered (Err e) = λ e. omega (arith, e)
+net_numbered (Ok core) = tt
 
-record_numbered : (m : MovedAt) → Numbered (record_of m)
+record_numbered : (m : Result Character Refusal) → Numbered (record_of m)
 unfolding record_of
-record_numbered moved.TooFar = λ e. omega (arith, e)
-record_numbered (moved.To c) = net_numbered (to_net c)
+record_numbered (Err e) = λ e. omega (arith, e)
+record_numbered (Ok c) = net_numbered (to_net c)
 
 step_numbered : (s : Sides) (ts : List ℕ) (t : Tuning) (core : CharacterCore) (i : PlayerInput) → Numbered (step_alone s ts t core i)
 unfolding step_alone
@@ -56,18 +53,18 @@ step_numbered s ts t core i =
     let f = flown_to (flown d.hook c.pos s ts t) in
     chosen (is_map s ts) (record_alone s ts t d f) (flies d f)
   where
-    flies : (c : Character) (f : HookFlight) → Numbered (record_alone s ts t c f)
-    flies c TooFar = λ e. omega (arith, e)
-    flies c (To h) = record_numbered _
+    flies : (c : Character) (f : Result Hook Refusal) → Numbered (record_alone s ts t c f)
+    flies c (Err e) = λ e. omega (arith, e)
+    flies c (Ok h) = record_numbered _
 
-    chosen : (b : Bool) (r : Recorded) → Numbered r → Numbered (cond b r (Refused 1))
+    chosen : (b : Bool) (r : Result CharacterCore Refusal) → Numbered r → Numbered (cond b r (Err BadMap))
     chosen true r n = n
     chosen false r n = λ e. omega (arith, e)
 
 -- ---- a copy's step
-tells : (s : Sides) (ts : List ℕ) (k : ℕ) (c : Copy) (a : Stepped) (r : Recorded) → ToldAlone s ts k a r → Numbered r → stepped_to k c a ≡ after_alone s ts c r
-tells s ts k c a (Refused q) e n = rw (e, ne_eqb q 0 n)
-tells s ts k c a (Core core) (e, f, g) n = rw (e, f, g)
+tells : (s : Sides) (ts : List ℕ) (k : ℕ) (c : Copy) (a : Stepped) (r : Result CharacterCore Refusal) → ToldAlone s ts k a r → Numbered r → stepped_to k c a ≡ after_alone s ts c r
+tells s ts k c a (Err q) e n = rw (e, ne_eqb (number_of q) 0 n)
+tells s ts k c a (Ok core) (e, f, g) n = rw (e, f, g)
 
 copy_alone_lem : (n : ℕ) (s : Sides) (ts : List ℕ) (tunings : List ℤ) (k : ℕ) (c : Copy) → k < n → step_copy n s ts tunings k c ≡ copy_alone s ts (tuning_of tunings) c
 unfolding step_copy copy_alone
@@ -84,10 +81,10 @@ unfolding step_copies copies_alone
 copies_alone_lem n s ts tunings cs = turns_alone n s ts tunings n 0 cs (omega arith)
 
 -- ---- a record is taken on a map alone
-pub taken_on_map : (s : Sides) (ts : List ℕ) (t : Tuning) (core left : CharacterCore) (i : PlayerInput) → step_alone s ts t core i ≡ Core left → is_map s ts ≡ true
+pub taken_on_map : (s : Sides) (ts : List ℕ) (t : Tuning) (core left : CharacterCore) (i : PlayerInput) → step_alone s ts t core i ≡ Ok left → is_map s ts ≡ true
 unfolding step_alone
 taken_on_map s ts t core left i = go (is_map s ts) _
   where
-    go : (b : Bool) (r : Recorded) → cond b r (Refused 1) ≡ Core left → b ≡ true
+    go : (b : Bool) (r : Result CharacterCore Refusal) → cond b r (Err BadMap) ≡ Ok left → b ≡ true
     go true r e = refl
     go false r e = let z : ◌≡◌ {A = ℕ} 0 1 = cc in absurd (omega arith)

@@ -16,31 +16,27 @@ use Rattle.num_vec2.specs.declared.vec2.{vec2}
 use Rattle.game_records.specs.declared.PlayerInput.{PlayerInput}
 use Rattle.game_tuning.specs.declared.Tuning.{Tuning}
 use Rattle.map_tiles.specs.declared.tiles.Sides.{Sides}
-use Rattle.map_walks.specs.declared.moves.BoxWalk.{BoxWalk}
-use Rattle.map_walks.specs.declared.moves.BoxWalk.TheVariants as box
 use Rattle.character_hook.specs.Dragging.{dragged}
 use Rattle.character_hook.specs.Flying.{flown}
 use Rattle.character_hook.specs.Hooking.{grab, hold}
 use Rattle.character_hook.specs.declared.hook.Hook.{Hook}
-use Rattle.character_hook.specs.declared.hooking.Nearest.TheVariants as near
 use Rattle.character_hook.specs.declared.flying.Way.{Way}
 use Rattle.character_hook.specs.declared.flying.Way.TheVariants as way
 use Rattle.character_motion.specs.Controls.{grounded}
 use Rattle.character_walk.specs.Walking.{ramped_move, player_turns}
 use Rattle.character_meeting.specs.declared.meeting.HookPull.{HookPull}
-use Rattle.character_meeting.specs.declared.meeting.HookPull.TheVariants as pull
 use Rattle.character.specs.Tick.{slot_at, steer, nearest_turn, nearest, caught, flight, meet_turn, meet_all, pull_from, pull_of, hooked, ticked, tick_at}
 use Rattle.character.specs.Walk.{is_close, slot_turn, walk_turn, or_to, walk_among, player_walk, rested, after_box, move_at}
 use Rattle.character.specs.declared.Character.{Character}
 use Rattle.character.specs.declared.Slot.{Slot}
-use Rattle.character.specs.declared.tick.HookFlight.{HookFlight}
-use Rattle.character.specs.declared.tick.HookFlight.TheVariants.{TooFar, To}
-use Rattle.character.specs.declared.tick.TickedAt.{TickedAt}
-use Rattle.character.specs.declared.tick.TickedAt.TheVariants as at
 use Rattle.character_laws.proofs.Choices.{either, on_grabbed_lem}
 use Rattle.world.proofs.Seats.{by_test}
 use Rattle.send_alone.specs.Alone.{flown_to, hooked_alone, rest_alone, after_box_alone, move_alone}
 use Rattle.send_alone.proofs.Only.{none_acts}
+use Rattle.std.specs.Prelude.{Option, None, Result, Ok, Err}
+use Rattle.character.specs.declared.tick.AfterTick.{AfterTick}
+use Rattle.map_walks.specs.declared.moves.Body.{Body}
+use Rattle.game_refusals.specs.declared.Refusal.{Refusal}
 
 -- nobody is there but k
 abbrev pub Lonely : ℕ → List Slot → Type 0
@@ -51,9 +47,9 @@ same true x = refl
 same false x = refl
 
 -- what a tick that is not refused leaves of somebody alone
-abbrev pub ticked_to : Character → Bool → Tuning → HookFlight → TickedAt
-ticked_to c g t TooFar = at.TooFar
-ticked_to c g t (To h) = at.To (record { me = hooked_alone c h t; pull = pull.Nobody; grounded = g })
+abbrev pub ticked_to : Character → Bool → Tuning → Result Hook Refusal → Result AfterTick Refusal
+ticked_to c g t (Err e) = Err e
+ticked_to c g t (Ok h) = Ok (record { me = hooked_alone c h t; pull = None; grounded = g })
 
 module _ (n k : ℕ) (ss : List Slot) (lone : Lonely k ss) where
   -- a test of another's presence: itself, or nobody
@@ -61,33 +57,33 @@ module _ (n k : ℕ) (ss : List Slot) (lone : Lonely k ss) where
   skips j x y = by_test (λ z. z ≡ x) (eqb j k) (λ e. refl) (λ e. rw (lone j (eqb-false j k e)))
 
   -- ---- the tick
-  nearest-nobody : (from to : vec2) → nearest n ss k from to ≡ near.Nobody
+  nearest-nobody : (from to : vec2) → nearest n ss k from to ≡ None
   unfolding nearest
-  nearest-nobody from to = fold-kept (nearest_turn ss k from to) (λ b. b ≡ near.Nobody) (λ j b e. skips j b _ ∙ e) n 0 near.Nobody refl
+  nearest-nobody from to = fold-kept (nearest_turn ss k from to) (λ b. b ≡ None) (λ j b e. skips j b _ ∙ e) n 0 None refl
 
-  caught-nobody : (w : Way) (hooking : Float) → caught n w k ss hooking ≡ flown_to w
+  caught-nobody : (w : Result Way Refusal) (hooking : Float) → caught n w k ss hooking ≡ flown_to w
   unfolding caught grab
-  caught-nobody way.TooFar hooking = refl
-  caught-nobody (way.Still h) hooking = refl
-  caught-nobody (way.Along from to h) hooking = rw (nearest-nobody from to) (ap To (same (ne hooking c0) h))
+  caught-nobody (Err e) hooking = refl
+  caught-nobody (Ok (way.Still h)) hooking = refl
+  caught-nobody (Ok (way.Along from to h)) hooking = rw (nearest-nobody from to) (ap Ok (same (ne hooking c0) h))
 
   meet-nobody : (p v : vec2) (h : Hook) (t : Tuning) → meet_all n ss k p v h t ≡ v
   unfolding meet_all
   meet-nobody p v h t = fold-kept (meet_turn ss k p h t) (λ w. w ≡ v) (λ j w e. skips j w _ ∙ e) n 0 v refl
 
-  pull-nobody : (p : vec2) (h : Hook) (t : Tuning) → pull_of n ss k p h t ≡ pull.Nobody
+  pull-nobody : (p : vec2) (h : Hook) (t : Tuning) → pull_of n ss k p h t ≡ None
   unfolding pull_of
   pull-nobody p h t =
-      let Is : HookPull → Type 0 = λ x. x ≡ pull.Nobody in
-      on_grabbed_lem Is pull.Nobody refl (pull_from n ss k p t) h (λ c m. either Is (ltb c.0 n) (skips c.0 pull.Nobody _) refl)
+      let Is : Option HookPull → Type 0 = λ x. x ≡ None in
+      on_grabbed_lem Is None refl (pull_from n ss k p t) h (λ c m. either Is (ltb c.0 n) (skips c.0 None _) refl)
 
-  hooked-nobody : (c : Character) (g : Bool) (h : Hook) (t : Tuning) → hooked n c g h k ss t ≡ record { me = hooked_alone c h t; pull = pull.Nobody; grounded = g }
+  hooked-nobody : (c : Character) (g : Bool) (h : Hook) (t : Tuning) → hooked n c g h k ss t ≡ record { me = hooked_alone c h t; pull = None; grounded = g }
   unfolding hooked
   hooked-nobody c g h t = rw (meet-nobody c.pos (dragged h c.pos c.vel c.move_direction t) (hold h t.hook_hold) t, pull-nobody c.pos (hold h t.hook_hold) t)
 
-  ticked-nobody : (c : Character) (g : Bool) (t : Tuning) (f : HookFlight) → ticked n c g k ss t f ≡ ticked_to c g t f
-  ticked-nobody c g t TooFar = refl
-  ticked-nobody c g t (To h) = ap at.To (hooked-nobody c g h t)
+  ticked-nobody : (c : Character) (g : Bool) (t : Tuning) (f : Result Hook Refusal) → ticked n c g k ss t f ≡ ticked_to c g t f
+  ticked-nobody c g t (Err e) = refl
+  ticked-nobody c g t (Ok h) = ap Ok (hooked-nobody c g h t)
 
   pub tick_lonely : (c : Character) (s : Sides) (ts : List ℕ) (i : PlayerInput) (t : Tuning) → let g = grounded s ts c.pos in let d = steer c g i t in tick_at n c k ss s ts i t ≡ ticked_to d g t (flown_to (flown d.hook c.pos s ts t))
   unfolding tick_at
@@ -123,6 +119,6 @@ module _ (n k : ℕ) (ss : List Slot) (lone : Lonely k ss) where
   unfolding move_at move_alone
   move_lonely c s ts t = go (ramped_move s ts c.pos c.vel t)
     where
-      go : (b : BoxWalk) → after_box n c k ss t b ≡ after_box_alone c t b
-      go box.TooFar = refl
-      go (box.To b) = ap (rested c b.vel) (rest_nobody c.pos b.pos t.player_collision)
+      go : (b : Result Body Refusal) → after_box n c k ss t b ≡ after_box_alone c t b
+      go (Err e) = refl
+      go (Ok b) = ap (rested c b.vel) (rest_nobody c.pos b.pos t.player_collision)

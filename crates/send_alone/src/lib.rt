@@ -1,23 +1,20 @@
 // The step of a seat that is alone in its world, without a walk over the other seats: a tick and a move that meet nobody.
 #![tactic(auto)]
 
-ghost use Rattle.std.specs.Prelude.{◌≡◌, T};
+ghost use Rattle.std.specs.Prelude.{◌≡◌, T, Ok};
 ghost use Rattle.map_tiles.specs.Map.{is_map};
-ghost use Rattle.send_alone.specs.Alone.{flown_to, hooked_alone, rest_alone, move_alone, record_alone, step_alone};
+ghost use Rattle.send_alone.specs.Alone.{flown_to, hooked_alone, rest_alone, move_alone, step_alone};
 
-use character::{Character, MovedAt, PlayerWalk};
+use character::Character;
 use character_hook::{Hook, Way};
 use character_motion::{clamp_speed, grounded};
 use character_walk::{player_turns, ramped_move};
 use game_records::{CharacterCore, PlayerInput};
-use game_refusals::{BAD_MAP, TOO_FAR};
+use game_refusals::Refusal;
 use game_tuning::Tuning;
 use map_lines::MOST_TURNS;
 use map_tiles::{Sides, is_map};
-use map_walks::BoxWalk;
 use num_vec2::vec2;
-use world::Recorded;
-use world_step::record_of;
 
 // The record that a step takes of a seat that is alone, as its last record and its input have it.
 pub fn step_alone(
@@ -26,7 +23,7 @@ pub fn step_alone(
     sides: Sides,
     tiles: &[u8],
     tuning: Tuning,
-) -> Recorded
+) -> Result<CharacterCore, Refusal>
     ensures { result ≡ step_alone sides tiles.now tuning core input }
 {
     if is_map(sides, tiles) {
@@ -34,31 +31,20 @@ pub fn step_alone(
         let pos = me.pos;
         let steered = me.steer(grounded(sides, tiles, pos), input, tuning);
         let fired = steered.hook;
-        let way = fired.flown(pos, sides, tiles, tuning);
-        return record_alone(steered, way, sides, tiles, tuning);
+        let hook = end_of(fired.flown(pos, sides, tiles, tuning)?);
+        let moved = move_alone(hooked_alone(steered, hook, tuning), sides, tiles, tuning)?;
+        return moved.to_net();
     }
-    Recorded::Refused(BAD_MAP)
+    Err(Refusal::BadMap)
 }
 
 // A hook that flew meets nobody.
-fn record_alone(me: Character, way: Way, sides: Sides, tiles: &[u8], tuning: Tuning) -> Recorded
-    requires { T (is_map sides tiles.now) }
-    ensures { result ≡ record_alone sides tiles.now tuning me (flown_to way) }
+fn end_of(way: Way) -> Hook
+    ensures { Ok result ≡ flown_to (Ok way) }
 {
     match way {
-        Way::TooFar => Recorded::Refused(TOO_FAR),
-        Way::Still(hook) => record_of(move_alone(
-            hooked_alone(me, hook, tuning),
-            sides,
-            tiles,
-            tuning,
-        )),
-        Way::Along(_, _, hook) => record_of(move_alone(
-            hooked_alone(me, hook, tuning),
-            sides,
-            tiles,
-            tuning,
-        )),
+        Way::Still(hook) => hook,
+        Way::Along(_, _, hook) => hook,
     }
 }
 
@@ -75,34 +61,30 @@ fn hooked_alone(mut me: Character, hook: Hook, tuning: Tuning) -> Character
     me
 }
 
-fn move_alone(mut me: Character, sides: Sides, tiles: &[u8], tuning: Tuning) -> MovedAt
+fn move_alone(
+    mut me: Character,
+    sides: Sides,
+    tiles: &[u8],
+    tuning: Tuning,
+) -> Result<Character, Refusal>
     requires { T (is_map sides tiles.now) }
     ensures { result ≡ move_alone sides tiles.now tuning me }
 {
     let from = me.pos;
-    let moved = ramped_move(sides, tiles, from, me.vel, tuning);
-    let BoxWalk::To(body) = moved else {
-        return MovedAt::TooFar;
-    };
-    let to = body.pos;
-    let vel = body.vel;
-    let walked = rest_alone(from, to, tuning.player_collision);
-    let PlayerWalk::At(rest) = walked else {
-        return MovedAt::TooFar;
-    };
-    me.pos = rest;
-    me.vel = vel;
-    MovedAt::To(me)
+    let body = ramped_move(sides, tiles, from, me.vel, tuning)?;
+    me.pos = rest_alone(from, body.pos, tuning.player_collision)?;
+    me.vel = body.vel;
+    Ok(me)
 }
 
 // The player walk with nobody in the way: nothing but its length can refuse it.
-fn rest_alone(from: vec2, to: vec2, player_collision: f32) -> PlayerWalk
+fn rest_alone(from: vec2, to: vec2, player_collision: f32) -> Result<vec2, Refusal>
     ensures { result ≡ rest_alone from to player_collision }
 {
     if player_collision != 0.0 {
         if player_turns(vec2::distance(from, to)) > MOST_TURNS {
-            return PlayerWalk::TooFar;
+            return Err(Refusal::TooFar);
         }
     }
-    PlayerWalk::At(to)
+    Ok(to)
 }

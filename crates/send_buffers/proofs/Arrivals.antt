@@ -20,7 +20,8 @@ use Rattle.world_numbers.specs.Encoding.{each}
 use Rattle.send_numbers.specs.Copies.{copies_encoding, screen_encoding}
 use Rattle.send_numbers.specs.Passing.{passed_numbers, all_numbers}
 use Rattle.send_numbers.specs.Reading.{Known, read_passed}
-use Rattle.send_numbers.specs.declared.reading.PassedRead.TheVariants.{Refused, Of}
+use Rattle.std.specs.Prelude.{Ok, Err}
+use Rattle.game_refusals.specs.declared.Refusal.TheVariants.{BadLength}
 use Rattle.send_numbers.proofs.PassedBack.{passed_comes_back, thing_long}
 use Rattle.send_buffers.specs.Sends.{SenderBuffers, keep_sent}
 use Rattle.send_buffers.specs.Screens.{receive_in}
@@ -38,11 +39,11 @@ things_fewer (p ∷ ps) = let a = (thing_long p).0 in let b = things_fewer ps in
 module _ (s : Sides) (ts : List ℕ) (used : ℕ) where
   -- one thing, whatever stands behind it
   one_arrives : (z : Screen) (p : Passed) (rest : List ℤ) → Fit seats z → Known seats p → receive_in s ts (screen_encoding z) (passed_numbers p ++ rest) used ≡ record { number = 0; screen = screen_encoding (receive seats s ts z p); used = length (passed_numbers p) }
-  one_arrives z p rest h k = thing-taken s ts (screen_encoding z) (passed_numbers p ++ rest) used (fit_long z h) (Of p (length (passed_numbers p))) (sym (passed_comes_back seats (omega arith) p rest k)) p (length (passed_numbers p)) (screen_encoding (receive seats s ts z p)) refl (ap (λ (y : Screen). screen_encoding (receive seats s ts y p)) (sym (fit_back z h)))
+  one_arrives z p rest h k = thing-taken s ts (screen_encoding z) (passed_numbers p ++ rest) used (fit_long z h) (Ok (p, length (passed_numbers p))) (sym (passed_comes_back seats (omega arith) p rest k)) p (length (passed_numbers p)) (screen_encoding (receive seats s ts z p)) refl (ap (λ (y : Screen). screen_encoding (receive seats s ts y p)) (sym (fit_back z h)))
 
   none_arrives : (z : Screen) → Fit seats z → receive_in s ts (screen_encoding z) [] used ≡ record { number = 17; screen = screen_encoding z; used = used }
   unfolding read_passed
-  none_arrives z h = nothing-taken s ts (screen_encoding z) [] used (fit_long z h) (Refused 17) refl 17 refl
+  none_arrives z h = nothing-taken s ts (screen_encoding z) [] used (fit_long z h) (Err BadLength) refl BadLength refl
 
   -- all of them
   all_arrive : (ps : List Passed) (k : ℕ) (z : Screen) → length ps ≤ k → Fit seats z → AllKnown seats ps → received_all s ts used k (screen_encoding z) (all_numbers ps) ≡ screen_encoding (receive_all seats s ts z ps)

@@ -2,7 +2,10 @@
 use Prim.Native.Nat.{ℕ, ◌-◌, ◌≤◌}
 use mathlib.Core.Bool.{Bool, true, false, cond}
 use mathlib.Core.List.{List, [], map}
-use mathlib.Core.Path.{◌≡◌, sym, ap, ap₂, ◌∙◌}
+use mathlib.Core.Path.{◌≡◌, refl, sym, ap, ap₂, ◌∙◌}
+use Rattle.std.specs.Prelude.{Result, Ok, Err}
+use Rattle.game_refusals.specs.declared.Refusal.{Refusal}
+use Rattle.game_refusals.specs.declared.Refusal.TheVariants.{BadLength}
 use native.Mathlib.Omega.{arith}
 use lib.IntN.{ℤ}
 use lib.ListN.{length, replicate, length-append, length-map, length-replicate}
@@ -15,7 +18,7 @@ use Rattle.character.specs.Tick.{seats}
 use Rattle.world.specs.Run.{ran}
 use Rattle.world.specs.declared.call.Call.{Call}
 use Rattle.world.specs.declared.call.Call.TheVariants.{Step}
-use Rattle.world.specs.declared.Stepped.{Stepped}
+use Rattle.world.specs.Answered.{Stepped}
 use Rattle.send_rule.specs.Send.{Sent, send, item, filled, most_passed, sending_of}
 use Rattle.send_rule.specs.declared.Sending.{Sending}
 use Rattle.send_rule.specs.declared.Passed.TheVariants as passed
@@ -28,7 +31,11 @@ use Rattle.send_numbers.specs.Passing.{passed_count, all_numbers}
 use Rattle.world_buffers.specs.Buffers.{LeftWorld, refused_in}
 use Rattle.world_buffers.specs.Stepping.{StepBuffers, LeftByStep, left_by_step}
 use Rattle.world_buffers.proofs.StepAnswers.{right_lengths}
-use Rattle.send_buffers.specs.Sends.{fresh_buffer, SenderBuffers, keep_sent, passes, passed_in, send_in, send_step_in}
+use Rattle.send_buffers.specs.Sends.{fresh_buffer, SenderBuffers, keep_sent, passes, room_in, passed_in, send_in, send_step_in}
+use Rattle.game_refusals.specs.Refusals.{number_of_answer}
+use Rattle.world.specs.Step.{stepped}
+use Rattle.world.specs.declared.AfterStep.{AfterStep}
+use Rattle.world.specs.declared.World.{World}
 
 -- ---- before any call
 module _ (n : ℕ) (new l : List ℤ) where
@@ -49,6 +56,11 @@ module _ (b : SenderBuffers) (number : ℕ) (m : Sent) where
   pub sent_left : (number ≡ 0 → ⊥) → keep_sent b number m ≡ b
   unfolding keep_sent
   sent_left z = rw (ne_eqb number 0 z)
+
+-- the number of a call's answer
+pub number_same : (w : World) (r : Result AfterStep Refusal) → number_of_answer r ≡ (stepped seats w r).number
+number_same w (Ok a) = refl
+number_same w (Err e) = refl
 
 -- what finds room in an array is no more than that
 pub count_fits : (m : Sent) (x : Sending) → x ≡ sending_of seats m → length x.items ≡ most_passed seats → x.count ≤ most_passed seats
@@ -91,6 +103,22 @@ module _ (c : Call) (l : List ℤ) (b : SenderBuffers) where
     pub not_made : r ≡ false → send_in c left l b ≡ record { left = refused_in l bad_length; sent = d }
     unfolding send_in
     not_made t = ap₂ (λ (u : LeftWorld) (v : SenderBuffers). record { left = u; sent = v }) (ap (λ (z : Bool). cond z left (refused_in l bad_length)) (sym e ∙ t)) p
+
+-- ---- the refusal of buffers that have other lengths
+module _ (l : List ℤ) (b : SenderBuffers) where
+  pub has_no_room : (refusal : Refusal) → Err refusal ≡ room_in l b → (passes l b ≡ false) × (refusal ≡ BadLength)
+  has_no_room refusal h = go (passes l b) refl h
+    where
+      go : (f : Bool) → passes l b ≡ f → ◌≡◌ {A = Result (Unit {0}) Refusal} (Err refusal) (cond f (Ok tt) (Err BadLength)) → (passes l b ≡ false) × (refusal ≡ BadLength)
+      go true e q = absurd cc
+      go false e q = (e, cc)
+
+  pub has_its_room : (u : Unit {0}) → Ok u ≡ room_in l b → passes l b ≡ true
+  has_its_room u h = go (passes l b) refl h
+    where
+      go : (f : Bool) → passes l b ≡ f → ◌≡◌ {A = Result (Unit {0}) Refusal} (Ok u) (cond f (Ok tt) (Err BadLength)) → passes l b ≡ true
+      go true e q = e
+      go false e q = absurd cc
 
 -- ---- step
 module _ (s : Sides) (ts : List ℕ) (l : List ℤ) (r : StepBuffers) (b : SenderBuffers) where

@@ -15,10 +15,9 @@ use Rattle.world.specs.Calls.{place_of, vacate, leave, tune}
 use Rattle.world.specs.Removal.{ids_in, is_in}
 use Rattle.world.specs.Run.{ran}
 use Rattle.world.specs.Step.{step}
-use Rattle.world.specs.declared.Answer.{Answer}
+use Rattle.world.specs.Answered.{Answer, Stepped}
 use Rattle.world.specs.declared.call.Call.{Call}
 use Rattle.world.specs.declared.call.Call.TheVariants.{Join, Leave, Input, Step, Tune}
-use Rattle.world.specs.declared.Stepped.{Stepped}
 use Rattle.world.specs.declared.World.{World}
 use Rattle.world.proofs.Outcomes.{Outcome, no, yes, Seated, Tunes, leave_outcome, tune_outcome}
 use Rattle.world.proofs.Seats.{by_test}

@@ -6,7 +6,9 @@ use mathlib.Core.Path.{◌≡◌, sym, ap, ◌∙◌}
 use lib.IntN.{ℤ}
 use lib.ListN.{length}
 use borrow.Author.Tests.{eq-eqb, ne_eqb, lt-ltb, le-ltb}
-use Rattle.game_refusals.specs.Refusals.{bad_id, not_present, bad_length}
+use Rattle.game_refusals.specs.Refusals.{bad_id, not_present, bad_length, number_of}
+use Rattle.game_refusals.specs.declared.Refusal.{Refusal}
+use Rattle.std.specs.Prelude.{Ok, Err}
 use Rattle.game_records.specs.Numbers.{core_count, core_numbers}
 use Rattle.map_tiles.specs.declared.tiles.Sides.{Sides}
 use Rattle.character.specs.Tick.{seats}
@@ -14,9 +16,7 @@ use Rattle.world.specs.Calls.{place_of}
 use Rattle.send_rule.specs.Send.{copy_at, receive}
 use Rattle.send_rule.specs.declared.Passed.{Passed}
 use Rattle.send_numbers.specs.Copies.{screen_count, screen_encoding, screen_decoding}
-use Rattle.send_numbers.specs.Reading.{read_passed}
-use Rattle.send_numbers.specs.declared.reading.PassedRead.{PassedRead}
-use Rattle.send_numbers.specs.declared.reading.PassedRead.TheVariants.{Refused, Of}
+use Rattle.send_numbers.specs.Reading.{PassedRead, read_passed}
 use Rattle.send_buffers.specs.Screens.{take_in, receive_in, record_shown, shown_in}
 
 -- ---- what arrives
@@ -30,11 +30,11 @@ module _ (s : Sides) (ts : List ℕ) (l ps : List ℤ) (used : ℕ) where
     unfolding receive_in
     right = rw (eq-eqb (length l) screen_count h, ← q)
 
-    pub nothing-taken : (k : ℕ) → x ≡ Refused k → receive_in s ts l ps used ≡ record { number = k; screen = l; used = used }
+    pub nothing-taken : (refusal : Refusal) → x ≡ Err refusal → receive_in s ts l ps used ≡ record { number = number_of refusal; screen = l; used = used }
     unfolding take_in
-    nothing-taken k e = right ∙ ap (take_in s ts l used) e
+    nothing-taken refusal e = right ∙ ap (take_in s ts l used) e
 
-    pub thing-taken : (p : Passed) (k : ℕ) (m : List ℤ) → x ≡ Of p k → m ≡ screen_encoding (receive seats s ts (screen_decoding seats l) p) → receive_in s ts l ps used ≡ record { number = 0; screen = m; used = k }
+    pub thing-taken : (p : Passed) (k : ℕ) (m : List ℤ) → x ≡ Ok (p, k) → m ≡ screen_encoding (receive seats s ts (screen_decoding seats l) p) → receive_in s ts l ps used ≡ record { number = 0; screen = m; used = k }
     unfolding take_in
     thing-taken p k m e f = right ∙ ap (take_in s ts l used) e ∙ ap (λ (n : List ℤ). record { number = 0; screen = n; used = k }) (sym f)
 

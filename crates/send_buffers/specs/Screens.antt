@@ -1,6 +1,6 @@
 -- A screen that is kept as the numbers of a buffer: what it does with a thing that is passed along, and what is read of it. Definitions only.
-use Rattle.std.specs.Prelude.{ℕ, cond, ◌&&◌, List, ltb, ℤ}
-use Rattle.game_refusals.specs.Refusals.{bad_id, not_present, bad_length}
+use Rattle.std.specs.Prelude.{ℕ, cond, ◌&&◌, List, ltb, ℤ, Ok, Err}
+use Rattle.game_refusals.specs.Refusals.{bad_id, not_present, bad_length, number_of}
 use Rattle.game_records.specs.Numbers.{core_count, core_numbers}
 use Rattle.map_tiles.specs.declared.tiles.Sides.{Sides}
 use Rattle.character.specs.Tick.{seats}
@@ -9,9 +9,7 @@ use Rattle.send_rule.specs.Send.{receive}
 use Rattle.send_rule.specs.Shown.{shown}
 use Rattle.send_rule.specs.declared.Screen.{Screen}
 use Rattle.send_numbers.specs.Copies.{screen_count, screen_encoding, screen_decoding}
-use Rattle.send_numbers.specs.Reading.{read_passed}
-use Rattle.send_numbers.specs.declared.reading.PassedRead.{PassedRead}
-use Rattle.send_numbers.specs.declared.reading.PassedRead.TheVariants.{Refused, Of}
+use Rattle.send_numbers.specs.Reading.{PassedRead, read_passed}
 use Rattle.world_buffers.specs.Buffers.{has}
 use Rattle.world_buffers.specs.Readers.{ReadTold}
 
@@ -25,8 +23,8 @@ pub record LeftByReceive : Type 0 where
 
 -- a thing that was read arrives at the screen that the numbers l stand for; where none was read, everything is left as it was
 unfoldable pub take_in : Sides → List ℕ → List ℤ → ℕ → PassedRead → LeftByReceive
-take_in s ts l used (Refused k) = record { number = k; screen = l; used = used }
-take_in s ts l used (Of p k) = record { number = 0; screen = screen_encoding (receive seats s ts (screen_decoding seats l) p); used = k }
+take_in s ts l used (Err refusal) = record { number = number_of refusal; screen = l; used = used }
+take_in s ts l used (Ok (p, k)) = record { number = 0; screen = screen_encoding (receive seats s ts (screen_decoding seats l) p); used = k }
 
 -- the first thing that ps begins with
 unfoldable pub receive_in : Sides → List ℕ → List ℤ → List ℤ → ℕ → LeftByReceive

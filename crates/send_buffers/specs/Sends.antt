@@ -1,8 +1,10 @@
 -- The calls that pass something along, on a world and a sender's copies that are kept as the numbers of buffers: what each answers, and what it leaves there.
 -- Definitions only.
-use Rattle.std.specs.Prelude.{ℕ, Bool, cond, ◌&&◌, List, [], eqb, ℤ, length}
+use Rattle.std.specs.Prelude.{ℕ, Bool, cond, ◌&&◌, List, [], eqb, ℤ, length, Result, Ok, Err}
 use Rattle.base_rows.specs.Put.{put}
 use Rattle.game_refusals.specs.Refusals.{bad_length}
+use Rattle.game_refusals.specs.declared.Refusal.{Refusal}
+use Rattle.game_refusals.specs.declared.Refusal.TheVariants.{BadLength}
 use Rattle.map_tiles.specs.Map.{sides_of}
 use Rattle.map_tiles.specs.declared.tiles.Sides.{Sides}
 use Rattle.character.specs.Tick.{seats}
@@ -53,6 +55,10 @@ sent_for s ts c l b = keep_sent b (ran seats s ts (decoding seats l) c).number (
 -- whether the world and the sender's buffers have the lengths that they must
 abbrev pub passes : List ℤ → SenderBuffers → Bool
 passes l b = has world_count l && has_room b
+
+-- 17 where they have others
+abbrev pub room_in : List ℤ → SenderBuffers → Result (Unit {0}) Refusal
+room_in l b = cond (passes l b) (Ok tt) (Err BadLength)
 
 -- what it leaves in the sender's buffers
 unfoldable pub passed_in : Call → List ℤ → SenderBuffers → SenderBuffers

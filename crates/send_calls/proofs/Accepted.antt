@@ -19,7 +19,7 @@ use Rattle.world.specs.Step.{Moving, move_all, tick_all, step_answer, step_on, s
 use Rattle.world.specs.Run.{ran}
 use Rattle.world.specs.declared.call.Call.{Call}
 use Rattle.world.specs.declared.call.Call.TheVariants.{Step}
-use Rattle.world.specs.declared.Stepped.{Stepped}
+use Rattle.world.specs.Answered.{Stepped}
 use Rattle.world.specs.declared.World.{World}
 use Rattle.world.proofs.Removal.{dying_within, listed_ids}
 use Rattle.world.proofs.Seats.{by_test}

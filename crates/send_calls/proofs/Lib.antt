@@ -1,4 +1,4 @@
-pub mod Same
+pub mod Equal
 pub mod Filled
 pub mod Messages
 pub mod Removals

@@ -6,12 +6,11 @@ ghost use Rattle.send_alone.specs.Alone.{copy_alone};
 
 use character::{Character, SEATS};
 use game_records::{CharacterCore, PlayerInput};
-use game_refusals::TOO_FAR;
+use game_refusals::Refusal;
 use game_tuning::{TUNINGS, Tuning, tuning_of};
 use map_tiles::{Sides, on_deadly};
 use send_alone::step_alone;
 use send_rule::Copy;
-use world::Recorded;
 use world_step::unpublished;
 
 // The accepted step after a seat's last message that has a message whatever happens.
@@ -100,8 +99,8 @@ fn step_copy(copy: Copy, sides: Sides, tiles: &[u8], tuning: Tuning) -> Copy
             return with_step(copy, last, true, false);
         }
         return match step_alone(last, copy.input, sides, tiles, tuning) {
-            Recorded::Refused(number) => with_step(copy, last, false, number == TOO_FAR),
-            Recorded::Core(core) => {
+            Err(refusal) => with_step(copy, last, false, refusal == Refusal::TooFar),
+            Ok(core) => {
                 let me = Character::from_net(core);
                 with_step(copy, core, on_deadly(sides, tiles, me.pos), false)
             }

@@ -11,7 +11,7 @@ use borrow.Author.Tests.{lt-ltb, ne_eqb}
 use Rattle.base_rows.specs.Put.{put}
 use Rattle.base_rows.proofs.Puts.{put_none, put-put}
 use Rattle.num_convert.specs.Casts.{cast_signed}
-use Rattle.game_refusals.specs.Refusals.{bad_id, bad_tuning}
+use Rattle.game_refusals.specs.declared.Refusal.TheVariants.{BadId, BadTuning}
 use Rattle.game_records.specs.Numbers.{core_numbers, input_numbers, core_in, input_of_numbers}
 use Rattle.game_tuning.specs.Tuning.{tuning_count}
 use Rattle.world.specs.Calls.{place_of}
@@ -38,10 +38,10 @@ some_read n z l = rw (ne_eqb (length (z ∷ l)) 0 (λ e. omega arith))
 pub passed_comes_back : (n : ℕ) → PassedComesBack n
 unfolding passed_numbers message_numbers read_message read_removal read_leave read_tune core_numbers input_numbers core_in input_of_numbers
 passed_comes_back n b passed.Mark rest h = some_read n (pos 0) rest
-passed_comes_back n b (passed.Message k core i) rest h = let l : List ℤ = message_numbers k core i ++ rest in let e : message_count ≤ length l = omega (arith, length-append (message_numbers k core i) rest) in some_read n (pos 1) _ ∙ place_read message_count n bad_id (message_in l) l k e (sym (place_back n k b h)) h
-passed_comes_back n b (passed.Removal k) rest h = let l : List ℤ = pos 2 ∷ cast_signed k ∷ rest in let e : 2 ≤ length l = omega arith in some_read n (pos 2) _ ∙ place_read 2 n bad_id passed.Removal l k e (sym (place_back n k b h)) h
-passed_comes_back n b (passed.Leave k) rest h = let l : List ℤ = pos 3 ∷ cast_signed k ∷ rest in let e : 2 ≤ length l = omega arith in some_read n (pos 3) _ ∙ place_read 2 n bad_id passed.Leave l k e (sym (place_back n k b h)) h
-passed_comes_back n b (passed.Tune k v) rest h = let l : List ℤ = pos 4 ∷ cast_signed k ∷ v ∷ rest in let e : 3 ≤ length l = omega arith in some_read n (pos 4) _ ∙ place_read 3 tuning_count bad_tuning (tune_read l) l k e (sym (place_back tuning_count k (omega arith) h)) h
+passed_comes_back n b (passed.Message k core i) rest h = let l : List ℤ = message_numbers k core i ++ rest in let e : message_count ≤ length l = omega (arith, length-append (message_numbers k core i) rest) in some_read n (pos 1) _ ∙ place_read message_count n BadId (message_in l) l k e (sym (place_back n k b h)) h
+passed_comes_back n b (passed.Removal k) rest h = let l : List ℤ = pos 2 ∷ cast_signed k ∷ rest in let e : 2 ≤ length l = omega arith in some_read n (pos 2) _ ∙ place_read 2 n BadId passed.Removal l k e (sym (place_back n k b h)) h
+passed_comes_back n b (passed.Leave k) rest h = let l : List ℤ = pos 3 ∷ cast_signed k ∷ rest in let e : 2 ≤ length l = omega arith in some_read n (pos 3) _ ∙ place_read 2 n BadId passed.Leave l k e (sym (place_back n k b h)) h
+passed_comes_back n b (passed.Tune k v) rest h = let l : List ℤ = pos 4 ∷ cast_signed k ∷ v ∷ rest in let e : 3 ≤ length l = omega arith in some_read n (pos 4) _ ∙ place_read 3 tuning_count BadTuning (tune_read l) l k e (sym (place_back tuning_count k (omega arith) h)) h
 
 -- ---- how many there are
 pub thing_long : (p : Passed) → (0 < length (passed_numbers p)) × (length (passed_numbers p) ≤ message_count)

@@ -8,5 +8,5 @@ mod screens;
 
 pub use copies::{COPY, SENDER, copy_at, decode_copies, encode_copies};
 pub use passing::{MESSAGE, PASSED, encode_items};
-pub use reading::{PassedRead, read_passed};
+pub use reading::read_passed;
 pub use screens::{SCREEN, decode_screen, encode_screen};

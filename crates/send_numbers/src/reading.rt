@@ -1,101 +1,75 @@
-// The first thing passed along out of numbers that begin with it. What stands behind it is not looked at.
-ghost use Rattle.std.specs.Prelude.{◌≡◌};
+// The first thing passed along out of numbers that begin with it, and how many numbers it has. What stands behind it is not looked at.
+ghost use Rattle.std.specs.Prelude.{◌≡◌, ◌^◌, ◌≤◌};
 ghost use Rattle.character.specs.Tick.{seats};
-ghost use Rattle.send_numbers.specs.Reading.{read_message, read_removal, read_leave, read_tune, read_passed};
+ghost use Rattle.send_numbers.specs.Reading.{named, read_message, read_removal, read_leave, read_tune, read_passed};
 
 use crate::passing::{KIND_LEAVE, KIND_MARK, KIND_MESSAGE, KIND_REMOVAL, KIND_TUNE, MESSAGE};
 use character::SEATS;
 use game_records::{CORE, core_of, input_of};
-use game_refusals::{BAD_ID, BAD_LENGTH, BAD_TUNING};
+use game_refusals::Refusal;
 use game_tuning::TUNINGS;
 use send_rule::Passed;
 use world_joins::place_of;
 
-// A refusal's number, or the thing and how many numbers it has.
-#[derive(Clone, Copy)]
-pub enum PassedRead {
-    Refused(u32),
-    Of(Passed, usize),
+// The place out of `places` that a thing of `count` numbers names.
+fn named(numbers: &[i32], count: usize, places: usize, none: Refusal) -> Result<u32, Refusal>
+    requires { (2 ≤ count) × (places ≤ 2 ^ 32) }
+    ensures { result ≡ named count places none numbers.now }
+{
+    if numbers.len() < count {
+        return Err(Refusal::BadLength);
+    }
+    let at = place_of(places, numbers[1]);
+    if at >= places {
+        return Err(none);
+    }
+    Ok(at as u32)
 }
 
-fn read_message(numbers: &[i32]) -> PassedRead
+fn read_message(numbers: &[i32]) -> Result<(Passed, usize), Refusal>
     ensures { result ≡ read_message seats numbers.now }
 {
-    if numbers.len() < MESSAGE {
-        return PassedRead::Refused(BAD_LENGTH);
-    }
-    let at = place_of(SEATS, numbers[1]);
-    if at < SEATS {
-        let core = core_of(&numbers[2..]);
-        let input = input_of(&numbers[2 + CORE..]);
-        let id = at as u32;
-        return PassedRead::Of(Passed::Message { id, core, input }, MESSAGE);
-    }
-    PassedRead::Refused(BAD_ID)
+    let id = named(numbers, MESSAGE, SEATS, Refusal::BadId)?;
+    let core = core_of(&numbers[2..]);
+    let input = input_of(&numbers[2 + CORE..]);
+    Ok((Passed::Message { id, core, input }, MESSAGE))
 }
 
-fn read_removal(numbers: &[i32]) -> PassedRead
+fn read_removal(numbers: &[i32]) -> Result<(Passed, usize), Refusal>
     ensures { result ≡ read_removal seats numbers.now }
 {
-    if numbers.len() < 2 {
-        return PassedRead::Refused(BAD_LENGTH);
-    }
-    let at = place_of(SEATS, numbers[1]);
-    if at < SEATS {
-        return PassedRead::Of(Passed::Removal { id: at as u32 }, 2);
-    }
-    PassedRead::Refused(BAD_ID)
+    let id = named(numbers, 2, SEATS, Refusal::BadId)?;
+    Ok((Passed::Removal { id }, 2))
 }
 
-fn read_leave(numbers: &[i32]) -> PassedRead
+fn read_leave(numbers: &[i32]) -> Result<(Passed, usize), Refusal>
     ensures { result ≡ read_leave seats numbers.now }
 {
-    if numbers.len() < 2 {
-        return PassedRead::Refused(BAD_LENGTH);
-    }
-    let at = place_of(SEATS, numbers[1]);
-    if at < SEATS {
-        return PassedRead::Of(Passed::Leave { id: at as u32 }, 2);
-    }
-    PassedRead::Refused(BAD_ID)
+    let id = named(numbers, 2, SEATS, Refusal::BadId)?;
+    Ok((Passed::Leave { id }, 2))
 }
 
-fn read_tune(numbers: &[i32]) -> PassedRead
+fn read_tune(numbers: &[i32]) -> Result<(Passed, usize), Refusal>
     ensures { result ≡ read_tune numbers.now }
 {
-    if numbers.len() < 3 {
-        return PassedRead::Refused(BAD_LENGTH);
-    }
-    let at = place_of(TUNINGS, numbers[1]);
-    if at < TUNINGS {
-        let value = numbers[2];
-        let index = at as u32;
-        return PassedRead::Of(Passed::Tune { index, value }, 3);
-    }
-    PassedRead::Refused(BAD_TUNING)
+    let index = named(numbers, 3, TUNINGS, Refusal::BadTuning)?;
+    let value = numbers[2];
+    Ok((Passed::Tune { index, value }, 3))
 }
 
-pub fn read_passed(numbers: &[i32]) -> PassedRead
+pub fn read_passed(numbers: &[i32]) -> Result<(Passed, usize), Refusal>
     ensures { result ≡ read_passed seats numbers.now }
 {
-    if numbers.len() == 0 {
-        return PassedRead::Refused(BAD_LENGTH);
+    if numbers.is_empty() {
+        return Err(Refusal::BadLength);
     }
     let kind = numbers[0];
-    if kind == KIND_MARK {
-        return PassedRead::Of(Passed::Mark, 1);
+    match kind {
+        KIND_MARK => Ok((Passed::Mark, 1)),
+        KIND_MESSAGE => read_message(numbers),
+        KIND_REMOVAL => read_removal(numbers),
+        KIND_LEAVE => read_leave(numbers),
+        KIND_TUNE => read_tune(numbers),
+        _ => Err(Refusal::BadLength),
     }
-    if kind == KIND_MESSAGE {
-        return read_message(numbers);
-    }
-    if kind == KIND_REMOVAL {
-        return read_removal(numbers);
-    }
-    if kind == KIND_LEAVE {
-        return read_leave(numbers);
-    }
-    if kind == KIND_TUNE {
-        return read_tune(numbers);
-    }
-    PassedRead::Refused(BAD_LENGTH)
 }

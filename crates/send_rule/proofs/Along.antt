@@ -13,7 +13,7 @@ use Rattle.world.specs.Run.{ran}
 use Rattle.world.specs.Step.{step}
 use Rattle.world.specs.declared.call.Call.{Call}
 use Rattle.world.specs.declared.call.Call.TheVariants.{Join, Leave, Input, Step, Tune}
-use Rattle.world.specs.declared.Stepped.{Stepped}
+use Rattle.world.specs.Answered.{Stepped}
 use Rattle.send_rule.specs.Send.{Sent, no_copy, copy_at, copy_of, dropped, taken_at, used_at, send_messages, send_accepted}
 use Rattle.send_rule.specs.Link.{Link, fresh_link, sent_on, called, messages, in_order}
 use Rattle.send_rule.specs.Along.{Passes, renewed, copy_after, CallAlong, Along}

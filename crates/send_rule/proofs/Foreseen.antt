@@ -17,7 +17,7 @@ use Rattle.world.specs.Demand3.{record_at}
 use Rattle.world.specs.Removal.{ids_in, is_in}
 use Rattle.world.specs.Run.{Told, told_by}
 use Rattle.world.specs.Step.{step}
-use Rattle.world.specs.declared.Stepped.{Stepped}
+use Rattle.world.specs.Answered.{Stepped}
 use Rattle.world.specs.declared.World.{World}
 use Rattle.world.proofs.Seats.{by_test}
 use Rattle.send_rule.specs.Send.{copy_slot, small_world, alone, with_step, step_copy}

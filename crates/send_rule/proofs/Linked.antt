@@ -20,8 +20,7 @@ use Rattle.world.specs.Settled.{Settled}
 use Rattle.world.specs.Step.{step}
 use Rattle.world.specs.declared.call.Call.{Call}
 use Rattle.world.specs.declared.call.Call.TheVariants.{Join, Leave, Input, Step, Tune}
-use Rattle.world.specs.declared.Stepped.{Stepped}
-use Rattle.world.specs.declared.Answer.{Answer}
+use Rattle.world.specs.Answered.{Answer, Stepped}
 use Rattle.world.specs.declared.World.{World}
 use Rattle.world.proofs.Demand1.{demand1}
 use Rattle.world.proofs.Outcomes.{Outcome, no, yes, outcome_kept, Tunes, join_outcome, leave_outcome, input_outcome, tune_outcome}

@@ -11,7 +11,7 @@ use Rattle.base_turns.specs.Turns.{fold}
 use Rattle.map_tiles.specs.declared.tiles.Sides.{Sides}
 use Rattle.character.specs.Tick.{slot_at}
 use Rattle.character_laws.proofs.Slots.{set_others}
-use Rattle.world.specs.declared.Stepped.{Stepped}
+use Rattle.world.specs.Answered.{Stepped}
 use Rattle.world.specs.declared.World.{World}
 use Rattle.world.proofs.Seats.{by_test, last_or_below}
 use Rattle.send_rule.specs.Send.{Sent, no_copy, copy_at, copy_of, step_copy, step_copies, due, taken_at, used_at, send_turn, send_messages}

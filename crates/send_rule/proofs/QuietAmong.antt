@@ -24,7 +24,7 @@ use Rattle.world.specs.Run.{ran}
 use Rattle.world.specs.Step.{step}
 use Rattle.world.specs.declared.call.Call.{Call}
 use Rattle.world.specs.declared.call.Call.TheVariants.{Join, Leave, Input, Step, Tune}
-use Rattle.world.specs.declared.Stepped.{Stepped}
+use Rattle.world.specs.Answered.{Stepped}
 use Rattle.world.proofs.Present.{present-next}
 use Rattle.base_turns.proofs.Tests.{either_way}
 use Rattle.send_rule.specs.Send.{Sent, no_copy, copy_at, copy_slot, small_world, alone, with_step, step_copy}

@@ -15,7 +15,7 @@ use Rattle.world.specs.Step.{step}
 use Rattle.world.specs.declared.call.Call.{Call}
 use Rattle.world.specs.declared.call.Call.TheVariants.{Step}
 use Rattle.world.specs.declared.Published.{Published}
-use Rattle.world.specs.declared.Stepped.{Stepped}
+use Rattle.world.specs.Answered.{Stepped}
 use Rattle.world.proofs.Present.{present-next}
 use Rattle.world.proofs.Seats.{by_test}
 use Rattle.send_rule.specs.Send.{Sent, copy_at, copy_of, most_steps, dropped, same_core, due, taken_at, used_at, send_messages, receive_all}

@@ -22,7 +22,7 @@ use Rattle.world.specs.Run.{ran}
 use Rattle.world.specs.Step.{step}
 use Rattle.world.specs.declared.call.Call.{Call}
 use Rattle.world.specs.declared.call.Call.TheVariants.{Join, Leave, Input, Step, Tune}
-use Rattle.world.specs.declared.Stepped.{Stepped}
+use Rattle.world.specs.Answered.{Stepped}
 use Rattle.world.specs.declared.World.{World}
 use Rattle.world.proofs.Demand1.{demand1}
 use Rattle.world.proofs.Present.{present-next, fresh_absent}

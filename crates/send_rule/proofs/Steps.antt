@@ -27,12 +27,13 @@ use Rattle.world.specs.Removal.{dying, remove_all, ids_in, is_in}
 use Rattle.world.specs.Step.{Moving, unpublished, tick_all, record_of, publish, move_in, move_turn, moving_from, move_all, step_answer, step_on, step}
 use Rattle.world.specs.Demand3.{record_at}
 use Rattle.world.specs.declared.Published.{Published}
-use Rattle.world.specs.declared.Recorded.{Recorded}
-use Rattle.world.specs.declared.Recorded.TheVariants.{Refused, Core}
-use Rattle.world.specs.declared.Stepped.{Stepped}
+use Rattle.world.specs.Answered.{Stepped}
 use Rattle.world.specs.declared.World.{World}
 use Rattle.world.proofs.Removal.{dying_are, dying_within, listed_ids, removed_kept, removed_present}
 use Rattle.world.proofs.Seats.{by_test, last_or_below, present_within, Same, Settling, ticks_same, moves-settle}
+use Rattle.std.specs.Prelude.{Result, Ok, Err}
+use Rattle.game_records.specs.declared.CharacterCore.{CharacterCore}
+use Rattle.game_refusals.specs.declared.Refusal.{Refusal}
 
 -- nobody is in an empty list alone
 nobody_in : (ks : List ℕ) → ((j : ℕ) → is_in j ks ≡ false) → ks ≡ []
@@ -57,9 +58,9 @@ module _ (n : ℕ) (s : Sides) (ts : List ℕ) where
     turn : (i : ℕ) (m : Moving) → Publishing i m → Ends (Publishing (suc i)) (λ r. Unit {0}) (move_turn n s ts t i m)
     turn i m h = by_test (Ends (Publishing (suc i)) (λ r. Unit {0})) (slot_at m.slots i).present (λ p. recorded p (record_of (move_in n s ts t m.slots i))) nobody
       where
-        recorded : (slot_at m.slots i).present ≡ true → (o : Recorded) → Ends (Publishing (suc i)) (λ r. Unit {0}) (publish m i o)
-        recorded p (Refused k) = tt
-        recorded here (Core core) = record {
+        recorded : (slot_at m.slots i).present ≡ true → (o : Result CharacterCore Refusal) → Ends (Publishing (suc i)) (λ r. Unit {0}) (publish m i o)
+        recorded p (Err k) = tt
+        recorded here (Ok core) = record {
           size = length-set m.records i new ∙ h.size;
           same = set_every (λ k x. x.present ≡ (slot_at ss k).present) m.slots i x nowhere h.same (h.same i);
           told = λ k l d p. ⊎_elim (λ e. ap (λ (j : ℕ). (record_at (set m.records i new) j).present) e ∙ ap (λ (x : Published). x.present) (get_or-set_same m.records i new unpublished (omega (arith, h.size, e)))) (λ q. ap (λ (x : Published). x.present) (get_or-set_other m.records i k new unpublished (λ e. omega (arith, q, e))) ∙ h.told k q d p) (last_or_below k i l);

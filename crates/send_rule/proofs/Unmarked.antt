@@ -17,8 +17,6 @@ use Rattle.game_tuning.specs.Tuning.{tuning_of}
 use Rattle.game_tuning.specs.declared.Tuning.{Tuning}
 use Rattle.map_tiles.specs.Map.{is_map}
 use Rattle.map_tiles.specs.declared.tiles.Sides.{Sides}
-use Rattle.map_walks.specs.declared.moves.BoxWalk.{BoxWalk}
-use Rattle.map_walks.specs.declared.moves.BoxWalk.TheVariants as box
 use Rattle.character_hook.specs.Hook.{on_grabbed}
 use Rattle.character_hook.specs.Hooking.{hold}
 use Rattle.character_hook.specs.Dragging.{dragged}
@@ -28,11 +26,9 @@ use Rattle.character_hook.specs.declared.flying.Way.TheVariants as way
 use Rattle.character_hook.specs.declared.hook.CharacterId.{CharacterId}
 use Rattle.character_hook.specs.declared.hook.Hook.{Hook}
 use Rattle.character_hook.specs.declared.hooking.Nearest.{Nearest}
-use Rattle.character_hook.specs.declared.hooking.Nearest.TheVariants as nearest
 use Rattle.character_motion.specs.Controls.{grounded}
 use Rattle.character_walk.specs.Walking.{ramped_move, player_turns}
 use Rattle.character_meeting.specs.declared.meeting.HookPull.{HookPull}
-use Rattle.character_meeting.specs.declared.meeting.HookPull.TheVariants as pull
 use Rattle.character.specs.Character.{with_vel}
 use Rattle.character.specs.Records.{from_net}
 use Rattle.character.specs.Slot.{with_character, with_grounded}
@@ -42,18 +38,16 @@ use Rattle.character.specs.Walk.{is_close, slot_turn, walk_turn, or_to, walk_amo
 use Rattle.character.specs.declared.Character.{Character}
 use Rattle.character.specs.declared.Slot.{Slot}
 use Rattle.character.specs.declared.tick.AfterTick.{AfterTick}
-use Rattle.character.specs.declared.tick.HookFlight.{HookFlight}
-use Rattle.character.specs.declared.tick.HookFlight.TheVariants.{TooFar, To}
-use Rattle.character.specs.declared.tick.TickedAt.{TickedAt}
-use Rattle.character.specs.declared.tick.TickedAt.TheVariants as ticked
-use Rattle.character.specs.declared.walk.MovedAt.{MovedAt}
 use Rattle.world.specs.Removal.{ids_of, dying}
 use Rattle.world.specs.Run.{told_by}
 use Rattle.world.specs.Step.{Moving, after_tick, tick_turn, tick_all, record_of, publish, move_turn, moving_from, move_all, step_refused, step_answer, step_on, step}
 use Rattle.world.specs.declared.Published.{Published}
-use Rattle.world.specs.declared.Recorded.{Recorded}
-use Rattle.world.specs.declared.Recorded.TheVariants.{Refused, Core}
 use Rattle.world.specs.declared.World.{World}
+use Rattle.std.specs.Prelude.{Option, None, Result, Ok, Err}
+use Rattle.game_records.specs.declared.CharacterCore.{CharacterCore}
+use Rattle.map_walks.specs.declared.moves.Body.{Body}
+use Rattle.game_refusals.specs.declared.Refusal.{Refusal}
+use Rattle.std.specs.Prelude.{Some}
 
 -- ---- slots without their marks
 
@@ -79,13 +73,13 @@ without_put ss j f = without_set ss j _ ∙ ap (λ (x : Slot). set (without_mark
 module _ (n : ℕ) (ss : List Slot) (id : ℕ) where
   nearest_without : (from to : vec2) → tick.nearest n (without_marks ss) id from to ≡ tick.nearest n ss id from to
   unfolding tick.nearest
-  nearest_without from to = ap (λ (f : ℕ → Nearest → Nearest). fold f n 0 nearest.Nobody) (fun_ext (λ j. fun_ext (λ best. rw (without_at ss j))))
+  nearest_without from to = ap (λ (f : ℕ → Option Nearest → Option Nearest). fold f n 0 None) (fun_ext (λ j. fun_ext (λ best. rw (without_at ss j))))
 
-  caught_without : (w : Way) (hooking : Float) → caught n w id (without_marks ss) hooking ≡ caught n w id ss hooking
+  caught_without : (w : Result Way Refusal) (hooking : Float) → caught n w id (without_marks ss) hooking ≡ caught n w id ss hooking
   unfolding caught
-  caught_without way.TooFar hooking = refl
-  caught_without (way.Still h) hooking = refl
-  caught_without (way.Along from to h) hooking = rw (nearest_without from to)
+  caught_without (Err e) hooking = refl
+  caught_without (Ok (way.Still h)) hooking = refl
+  caught_without (Ok (way.Along from to h)) hooking = rw (nearest_without from to)
 
   meet_without : (p v : vec2) (h : Hook) (t : Tuning) → meet_all n (without_marks ss) id p v h t ≡ meet_all n ss id p v h t
   unfolding meet_all
@@ -93,12 +87,12 @@ module _ (n : ℕ) (ss : List Slot) (id : ℕ) where
 
   pull_without : (p : vec2) (h : Hook) (t : Tuning) → pull_of n (without_marks ss) id p h t ≡ pull_of n ss id p h t
   unfolding pull_of
-  pull_without p h t = ap (λ (f : CharacterId → ℕ → HookPull). on_grabbed f pull.Nobody h) (fun_ext (λ c. fun_ext (λ k. rw (without_at ss c.0))))
+  pull_without p h t = ap (λ (f : CharacterId → ℕ → Option HookPull). on_grabbed f None h) (fun_ext (λ c. fun_ext (λ k. rw (without_at ss c.0))))
 
-  ticked_without : (c : Character) (g : Bool) (t : Tuning) (f : HookFlight) → ticked n c g id (without_marks ss) t f ≡ ticked n c g id ss t f
+  ticked_without : (c : Character) (g : Bool) (t : Tuning) (f : Result Hook Refusal) → ticked n c g id (without_marks ss) t f ≡ ticked n c g id ss t f
   unfolding hooked
-  ticked_without c g t TooFar = refl
-  ticked_without c g t (To h) = let v = dragged h c.pos c.vel c.move_direction t in rw (meet_without c.pos v (hold h t.hook_hold) t, pull_without c.pos (hold h t.hook_hold) t)
+  ticked_without c g t (Err e) = refl
+  ticked_without c g t (Ok h) = let v = dragged h c.pos c.vel c.move_direction t in rw (meet_without c.pos v (hold h t.hook_hold) t, pull_without c.pos (hold h t.hook_hold) t)
 
   tick_without : (c : Character) (s : Sides) (ts : List ℕ) (i : PlayerInput) (t : Tuning) → tick_at n c id (without_marks ss) s ts i t ≡ tick_at n c id ss s ts i t
   unfolding tick_at
@@ -126,9 +120,9 @@ module _ (n : ℕ) (ss : List Slot) (id : ℕ) where
   unfolding player_walk
   walk_without from to collision = let d = vdistance from to in rw (among_without from to d (player_turns d))
 
-  box_without : (c : Character) (t : Tuning) (b : BoxWalk) → after_box n c id (without_marks ss) t b ≡ after_box n c id ss t b
-  box_without c t box.TooFar = refl
-  box_without c t (box.To b) = ap (rested c b.vel) (walk_without c.pos b.pos t.player_collision)
+  box_without : (c : Character) (t : Tuning) (b : Result Body Refusal) → after_box n c id (without_marks ss) t b ≡ after_box n c id ss t b
+  box_without c t (Err e) = refl
+  box_without c t (Ok b) = ap (rested c b.vel) (walk_without c.pos b.pos t.player_collision)
 
   move_without : (c : Character) (s : Sides) (ts : List ℕ) (t : Tuning) → move_at n c id (without_marks ss) s ts t ≡ move_at n c id ss s ts t
   unfolding move_at
@@ -141,28 +135,28 @@ SameButMarks us vs = without_marks us ≡ without_marks vs
 without_same : (us vs : List Slot) → SameButMarks us vs → (j : ℕ) → without_mark (slot_at us j) ≡ without_mark (slot_at vs j)
 without_same us vs h j = sym (without_at us j) ∙ ap (λ (ss : List Slot). slot_at ss j) h ∙ without_at vs j
 
-pull-put : (ss : List Slot) (k : HookPull) → without_marks (after_pull ss k) ≡ after_pull (without_marks ss) k
+pull-put : (ss : List Slot) (k : Option HookPull) → without_marks (after_pull ss k) ≡ after_pull (without_marks ss) k
 unfolding after_pull
-pull-put ss pull.Nobody = refl
-pull-put ss (pull.Of cid v) = without_put ss cid.0 (λ c. with_vel c v)
+pull-put ss None = refl
+pull-put ss (Some p) = without_put ss p.cid.0 (λ c. with_vel c p.vel)
 
 module _ (n : ℕ) (s : Sides) (ts : List ℕ) (t : Tuning) where
   -- ---- the ticks
   ticked-put : (us : List Slot) (j : ℕ) (a : AfterTick) → without_marks (set us j (ticked_slot (slot_at us j) a)) ≡ set (without_marks us) j (with_character (slot_at (without_marks us) j) a.me)
   ticked-put us j a = without_set us j (ticked_slot (slot_at us j) a) ∙ ap (λ (x : Slot). set (without_marks us) j (with_character x a.me)) (sym (without_at us j))
 
-  after-tick : (us vs : List Slot) → SameButMarks us vs → (j : ℕ) (k : TickedAt) → Alike SameButMarks ◌≡◌ (after_tick us j k) (after_tick vs j k)
-  after-tick us vs h j ticked.TooFar = refl
-  after-tick us vs h j (ticked.To a) =
+  after-tick : (us vs : List Slot) → SameButMarks us vs → (j : ℕ) (k : Result AfterTick Refusal) → Alike SameButMarks ◌≡◌ (after_tick us j k) (after_tick vs j k)
+  after-tick us vs h j (Err e) = refl
+  after-tick us vs h j (Ok a) =
       let e : without_marks (after_pull us a.pull) ≡ without_marks (after_pull vs a.pull) = pull-put us a.pull ∙ ap (λ (ss : List Slot). after_pull ss a.pull) h ∙ sym (pull-put vs a.pull) in
       ticked-put (after_pull us a.pull) j a ∙ ap (λ (ss : List Slot). set ss j (with_character (slot_at ss j) a.me)) e ∙ sym (ticked-put (after_pull vs a.pull) j a)
 
   tick_turn_lem : (j : ℕ) (us vs : List Slot) → SameButMarks us vs → Alike SameButMarks ◌≡◌ (tick_turn n s ts t j us) (tick_turn n s ts t j vs)
   tick_turn_lem j us vs h =
       subst (λ (x : Slot). Alike SameButMarks ◌≡◌ (tick_turn n s ts t j us) (cond x.present (after_tick vs j (tick_at n x.character j vs s ts x.input t)) (more vs))) (without_same us vs h j)
-      (subst (λ (k : TickedAt). Alike SameButMarks ◌≡◌ (tick_turn n s ts t j us) (cond (slot_at us j).present (after_tick vs j k) (more vs))) same (go (slot_at us j).present))
+      (subst (λ (k : Result AfterTick Refusal). Alike SameButMarks ◌≡◌ (tick_turn n s ts t j us) (cond (slot_at us j).present (after_tick vs j k) (more vs))) same (go (slot_at us j).present))
     where
-      k : TickedAt
+      k : Result AfterTick Refusal
       k = tick_at n (slot_at us j).character j us s ts (slot_at us j).input t
 
       same : tick_at n (slot_at us j).character j us s ts (slot_at us j).input t ≡ tick_at n (slot_at us j).character j vs s ts (slot_at us j).input t
@@ -180,15 +174,15 @@ module _ (n : ℕ) (s : Sides) (ts : List ℕ) (t : Tuning) where
   abbrev Moves : Moving → Moving → Type 0
   Moves a b = SameButMarks a.slots b.slots × (a.records ≡ b.records)
 
-  published : (a b : Moving) → Moves a b → (j : ℕ) (r : Recorded) → Alike Moves ◌≡◌ (publish a j r) (publish b j r)
-  published a b h j (Refused k) = refl
-  published a b h j (Core core) =
+  published : (a b : Moving) → Moves a b → (j : ℕ) (r : Result CharacterCore Refusal) → Alike Moves ◌≡◌ (publish a j r) (publish b j r)
+  published a b h j (Err k) = refl
+  published a b h j (Ok core) =
       (without_put a.slots j (λ c. from_net core) ∙ ap (λ (ss : List Slot). set ss j (with_character (slot_at ss j) (from_net core))) h.0 ∙ sym (without_put b.slots j (λ c. from_net core)), ap (λ (rs : List Published). set rs j (record { present = true; core = core })) h.1)
 
   move_turn_lem : (j : ℕ) (a b : Moving) → Moves a b → Alike Moves ◌≡◌ (move_turn n s ts t j a) (move_turn n s ts t j b)
   move_turn_lem j a b h =
       subst (λ (x : Slot). Alike Moves ◌≡◌ (move_turn n s ts t j a) (cond x.present (publish b j (record_of (move_at n x.character j b.slots s ts t))) (more b))) (without_same a.slots b.slots h.0 j)
-      (subst (λ (k : MovedAt). Alike Moves ◌≡◌ (move_turn n s ts t j a) (cond me.present (publish b j (record_of k)) (more b))) same (go me.present))
+      (subst (λ (k : Result Character Refusal). Alike Moves ◌≡◌ (move_turn n s ts t j a) (cond me.present (publish b j (record_of k)) (more b))) same (go me.present))
     where
       me : Slot
       me = slot_at a.slots j

@@ -7,7 +7,7 @@ use Rattle.world.specs.Removal.{ids_in, is_in}
 use Rattle.world.specs.Run.{ran}
 use Rattle.world.specs.declared.call.Call.{Call}
 use Rattle.world.specs.declared.call.Call.TheVariants.{Join, Leave, Input, Step, Tune}
-use Rattle.world.specs.declared.Stepped.{Stepped}
+use Rattle.world.specs.Answered.{Stepped}
 use Rattle.send_rule.specs.Send.{no_copy, copy_at, copy_of, step_copy}
 use Rattle.send_rule.specs.Link.{Link, fresh_link, sent_on, called, EveryCall, messages, in_order}
 use Rattle.send_rule.specs.declared.Copy.{Copy}

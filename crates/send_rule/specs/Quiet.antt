@@ -9,7 +9,7 @@ use Rattle.world.specs.Run.{ran}
 use Rattle.world.specs.Step.{step}
 use Rattle.world.specs.declared.call.Call.{Call}
 use Rattle.world.specs.declared.call.Call.TheVariants.{Join, Leave, Input, Step, Tune}
-use Rattle.world.specs.declared.Stepped.{Stepped}
+use Rattle.world.specs.Answered.{Stepped}
 use Rattle.world.specs.declared.World.{World}
 use Rattle.send_rule.specs.Send.{copy_at, alone}
 use Rattle.send_rule.specs.Link.{Link, fresh_link, sent_on, called, EveryCall, messages}

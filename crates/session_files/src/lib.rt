@@ -30,8 +30,7 @@ pub fn play_file<R: Read, W: Write>(input: &mut R, output: &mut W) -> io::Result
 {
     let mut text = [0u8; MOST_READ];
     let played = read_and_play(&mut text, input, output)?;
-    let ended = played.session;
-    Ok(ended.call)
+    Ok(played.session.call)
 }
 
 // The same, with the bytes that were read at the start of `text`.
@@ -48,7 +47,7 @@ pub fn read_and_play<R: Read, W: Write>(
     ensures err { OnErr result ((n : ℕ) × (n ≤ length text.new) × Consumes (R.remaining input.old) (R.remaining input.new) (take n text.new) × ((W.contents output.new ≡ W.contents output.old) ⊎ WrittenSoFar seats (take n text.new) (W.contents output.old) (W.contents output.new))) }
 {
     let count = read_full(input, text)?;
-    let session = play_text(&text[0..count], output)?;
+    let session = play_text(&text[..count], output)?;
     Ok(FilePlayed { count, session })
 }
 
@@ -60,10 +59,14 @@ pub fn play_text<W: Write>(text: &[u8], output: &mut W) -> io::Result<Session>
     let mut tiles = [0u8; MOST_TILES];
     let mut buf = [0u8; 65536];
     let begun = begin(text, &mut tiles, &mut buf);
-    let count = begun.count;
-    let sides = begun.sides;
-    let first = begun.first;
-    play(text, sides, &tiles[0..count], first, &mut buf, output)
+    play(
+        text,
+        begun.sides,
+        &tiles[..begun.count],
+        begun.first,
+        &mut buf,
+        output,
+    )
 }
 
 // Writes what is in the buffer and runs the calls that come next, and returns the session that has ended: it does so in fewer turns.
@@ -81,13 +84,11 @@ fn play<W: Write>(
 {
     let mut turned = first;
     for _ in 0..MOST_CALLS {
-        let end = turned.next;
-        write_full(output, &buf[0..end])?;
-        let session = turned.session;
-        if session.done {
-            return Ok(session);
+        write_full(output, &buf[..turned.next])?;
+        if turned.session.done {
+            return Ok(turned.session);
         }
-        turned = run_lines(text, sides, tiles, session, buf);
+        turned = run_lines(text, sides, tiles, turned.session, buf);
     }
     Ok(turned.session)
 }

@@ -8,7 +8,6 @@ use Rattle.text_decimal.specs.Places.{Stands}
 use Rattle.text_decimal.proofs.Lines.{all_append}
 use Rattle.text_decimal.proofs.Places.{chain, within}
 use Rattle.text_reading.specs.Calls.{IsCall, call_bytes, CallAt}
-use Rattle.text_reading.specs.declared.call_lines.CallLine.{CallLine}
 use Rattle.world.specs.declared.call.Call.{Call}
 use Rattle.text_reading.proofs.Calls.{call_read, call_fault, call_long}
 use Rattle.text_map.specs.Map.{map_bytes}
@@ -16,19 +15,19 @@ use Rattle.text_map.specs.Reading.{MapAt}
 use Rattle.text_map.specs.declared.map_text.MapPart.{MapPart}
 use Rattle.text_map.proofs.Maps.{map_read, map_fault}
 use Rattle.session_laws.specs.Session.{ended, fault, no_map, session, calls_bytes, StandsFor, Passed}
-use Rattle.text_reading.specs.declared.call_lines.CallLine.TheVariants as callLine
-use Rattle.text_map.specs.declared.map_text.MapPart.TheVariants as mapPart
+use Rattle.std.specs.declared.option.Option.{Option}
+use Rattle.std.specs.declared.option.Option.TheVariants.{None, Some}
 
 -- the map part
-pub no_map_lem : (s d : List ℕ) {r : MapPart} → r ≡ mapPart.Fault → MapAt s d r → StandsFor s no_map
+pub no_map_lem : (s d : List ℕ) {r : Option MapPart} → r ≡ None → MapAt s d r → StandsFor s no_map
 unfolding StandsFor
 no_map_lem s d e h = λ short w g ts m rest q. map_fault s d e h short w g ts m rest q
 
-pub passed_map : (s d : List ℕ) (w h next : ℕ) {r : MapPart} → r ≡ mapPart.Read w h next → MapAt s d r → Passed s w h (take (w * h) d) [] next
+pub passed_map : (s d : List ℕ) (p : MapPart) {r : Option MapPart} → r ≡ Some p → MapAt s d r → Passed s p.width p.height (take (p.width * p.height) d) [] p.next
 unfolding calls_bytes
-passed_map s d w h next e m =
-    let k = map_read s d w h next e m in
-    record { fits = k.0; map = k.1; calls = tt; stood = subst (λ (x : List ℕ). Stands x s 0 next) (sym (append-nil (map_bytes w h (take (w * h) d)))) k.2 }
+passed_map s d p e m =
+    let k = map_read s d p e m in
+    record { fits = k.0; map = k.1; calls = tt; stood = subst (λ (x : List ℕ). Stands x s 0 p.next) (sym (append-nil (map_bytes p.width p.height (take (p.width * p.height) d)))) k.2 }
 
 calls_more : (cs : List Call) (c : Call) → calls_bytes (cs ++ (c ∷ [])) ≡ calls_bytes cs ++ call_bytes c
 unfolding calls_bytes
@@ -45,7 +44,7 @@ module _ {s : List ℕ} {w h : ℕ} {ts : List ℕ} {cs : List Call} {at : ℕ} 
   rest_is = p.stood.bytes ∙ append_assoc (map_bytes w h ts) (calls_bytes cs) (drop at s)
 
   -- one call more
-  pub passed_call : (c : Call) (next : ℕ) {r : CallLine} → r ≡ callLine.Read c next → CallAt s at r → Passed s w h ts (cs ++ (c ∷ [])) next
+  pub passed_call : (c : Call) (next : ℕ) {r : Option (Call × ℕ)} → r ≡ Some (c, next) → CallAt s at r → Passed s w h ts (cs ++ (c ∷ [])) next
   passed_call c next e k =
       let r = call_read s at c next e k in
       let w' = append_assoc (map_bytes w h ts) (calls_bytes cs) (call_bytes c) ∙ ap (λ (x : List ℕ). map_bytes w h ts ++ x) (sym (calls_more cs c)) in
@@ -57,7 +56,7 @@ module _ {s : List ℕ} {w h : ℕ} {ts : List ℕ} {cs : List Call} {at : ℕ} 
   passed_end l = (p.fits, p.map, p.calls, (drop at s, rest_is, drop_of_length-le s l))
 
   -- text at fault
-  pub passed_fault : at < length s → {r : CallLine} → r ≡ callLine.Fault → CallAt s at r → StandsFor s (session w h ts cs fault)
+  pub passed_fault : at < length s → {r : Option (Call × ℕ)} → r ≡ None → CallAt s at r → StandsFor s (session w h ts cs fault)
   unfolding StandsFor
   passed_fault l e k = (p.fits, p.map, p.calls, (drop at s, rest_is, (λ q. omega (arith, ap length q, length-drop at s), λ c i rest q. call_fault s at e k c i rest q)))
 
@@ -66,5 +65,5 @@ module _ {s : List ℕ} {w h : ℕ} {ts : List ℕ} {cs : List Call} {at : ℕ} 
   passed_few = let q = p.stood.place in omega (arith, calls_long cs, length-append (map_bytes w h ts) (calls_bytes cs))
 
 -- a call line ends within the text
-pub call_within : (s : List ℕ) (at : ℕ) (c : Call) (next : ℕ) {r : CallLine} → r ≡ callLine.Read c next → CallAt s at r → (at < next) × (next ≤ length s)
+pub call_within : (s : List ℕ) (at : ℕ) (c : Call) (next : ℕ) {r : Option (Call × ℕ)} → r ≡ Some (c, next) → CallAt s at r → (at < next) × (next ≤ length s)
 call_within s at c next e k = within (call_read s at c next e k).1 (omega (arith, call_long c))

@@ -29,8 +29,8 @@ pub after-start : {n : ℕ} {text ts d : List ℕ} {r : Begun} {e : List ℕ} �
 unfolding told_lines output
 after-start {text = text} {ts} (Began.fault m k none p q is) =
     (fault_line 1, put-after (omega arith) p q, over no_map (ap (λ (b : Begun). b.first.session.done) is) (no_map_lem text ts refl none) refl)
-after-start {n} {text} {ts} (Began.map w h next there p is) =
-    ([], put_as (sym (append-nil heading)) refl p, subst (λ (x : Begun). SoFar n text x.sides (take x.count ts) x.first.session []) (sym is) (going [] refl (passed_map text ts w h next refl there) refl (λ ds. refl)))
+after-start {n} {text} {ts} (Began.map p there written is) =
+    ([], put_as (sym (append-nil heading)) refl written, subst (λ (x : Begun). SoFar n text x.sides (take x.count ts) x.first.session []) (sym is) (going [] refl (passed_map text ts p refl there) refl (λ ds. refl)))
 
 -- a session that has ended has written all
 all-written : {n : ℕ} {text : List ℕ} {s : Sides} {ts : List ℕ} {f : Session} {out : List ℕ} → SoFar n text s ts f out → f.done ≡ true → (t : Text) → StandsFor text t → heading ++ out ≡ output n t

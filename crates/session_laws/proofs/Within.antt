@@ -43,7 +43,7 @@ module _ {n : ℕ} {text : List ℕ} {s : Sides} {ts : List ℕ} where
 -- the map's tiles
 pub count_within : {n : ℕ} {text ts d : List ℕ} {r : Begun} {e : List ℕ} → Began n text ts d r e → r.count ≤ length ts
 count_within (Began.fault m k none p q is) = omega (arith, ap (λ (b : Begun). b.count) is)
-count_within {text = text} {ts} (Began.map w h next there p is) =
+count_within {text = text} {ts} (Began.map p there written is) =
     let c = ap (λ (b : Begun). b.count) is in
-    let m = (map_read text ts w h next refl there).1.count in
-    omega (arith, length-take (w * h) ts)
+    let m = (map_read text ts p refl there).1.count in
+    omega (arith, length-take (p.width * p.height) ts)

@@ -1,9 +1,8 @@
 -- What the next line of a text does to a session. Definitions only.
-use Rattle.std.specs.Prelude.{ℕ, ◌+◌, ◌≤◌, ◌<◌, true, false, List, ◌≡◌, pos, length}
+use Rattle.std.specs.Prelude.{ℕ, ◌+◌, ◌≤◌, ◌<◌, true, false, List, Some, None, ◌≡◌, pos, length}
 use Rattle.map_tiles.specs.declared.tiles.Sides.{Sides}
 use Rattle.world.specs.declared.call.Call.{Call}
 use Rattle.text_reading.specs.Calls.{CallAt, answer_of_line}
-use Rattle.text_reading.specs.declared.call_lines.CallLine.TheVariants as line
 use Rattle.text_writing.specs.Output.{answer_bytes}
 use Rattle.text_writing.specs.Put.{Put}
 use Rattle.world.specs.declared.World.{World}
@@ -24,6 +23,6 @@ pub data LineRan (n : ℕ) (text : List ℕ) (s : Sides) (ts : List ℕ) (b : Se
   -- the text ends: nothing is written
   end : length text ≤ b.place → r ≡ ended_at b.call b.place b.world at → e ≡ d → LineRan n text s ts b d at r e
   -- no call stands there: text at fault, with the number of the call that is due
-  fault : b.place < length text → CallAt text b.place line.Fault → r ≡ ended_at b.call b.place b.world r.next → Put d at (answer_bytes (pos b.call) (pos (answer_of_line line.Fault))) e r.next → LineRan n text s ts b d at r e
+  fault : b.place < length text → CallAt text b.place None → r ≡ ended_at b.call b.place b.world r.next → Put d at (answer_bytes (pos b.call) (pos (answer_of_line None))) e r.next → LineRan n text s ts b d at r e
   -- a call: it is run, and its answer is written
-  call : (c : Call) (past : ℕ) → b.place < length text → CallAt text b.place (line.Read c past) → r ≡ goes_on (b.call + 1) past (ran n s ts b.world c).world r.next → Put d at (told_bytes n (pos b.call) (told_by (ran n s ts b.world c))) e r.next → LineRan n text s ts b d at r e
+  call : (c : Call) (past : ℕ) → b.place < length text → CallAt text b.place (Some (c, past)) → r ≡ goes_on (b.call + 1) past (ran n s ts b.world c).world r.next → Put d at (told_bytes n (pos b.call) (told_by (ran n s ts b.world c))) e r.next → LineRan n text s ts b d at r e

@@ -25,31 +25,16 @@ pub fn run_lines(
     ensures lines_ran { LinesRan seats text.now sides tiles.now session buf.old 0 result.session buf.new result.next }
     ensures buf_value { another seats result.session.done result.session.call result.next (length buf.old) ≡ false }
 {
-    let mut now = session;
-    let mut used = 0;
-    while another(now.done, now.call, used, buf.len()) {
-        let turned = run_line(text, sides, tiles, now, buf, used);
-        now = turned.session;
-        used = turned.next;
+    let mut turned = Turned { session, next: 0 };
+    while another(&turned.session, turned.next, buf.len()) {
+        turned = run_line(text, sides, tiles, turned.session, buf, turned.next);
     }
-    Turned {
-        session: now,
-        next: used,
-    }
+    turned
 }
 
 // Whether there is another line to run, and room for its answer.
-fn another(done: bool, call: u32, used: usize, len: usize) -> bool
-    ensures { result ≡ another seats done call used len }
+fn another(session: &Session, used: usize, len: usize) -> bool
+    ensures { result ≡ another seats session.now.done session.now.call used len }
 {
-    if done {
-        return false;
-    }
-    if call > MOST_CALLS {
-        return false;
-    }
-    if len < MOST_ANSWER {
-        return false;
-    }
-    used <= len - MOST_ANSWER
+    !session.done && session.call <= MOST_CALLS && MOST_ANSWER <= len && used <= len - MOST_ANSWER
 }

@@ -1,17 +1,18 @@
 // A session, and what the next line of its text does to it.
-ghost use Rattle.std.specs.Prelude.{◌≡◌, ◌+◌, ◌*◌, ◌≤◌, length};
+ghost use Rattle.std.specs.Prelude.{◌+◌, ◌*◌, ◌≤◌, length};
 ghost use Rattle.character.specs.Tick.{seats};
 ghost use Rattle.text_writing.specs.Output.{most_line};
-ghost use Rattle.session_run.specs.Line.{LineRan, ended_at, goes_on};
+ghost use Rattle.session_run.specs.Line.{LineRan};
 ghost use Rattle.session_run.specs.Session.{most_calls};
 
-use game_refusals::BAD_TEXT;
+use game_refusals::Refusal;
 use map_tiles::Sides;
 use role_calls::call_as;
 use role_rule::Role;
-use text_reading::{CallLine, next_call};
+use text_reading::next_call;
 use text_writing::{put_answer, put_told};
 use world::World;
+use world_step::world_after;
 
 // A session between two lines: whether it has ended, the number of the call that is due, the place of its line, the world.
 #[derive(Clone, Copy)]
@@ -42,49 +43,35 @@ pub fn run_line(
     ensures { LineRan seats text.now sides tiles.now session buf.old at result buf.new }
 {
     let call = session.call;
-    let place = session.place;
-    let world = session.world;
-    if text.len() <= place {
-        return ended(call, place, world, at);
+    if text.len() <= session.place {
+        return Turned {
+            session: Session {
+                done: true,
+                ..session
+            },
+            next: at,
+        };
     }
-    match next_call(text, place) {
-        CallLine::Fault => {
-            let next = put_answer(buf, at, call as i32, BAD_TEXT as i32);
-            ended(call, place, world, next)
-        }
-        CallLine::Read(line, past) => {
-            let ran = call_as(Role::Referee, world, sides, tiles, line);
-            let next = put_told(buf, at, call as i32, ran);
-            let after = ran.world;
-            goes_on(call + 1, past, after, next)
-        }
-    }
-}
-
-pub fn goes_on(call: u32, place: usize, world: World, next: usize) -> Turned
-    ensures { result ≡ goes_on call place world next }
-{
-    Turned {
-        session: Session {
-            done: false,
-            call,
-            place,
-            world,
+    match next_call(text, session.place) {
+        None => Turned {
+            session: Session {
+                done: true,
+                ..session
+            },
+            next: put_answer(buf, at, call as i32, u32::from(Refusal::BadText) as i32),
         },
-        next,
-    }
-}
-
-pub fn ended(call: u32, place: usize, world: World, next: usize) -> Turned
-    ensures { result ≡ ended_at call place world next }
-{
-    Turned {
-        session: Session {
-            done: true,
-            call,
-            place,
-            world,
-        },
-        next,
+        Some((line, past)) => {
+            let answer = call_as(Role::Referee, session.world, sides, tiles, line);
+            let next = put_told(buf, at, call as i32, answer);
+            Turned {
+                session: Session {
+                    done: false,
+                    call: call + 1,
+                    place: past,
+                    world: world_after(session.world, answer),
+                },
+                next,
+            }
+        }
     }
 }

@@ -5,10 +5,10 @@ ghost use Rattle.text_map.specs.Map.{most_tiles};
 ghost use Rattle.text_writing.specs.Output.{most_line};
 ghost use Rattle.session_run.specs.Start.{Began};
 
-use crate::session_lines::{Turned, ended, goes_on};
-use game_refusals::BAD_TEXT;
+use crate::session_lines::{Session, Turned};
+use game_refusals::Refusal;
 use map_tiles::Sides;
-use text_map::{MOST_BYTES, MapPart, read_map};
+use text_map::{MOST_BYTES, read_map};
 use text_writing::{put_answer, put_heading};
 use world_joins::fresh;
 
@@ -30,28 +30,37 @@ pub fn begin(text: &[u8], tiles: &mut [u8], buf: &mut [u8]) -> Begun
 {
     let end = put_heading(buf, 0);
     match read_map(text, tiles) {
-        MapPart::Fault => {
-            let past = put_answer(buf, end, 1, BAD_TEXT as i32);
-            Begun {
-                sides: Sides {
-                    width: 0,
-                    height: 0,
-                },
-                count: 0,
-                first: ended(1, 0, fresh(), past),
-            }
-        }
-        MapPart::Read {
-            width,
-            height,
-            next,
-        } => Begun {
+        None => Begun {
             sides: Sides {
-                width: width as u32,
-                height: height as u32,
+                width: 0,
+                height: 0,
             },
-            count: width * height,
-            first: goes_on(1, next, fresh(), end),
+            count: 0,
+            first: Turned {
+                session: Session {
+                    done: true,
+                    call: 1,
+                    place: 0,
+                    world: fresh(),
+                },
+                next: put_answer(buf, end, 1, u32::from(Refusal::BadText) as i32),
+            },
+        },
+        Some(map) => Begun {
+            sides: Sides {
+                width: map.width as u32,
+                height: map.height as u32,
+            },
+            count: map.width * map.height,
+            first: Turned {
+                session: Session {
+                    done: false,
+                    call: 1,
+                    place: map.next,
+                    world: fresh(),
+                },
+                next: end,
+            },
         },
     }
 }

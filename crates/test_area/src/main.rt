@@ -7,9 +7,11 @@ mod drawing;
 ghost use Rattle.std.specs.Prelude.{◌≤◌};
 
 use drawing::{MOST, digest_tiles, digest_totals, draw_tiles, draw_totals};
+use game_refusals::number_of_answer;
 use map_area::{area, build, change};
 use map_tiles::Sides;
 use num_convert::cast_signed;
+use std::cmp::min;
 use std::io;
 use std::io::{Read, Write};
 use test_common::{Counts, MOST_LINES, Outcome, after, byte_at, nth, read_line, rest};
@@ -89,10 +91,7 @@ fn line_agrees(line: &[u8]) -> bool {
 fn at_most(n: u32) -> usize
     ensures { result ≤ 1032 }
 {
-    if n as usize <= MOST {
-        return n as usize;
-    }
-    MOST
+    min(n as usize, MOST)
 }
 
 fn call_agrees(call: u8, sides: Sides, tiles: &mut [u8], totals: &mut [u32], words: &[u8]) -> bool {
@@ -108,18 +107,17 @@ fn call_agrees(call: u8, sides: Sides, tiles: &mut [u8], totals: &mut [u32], wor
 
 fn build_first(sides: Sides, tiles: &[u8], totals: &mut [u32], wanted: u32) {
     if wanted == 1 {
-        build(sides, tiles, totals);
+        let _ = build(sides, tiles, totals);
     }
 }
 
 fn build_agrees(sides: Sides, tiles: &[u8], totals: &mut [u32], answer: &[u8]) -> bool {
-    let number = build(sides, tiles, totals);
+    let number = number_of_answer(build(sides, tiles, totals));
     number == nth(answer, 0) && digest_totals(totals) == nth(answer, 1)
 }
 
 fn area_agrees(sides: Sides, tiles: &[u8], totals: &[u32], values: &[u8], answer: &[u8]) -> bool {
-    let mut count = NO_COUNT;
-    let number = area(
+    let told = area(
         sides,
         tiles,
         totals,
@@ -127,8 +125,11 @@ fn area_agrees(sides: Sides, tiles: &[u8], totals: &[u32], values: &[u8], answer
         cast_signed(nth(values, 1)),
         cast_signed(nth(values, 2)),
         cast_signed(nth(values, 3)),
-        &mut count,
     );
+    let (number, count) = match told {
+        Ok(count) => (0, count),
+        Err(refusal) => (refusal.into(), NO_COUNT),
+    };
     number == nth(answer, 0) && count == nth(answer, 1)
 }
 
@@ -139,14 +140,14 @@ fn change_agrees(
     values: &[u8],
     answer: &[u8],
 ) -> bool {
-    let number = change(
+    let number = number_of_answer(change(
         sides,
         tiles,
         totals,
         cast_signed(nth(values, 0)),
         cast_signed(nth(values, 1)),
         (nth(values, 2) % 256) as u8,
-    );
+    ));
     number == nth(answer, 0)
         && digest_totals(totals) == nth(answer, 1)
         && digest_tiles(tiles) == nth(answer, 2)

@@ -9,7 +9,7 @@ use ponguriena::{
     ponguriena_tune,
 };
 use test_common::{after, digest, mix_first, nth, read_numbers};
-use text_reading::{Decoded, decode};
+use text_reading::decode;
 use world::Call;
 use world_numbers::RECORDS;
 
@@ -77,7 +77,7 @@ pub struct Told {
 
 // Values that are no call agree with nothing: no answer has their number.
 pub fn called(world: &mut [i32], sides: Sides, tiles: &[u8], role: i32, values: [i32; 7]) -> Told {
-    let Decoded::Call(call) = decode(values) else {
+    let Some(call) = decode(values) else {
         return without_records(u32::MAX);
     };
     match call {

@@ -7,7 +7,6 @@ ghost use Rattle.test_common.specs.declared.counts.Outcome.TheVariants.{Agrees, 
 use base_input::write_full;
 use std::io;
 use std::io::Write;
-use std::num::wrapping_add_u64;
 
 // What came of reading a line.
 #[derive(Clone, Copy)]
@@ -52,11 +51,11 @@ impl Counts {
         match outcome {
             Outcome::End => self,
             Outcome::Agrees => Counts {
-                lines: wrapping_add_u64(self.lines, 1),
-                good: wrapping_add_u64(self.good, 1),
+                lines: self.lines.wrapping_add(1),
+                good: self.good.wrapping_add(1),
             },
             Outcome::Differs => Counts {
-                lines: wrapping_add_u64(self.lines, 1),
+                lines: self.lines.wrapping_add(1),
                 good: self.good,
             },
         }

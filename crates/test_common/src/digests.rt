@@ -2,6 +2,7 @@
 ghost use Rattle.std.specs.Prelude.{◌≡◌};
 ghost use Rattle.test_common.specs.Digest.{mixed, mixed_first, digest_of};
 
+use crate::lines::first;
 use num_convert::cast_unsigned;
 
 const FACTOR: u64 = 16777619;
@@ -21,8 +22,7 @@ pub fn digest(numbers: &[i32]) -> u32
     ensures { result ≡ digest_of numbers.now }
 {
     let mut sum = 0;
-    for i in 0..numbers.len() {
-        let number = numbers[i];
+    for &number in numbers {
         sum = mix(sum, number);
     }
     sum
@@ -33,11 +33,8 @@ pub fn mix_first(digest: u32, numbers: &[i32], count: usize) -> u32
     ensures { result ≡ mixed_first count numbers.now digest }
 {
     let mut sum = digest;
-    for i in 0..numbers.len() {
-        let number = numbers[i];
-        if i < count {
-            sum = mix(sum, number);
-        }
+    for &number in first(numbers, count) {
+        sum = mix(sum, number);
     }
     sum
 }

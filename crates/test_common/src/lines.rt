@@ -23,28 +23,19 @@ pub fn read_line<R: Read>(input: &mut R, line: &mut [u8]) -> io::Result<bool>
 pub fn byte_at(line: &[u8], i: usize) -> u8
     ensures { result ≡ slice_index line.now i }
 {
-    if i < line.len() {
-        return line[i];
-    }
-    0
+    line.get(i).copied().unwrap_or(0)
 }
 
 // The bytes from the number n on.
 pub fn rest(line: &[u8], n: usize) -> &[u8]
     ensures { result.now ≡ drop n line.now }
 {
-    if n <= line.len() {
-        return &line[n..];
-    }
-    &line[0..0]
+    &line[line.len().min(n)..]
 }
 
-// The first n bytes.
-pub fn first(line: &[u8], n: usize) -> &[u8]
+// The first n of a row.
+pub fn first<T: Copy>(line: &[T], n: usize) -> &[T]
     ensures { result.now ≡ take n line.now }
 {
-    if n <= line.len() {
-        return &line[0..n];
-    }
-    line
+    &line[..line.len().min(n)]
 }

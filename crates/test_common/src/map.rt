@@ -2,7 +2,7 @@
 ghost use Rattle.std.specs.Prelude.{◌≡◌, ◌*◌, ◌<◌};
 ghost use Rattle.test_common.specs.Words.{two_digits, width_in, height_in, sides_in, tiles_of, tiles_in};
 
-use crate::lines::{byte_at, rest};
+use crate::lines::{byte_at, first, rest};
 use crate::vectors::hex;
 use map_tiles::Sides;
 
@@ -60,10 +60,8 @@ fn tiles_from(digits: &[u8]) -> [u8; 64]
     ensures { result ≡ tiles_of digits.now }
 {
     let mut tiles = [0u8; 64];
-    for i in 0..64usize {
-        if i < digits.len() {
-            tiles[i] = hex(digits[i]) as u8;
-        }
+    for (i, &digit) in first(digits, 64).iter().enumerate() {
+        tiles[i] = hex(digit) as u8;
     }
     tiles
 }

@@ -9,17 +9,15 @@ use num_convert::cast_signed;
 pub fn read_numbers(words: &[u8], numbers: &mut [i32])
     ensures { numbers.new ≡ numbers_in words.now numbers.old }
 {
-    for i in 0..numbers.len() {
-        let number = cast_signed(nth(words, i));
-        numbers[i] = number;
+    for (i, number) in numbers.iter_mut().enumerate() {
+        *number = cast_signed(nth(words, i));
     }
 }
 
 pub fn are_numbers(numbers: &[i32], words: &[u8]) -> bool
     ensures { result ≡ true → AreNumbers words.now numbers.now }
 {
-    for i in 0..numbers.len() {
-        let number = numbers[i];
+    for (i, &number) in numbers.iter().enumerate() {
         if !is_int(number, nth(words, i)) {
             return false;
         }

@@ -5,6 +5,7 @@ ghost use Rattle.num_convert.specs.Casts.{cast_signed};
 ghost use Rattle.num_vec2.specs.Vec2.{vnew};
 ghost use Rattle.test_common.specs.Words.{hex_of, word_of, words_from, word_at};
 
+use crate::lines::first;
 use num_convert::cast_signed;
 use num_vec2::vec2;
 
@@ -13,10 +14,8 @@ pub fn word(text: &[u8]) -> u32
     ensures { result ≡ word_of text.now }
 {
     let mut value: u32 = 0;
-    for i in 0..8usize {
-        if i < text.len() {
-            value = value % 0x1000_0000 * 16 + hex(text[i]);
-        }
+    for &digit in first(text, 8) {
+        value = value % 0x1000_0000 * 16 + hex(digit);
     }
     value
 }
@@ -24,19 +23,11 @@ pub fn word(text: &[u8]) -> u32
 pub fn hex(byte: u8) -> u32
     ensures { (result ≡ hex_of byte) × (result < 16) }
 {
-    if byte < 48 {
-        return 0;
+    match byte {
+        b'0'..=b'9' => (byte - b'0') as u32,
+        b'a'..=b'f' => (byte - b'a') as u32 + 10,
+        _ => 0,
     }
-    if byte < 58 {
-        return (byte - 48) as u32;
-    }
-    if byte < 97 {
-        return 0;
-    }
-    if byte < 103 {
-        return (byte - 87) as u32;
-    }
-    0
 }
 
 // The word with the number k; each ends with a byte of its own.

@@ -2,9 +2,8 @@
 // bench/record prints the lines (record_packed): how many bytes, 80 bytes, then the number, how many bytes were used, and the record.
 #![tactic(auto)]
 
-use game_packed::{MOST_PACKED, Unpacked, pack, unpack};
+use game_packed::{MOST_PACKED, Packed, pack, unpack};
 use game_records::{CharacterCore, core_numbers};
-use game_refusals::{BAD_BYTES, BYTES_END};
 use std::io;
 use std::io::{Read, Write};
 use test_common::{
@@ -59,8 +58,8 @@ fn line_agrees(line: &[u8]) -> bool {
 
 // Two digits for each byte.
 fn read_bytes(digits: &[u8], bytes: &mut [u8]) {
-    for i in 0..bytes.len() {
-        bytes[i] = digits_byte(digits, i);
+    for (i, byte) in bytes.iter_mut().enumerate() {
+        *byte = digits_byte(digits, i);
     }
 }
 
@@ -69,21 +68,20 @@ fn digits_byte(digits: &[u8], i: usize) -> u8 {
     if i < 1000 {
         let high = hex(byte_at(digits, 2 * i));
         let low = hex(byte_at(digits, 2 * i + 1));
-        return (high * 16 + low) as u8;
+        (high * 16 + low) as u8
+    } else {
+        0
     }
-    0
 }
 
 fn read_agrees(bytes: &[u8], words: &[u8]) -> bool {
     let number = nth(words, NUMBER);
     match unpack(bytes) {
-        Unpacked::Ends => number == BYTES_END,
-        Unpacked::Wrong => number == BAD_BYTES,
-        Unpacked::Record(core, used) => {
-            let numbers = core_numbers(core);
+        Err(refusal) => number == refusal.into(),
+        Ok((core, used)) => {
             number == ACCEPTED
                 && nth(words, USED) as usize == used
-                && are_numbers(&numbers, after(words, RECORD))
+                && are_numbers(&core_numbers(core), after(words, RECORD))
                 && write_agrees(core, first(bytes, used))
         }
     }
@@ -91,9 +89,7 @@ fn read_agrees(bytes: &[u8], words: &[u8]) -> bool {
 
 // The writer makes the bytes that were used, and zeros after them.
 fn write_agrees(core: CharacterCore, bytes: &[u8]) -> bool {
-    let packed = pack(core);
-    let made = packed.bytes;
+    let Packed { bytes: made, count } = pack(core);
     let zeros = [0u8; MOST_PACKED];
-    let count = packed.count;
     first(&made, count) == bytes && rest(&made, count) == rest(&zeros, count)
 }

@@ -7,11 +7,11 @@
 ghost use Rattle.std.specs.Prelude.{◌<◌};
 ghost use Rattle.test_physics.specs.Scene.{scene};
 
-use character::{Character, Moved, SEATS, Slot, Ticked};
+use character::{Character, SEATS, Slot};
 use character_hook::CharacterId;
 use character_meeting::HookPull;
 use game_records::PlayerInput;
-use game_refusals::TOO_FAR;
+use game_refusals::Refusal;
 use game_tuning::TUNINGS;
 use map_tiles::Sides;
 use num_convert::cast_signed;
@@ -101,18 +101,14 @@ fn tick_agrees(sides: Sides, tiles: &[u8], words: &[u8]) -> bool {
         tunings_of(words),
     );
     match ticked {
-        Ticked::BadMap => false,
-        Ticked::BadId => false,
-        Ticked::TooFar => number == TOO_FAR && all_agree(before, slots, HookPull::Nobody, words),
-        Ticked::To(after) => {
-            let me = after.me;
-            let pull = after.pull;
-            number == ACCEPTED && all_agree(me, slots, pull, words)
-        }
+        Ok(after) => number == ACCEPTED && all_agree(after.me, slots, after.pull, words),
+        Err(refusal) => refusal == Refusal::TooFar
+            && number == refusal.into()
+            && all_agree(before, slots, None, words),
     }
 }
 
-fn all_agree(me: Character, slots: [Slot; SEATS], pull: HookPull, words: &[u8]) -> bool {
+fn all_agree(me: Character, slots: [Slot; SEATS], pull: Option<HookPull>, words: &[u8]) -> bool {
     is_character(me, after(words, CHARACTER)) && slots_agree(slots, pull, words)
 }
 
@@ -127,10 +123,8 @@ fn move_agrees(sides: Sides, tiles: &[u8], words: &[u8]) -> bool {
         tunings_of(words),
     );
     match moved {
-        Moved::BadMap => false,
-        Moved::BadId => false,
-        Moved::TooFar => number == TOO_FAR,
-        Moved::To(me) => number == ACCEPTED && is_character(me, after(words, CHARACTER)),
+        Ok(me) => number == ACCEPTED && is_character(me, after(words, CHARACTER)),
+        Err(refusal) => refusal == Refusal::TooFar && number == refusal.into(),
     }
 }
 
@@ -144,7 +138,7 @@ fn own_character(words: &[u8]) -> Character {
     Character::spawn(point(0, 0))
 }
 
-fn slots_agree(slots: [Slot; SEATS], pull: HookPull, words: &[u8]) -> bool {
+fn slots_agree(slots: [Slot; SEATS], pull: Option<HookPull>, words: &[u8]) -> bool {
     let mut agree = true;
     for j in 0..SCENE {
         if !slot_agrees(slots[j], pull, words, j) {
@@ -155,7 +149,7 @@ fn slots_agree(slots: [Slot; SEATS], pull: HookPull, words: &[u8]) -> bool {
 }
 
 // Nothing of a slot changes but the velocity.
-fn slot_agrees(from: Slot, pull: HookPull, words: &[u8], j: usize) -> bool
+fn slot_agrees(from: Slot, pull: Option<HookPull>, words: &[u8], j: usize) -> bool
     requires { j < scene }
 {
     let slot = from.pulled(pull, j);

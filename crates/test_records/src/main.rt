@@ -2,8 +2,9 @@
 // tells how many agree. bench/world/record_records prints the lines: s or r, a state, the number, a record, the state of the record.
 #![tactic(auto)]
 
-use character::{Character, Net, Quantized};
+use character::Character;
 use game_records::{CORE, core_numbers, core_of};
+use game_refusals::Refusal;
 use std::io;
 use std::io::{Read, Write};
 use test_common::{
@@ -23,8 +24,6 @@ const RECORD: usize = 119;
 const AFTER: usize = 254;
 
 const ACCEPTED: u32 = 0;
-
-const TICK_TOO_LARGE: u32 = 10;
 
 fn main(rt: HostRuntime) -> io::Result<()> {
     let mut output = io::writer(&rt);
@@ -64,7 +63,7 @@ fn state_case(before: &[u8], number: u32, record: &[u8], after: &[u8]) -> bool {
     let character = character_of(before);
     net_agrees(character, number, record)
         && quantize_agrees(character, number, after)
-        && (number == TICK_TOO_LARGE || record_case(number, record, after))
+        && (number == u32::from(Refusal::TickTooLarge) || record_case(number, record, after))
 }
 
 fn record_case(number: u32, record: &[u8], after: &[u8]) -> bool {
@@ -75,28 +74,22 @@ fn record_case(number: u32, record: &[u8], after: &[u8]) -> bool {
 }
 
 fn net_agrees(character: Character, number: u32, record: &[u8]) -> bool {
-    let net = character.to_net();
-    match net {
-        Net::TickTooLarge => number == TICK_TOO_LARGE,
-        Net::Core(core) => {
-            let numbers = core_numbers(core);
-            number == ACCEPTED && are_numbers(&numbers, record)
-        }
+    match character.to_net() {
+        Ok(core) => number == ACCEPTED && are_numbers(&core_numbers(core), record),
+        Err(refusal) => number == refusal.into(),
     }
 }
 
 fn number_agrees(character: Character, number: u32) -> bool {
-    let net = character.to_net();
-    match net {
-        Net::TickTooLarge => number == TICK_TOO_LARGE,
-        Net::Core(_) => number == ACCEPTED,
+    match character.to_net() {
+        Ok(_) => number == ACCEPTED,
+        Err(refusal) => number == refusal.into(),
     }
 }
 
 fn quantize_agrees(character: Character, number: u32, after: &[u8]) -> bool {
-    let quantized = character.quantize();
-    match quantized {
-        Quantized::TickTooLarge => number == TICK_TOO_LARGE,
-        Quantized::To(character) => number == ACCEPTED && is_character(character, after),
+    match character.quantize() {
+        Ok(character) => number == ACCEPTED && is_character(character, after),
+        Err(refusal) => number == refusal.into(),
     }
 }

@@ -4,6 +4,7 @@ ghost use Rattle.send_numbers.specs.Passing.{passed_count};
 
 use character::SEATS;
 use game_records::PlayerInput;
+use game_refusals::number_of_answer;
 use map_tiles::Sides;
 use send_buffers::{
     receive_in, screen_fresh_in, send_leave_in, send_step_in, send_tune_in, sender_fresh_in,
@@ -30,9 +31,9 @@ impl Link {
         let mut world = [0i32; WORLD];
         let mut sender = [0i32; SENDER];
         let mut screen = [0i32; SCREEN];
-        fresh_in(&mut world);
-        sender_fresh_in(&mut sender);
-        screen_fresh_in(&mut screen);
+        let _ = fresh_in(&mut world);
+        let _ = sender_fresh_in(&mut sender);
+        let _ = screen_fresh_in(&mut screen);
         Link {
             number: 0,
             passed_digest: 0,
@@ -101,8 +102,8 @@ fn call_in(
     count: &mut usize,
 ) -> u32 {
     match call {
-        Call::Join { id, x, y } => join_in(world, sides, tiles, id, x, y),
-        Call::Leave { id } => send_leave_in(world, sender, id, passed, count),
+        Call::Join { id, x, y } => number_of_answer(join_in(world, sides, tiles, id, x, y)),
+        Call::Leave { id } => number_of_answer(send_leave_in(world, sender, id, passed, count)),
         Call::Input {
             id,
             direction,
@@ -118,10 +119,12 @@ fn call_in(
                 jump,
                 hook,
             };
-            input_in(world, id, values)
+            number_of_answer(input_in(world, id, values))
         }
         Call::Step => step_in(world, sender, sides, tiles, passed, count),
-        Call::Tune { index, value } => send_tune_in(world, sender, index, value, passed, count),
+        Call::Tune { index, value } => number_of_answer(send_tune_in(
+            world, sender, index, value, passed, count,
+        )),
     }
 }
 
@@ -136,28 +139,31 @@ fn step_in(
 ) -> u32 {
     let mut records = [0i32; RECORDS];
     let mut removed = [0i32; SEATS];
-    let mut gone = 0usize;
-    send_step_in(
+    let answer = send_step_in(
         world,
         sender,
         sides,
         tiles,
         &mut records,
         &mut removed,
-        &mut gone,
         passed,
         count,
-    )
+    );
+    match answer {
+        Ok(_) => 0,
+        Err(refusal) => refusal.into(),
+    }
 }
 
 // Each thing from where the last one ended; one that is refused ends it.
 fn receive_all(screen: &mut [i32], sides: Sides, tiles: &[u8], passed: &[i32]) {
     let mut at = 0usize;
     for _ in 0..MOST_PASSED {
-        let mut used = 0usize;
-        if at < passed.len() {
-            receive_in(screen, sides, tiles, &passed[at..], &mut used);
-        }
+        let used = if at < passed.len() {
+            receive_in(screen, sides, tiles, &passed[at..]).unwrap_or(0)
+        } else {
+            0
+        };
         if used <= MESSAGE {
             at += used;
         }

@@ -12,7 +12,7 @@ use test_common::{
     AFTER_MAP, Counts, MOST_LINES, Outcome, after, first, nth, read_line, read_numbers, rest,
     tile_count, tiles_of,
 };
-use text_reading::{Decoded, decode};
+use text_reading::decode;
 use world::Call;
 
 // The length of a line.
@@ -78,7 +78,7 @@ fn after_line<W: Write>(output: &mut W, link: Link, line: &[u8]) -> io::Result<N
     let words = rest(line, AFTER_MAP);
     let mut values = [0i32; 7];
     read_numbers(after(words, CALL), &mut values);
-    let Decoded::Call(call) = decode(values) else {
+    let Some(call) = decode(values) else {
         let outcome = Outcome::of(output, false, line)?;
         return Ok(Next { outcome, link });
     };

@@ -6,9 +6,9 @@
 use character::SEATS;
 use std::io;
 use std::io::{Read, Write};
-use test_calls::{ANSWER, BESIDES, LINE, called, world_before};
+use test_calls::{ANSWER, BESIDES, LINE, Seen, called, world_before};
 use test_common::{AFTER_MAP, Counts, MOST_LINES, Outcome, digest, mix, nth, read_line, rest};
-use world::{Stepped, World};
+use world::World;
 use world_joins::fresh;
 use world_numbers::{flag, record_numbers};
 
@@ -55,25 +55,25 @@ fn next_line<R: Read, W: Write>(input: &mut R, output: &mut W, world: World) -> 
 }
 
 fn after_line<W: Write>(output: &mut W, world: World, line: &[u8]) -> io::Result<Next> {
-    let stepped = called(world, line);
-    let left = stepped.world;
-    let outcome = Outcome::of(output, answer_agrees(stepped, rest(line, AFTER_MAP)), line)?;
+    let seen = called(world, line);
+    let left = seen.world;
+    let outcome = Outcome::of(output, answer_agrees(seen, rest(line, AFTER_MAP)), line)?;
     Ok(Next {
         outcome,
         world: left,
     })
 }
 
-fn answer_agrees(stepped: Stepped, words: &[u8]) -> bool {
-    stepped.number == nth(words, ANSWER)
-        && seen(stepped, nth(words, ID) as usize) == nth(words, SEEN)
+fn answer_agrees(seen: Seen, words: &[u8]) -> bool {
+    seen.number == nth(words, ANSWER)
+        && seat_seen(seen, nth(words, ID) as usize) == nth(words, SEEN)
 }
 
 // The record that was taken, whether somebody is there after it, and the floor mark, as one word.
-fn seen(stepped: Stepped, id: usize) -> u32 {
+fn seat_seen(seen: Seen, id: usize) -> u32 {
     if id < SEATS {
-        let records = stepped.records;
-        let world = stepped.world;
+        let records = seen.records;
+        let world = seen.world;
         let slots = world.slots;
         let slot = slots[id];
         let record = record_numbers(records[id]);

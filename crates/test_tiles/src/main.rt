@@ -2,9 +2,8 @@
 // many agree. bench/world/record_world prints the lines: l or m, the map's sides and 64 tiles, 6 arguments, 5 answers.
 #![tactic(auto)]
 
-use map_lines::{LineCheck, LineHit};
+use game_refusals::Refusal;
 use map_tiles::{Sides, Tile};
-use map_walks::BoxMove;
 use std::io;
 use std::io::{Read, Write};
 use test_common::{
@@ -59,13 +58,10 @@ fn line_case(sides: Sides, tiles: &[u8], patterns: &[u8]) -> bool {
         point(nth(patterns, 2), nth(patterns, 3)),
     );
     match check {
-        LineCheck::BadMap => false,
-        LineCheck::TooFar => number == 9,
-        LineCheck::Met(hit) => match hit {
-            LineHit::Nothing => number == 0,
-            LineHit::At(p, tile) => number == byte_of(tile)
-                && is_point(p, nth(patterns, 7), nth(patterns, 8)),
-        },
+        Ok(None) => number == 0,
+        Ok(Some((p, tile))) => number == byte_of(tile)
+            && is_point(p, nth(patterns, 7), nth(patterns, 8)),
+        Err(refusal) => refusal == Refusal::TooFar && number == 9,
     }
 }
 
@@ -79,11 +75,10 @@ fn box_case(sides: Sides, tiles: &[u8], patterns: &[u8]) -> bool {
         point(nth(patterns, 4), nth(patterns, 5)),
     );
     match moved {
-        BoxMove::BadMap => false,
-        BoxMove::TooFar => number == 9,
-        BoxMove::To(body) => number == 0
+        Ok(body) => number == 0
             && is_point(body.pos, nth(patterns, 7), nth(patterns, 8))
             && is_point(body.vel, nth(patterns, 9), nth(patterns, 10)),
+        Err(refusal) => refusal == Refusal::TooFar && number == 9,
     }
 }
 

@@ -4,6 +4,7 @@
 
 mod reading;
 
+use game_refusals::number_of_answer;
 use map_tiles::Sides;
 use num_convert::cast_signed;
 use reading::{JOINS, RESULT, TARGETS, TUNING_NUMBERS, at_most, read_joins, read_tunings};
@@ -94,7 +95,7 @@ fn agrees(
         height: nth(words, SIDES + 1),
     };
     let tiles = tiles_of(line);
-    let number = trial(
+    let number = number_of_answer(trial(
         sides,
         first(&tiles, tile_count(line)),
         joins,
@@ -102,6 +103,6 @@ fn agrees(
         tunings,
         cast_signed(nth(words, STEPS)),
         res,
-    );
+    ));
     number == nth(words, ANSWER) && digest(res) == nth(words, ANSWER + 1)
 }

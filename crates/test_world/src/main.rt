@@ -7,9 +7,9 @@ mod digest;
 use digest::{told_digest, world_digest};
 use std::io;
 use std::io::{Read, Write};
-use test_calls::{ANSWER, BESIDES, LINE, called, world_before};
+use test_calls::{ANSWER, BESIDES, LINE, Seen, called, world_before};
 use test_common::{AFTER_MAP, Counts, MOST_LINES, Outcome, nth, read_line, rest};
-use world::{Stepped, World};
+use world::World;
 use world_joins::fresh;
 
 // Where the digests of the world and of what was told stand among the words.
@@ -55,20 +55,20 @@ fn next_line<R: Read, W: Write>(input: &mut R, output: &mut W, world: World) -> 
 }
 
 fn after_line<W: Write>(output: &mut W, world: World, line: &[u8]) -> io::Result<Next> {
-    let stepped = called(world, line);
-    let left = stepped.world;
-    let outcome = Outcome::of(output, answer_agrees(stepped, rest(line, AFTER_MAP)), line)?;
+    let seen = called(world, line);
+    let left = seen.world;
+    let outcome = Outcome::of(output, answer_agrees(seen, rest(line, AFTER_MAP)), line)?;
     Ok(Next {
         outcome,
         world: left,
     })
 }
 
-fn answer_agrees(stepped: Stepped, words: &[u8]) -> bool {
-    let world = stepped.world;
-    let records = stepped.records;
-    let removed = stepped.removed;
-    stepped.number == nth(words, ANSWER)
+fn answer_agrees(seen: Seen, words: &[u8]) -> bool {
+    let world = seen.world;
+    let records = seen.records;
+    let removed = seen.removed;
+    seen.number == nth(words, ANSWER)
         && told_digest(records, removed) == nth(words, RECORDS)
         && world_digest(world) == nth(words, WORLD)
 }

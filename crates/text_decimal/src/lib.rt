@@ -7,12 +7,12 @@ mod unsigned;
 ghost use Rattle.std.specs.Prelude.{◌≡◌};
 ghost use Rattle.text_decimal.specs.Lines.{end_byte};
 
-pub use signed::{Value, read_value};
-pub use unsigned::{Number, read_number};
+pub use signed::read_value;
+pub use unsigned::read_number;
 
 // The byte that ends a value with `left` values of its line still to come.
 pub fn end_byte(left: usize) -> u8
     ensures { result ≡ end_byte left }
 {
-    if left == 0 { 10 } else { 32 }
+    if left == 0 { b'\n' } else { b' ' }
 }

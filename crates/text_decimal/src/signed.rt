@@ -2,38 +2,25 @@
 ghost use Rattle.std.specs.Prelude.{◌≡◌, ◌-◌, ◌<◌, ◌≤◌, negsuc};
 ghost use Rattle.text_decimal.specs.Reading.{ValueAt};
 
-use crate::unsigned::{Number, read_number};
+use crate::unsigned::read_number;
 
-// A value with the place past the byte that ends it.
-#[derive(Clone, Copy)]
-pub enum Value {
-    Read(i32, usize),
-    Fault,
-}
-
-pub fn read_value(text: &[u8], at: usize, stop: u8) -> Value
+// Reads a value, with the place past the byte that ends it.
+pub fn read_value(text: &[u8], at: usize, stop: u8) -> Option<(i32, usize)>
     requires { stop < 48 }
     ensures { ValueAt stop text.now at result }
 {
-    if text.len() <= at {
-        return Value::Fault;
-    }
-    if text[at] == 45 {
-        let Number::Read(n, next) = read_number(text, at + 1, stop) else {
-            return Value::Fault;
-        };
+    if *text.get(at)? == b'-' {
+        let (n, next) = read_number(text, at + 1, stop)?;
         if n == 0 {
-            return Value::Fault;
+            return None;
         }
-        return Value::Read(minus(n), next);
+        return Some((minus(n), next));
     }
-    let Number::Read(n, next) = read_number(text, at, stop) else {
-        return Value::Fault;
-    };
+    let (n, next) = read_number(text, at, stop)?;
     if 2147483648 <= n {
-        return Value::Fault;
+        return None;
     }
-    Value::Read(n as i32, next)
+    Some((n as i32, next))
 }
 
 // Minus n, for n from 1 to 2^31.

@@ -2,49 +2,32 @@
 ghost use Rattle.std.specs.Prelude.{◌<◌};
 ghost use Rattle.text_decimal.specs.Reading.{NumberAt};
 
-// A number with the place past the byte that ends it.
-#[derive(Clone, Copy)]
-pub enum Number {
-    Read(u64, usize),
-    Fault,
-}
-
-pub fn read_number(text: &[u8], at: usize, stop: u8) -> Number
+// Reads a number, with the place past the byte that ends it.
+pub fn read_number(text: &[u8], at: usize, stop: u8) -> Option<(u64, usize)>
     requires { stop < 48 }
     ensures { NumberAt stop text.now at result }
 {
-    if text.len() <= at {
-        return Number::Fault;
+    let first = *text.get(at)?;
+    if !first.is_ascii_digit() {
+        return None;
     }
-    let first = text[at];
-    if first < 48 {
-        return Number::Fault;
-    }
-    if 57 < first {
-        return Number::Fault;
-    }
-    let mut n = (first - 48) as u64;
-    let mut i = at + 1;
-    while i < text.len() {
+    let mut n = (first - b'0') as u64;
+    for i in at + 1..text.len() {
         let b = text[i];
         if b == stop {
-            return Number::Read(n, i + 1);
+            return Some((n, i + 1));
         }
         if n == 0 {
-            return Number::Fault;
+            return None;
         }
-        if b < 48 {
-            return Number::Fault;
+        if !b.is_ascii_digit() {
+            return None;
         }
-        if 57 < b {
-            return Number::Fault;
-        }
-        let m = n * 10 + (b - 48) as u64;
+        let m = n * 10 + (b - b'0') as u64;
         if 2147483648 < m {
-            return Number::Fault;
+            return None;
         }
         n = m;
-        i += 1;
     }
-    Number::Fault
+    None
 }

@@ -10,45 +10,40 @@ use Rattle.text_decimal.specs.Places.{Stands, Absent}
 use Rattle.text_decimal.proofs.Places.{follows, chain}
 use Rattle.text_decimal.proofs.Told.{number_only, number_read, number_fault}
 use Rattle.text_decimal.specs.Reading.{NumberAt}
-use Rattle.text_decimal.specs.declared.unsigned.Number.{Number}
 use Rattle.text_map.specs.Map.{IsSide, size_names, tile_names, head_bytes}
 use Rattle.text_map.specs.Reading.{NameAt, SideAt, HeadAt}
-use Rattle.text_map.specs.declared.head.Side.{Side}
-use Rattle.text_map.specs.declared.name.Place.{Place}
-use Rattle.text_decimal.specs.declared.unsigned.Number.TheVariants as number
-use Rattle.text_map.specs.declared.head.Head.TheVariants as head
-use Rattle.text_map.specs.declared.head.Side.TheVariants as side
-use Rattle.text_map.specs.declared.name.Place.TheVariants as place
+use Rattle.std.specs.declared.option.Option.{Option}
+use Rattle.std.specs.declared.option.Option.TheVariants.{None, Some}
 
 -- ---- names
-pub name_read : (name s : List ℕ) (at next : ℕ) {r : Place} → r ≡ place.At next → NameAt name s at r → Stands name s at next
+pub name_read : (name s : List ℕ) (at next : ℕ) {r : Option ℕ} → r ≡ Some next → NameAt name s at r → Stands name s at next
 unfolding NameAt
 name_read name s at next e h = subst (NameAt name s at) e h
 
-pub name_fault : (name s : List ℕ) (at : ℕ) {r : Place} → r ≡ place.Fault → NameAt name s at r → Absent name s at
+pub name_fault : (name s : List ℕ) (at : ℕ) {r : Option ℕ} → r ≡ None → NameAt name s at r → Absent name s at
 unfolding NameAt
 name_fault name s at e h = subst (NameAt name s at) e h
 
 -- ---- a side
-module _ (stop : ℕ) (s : List ℕ) (at : ℕ) {r : Number} (h : NumberAt stop s at r) where
-  pub no_number : r ≡ number.Fault → SideAt stop s at side.Fault
+module _ (stop : ℕ) (s : List ℕ) (at : ℕ) {r : Option (ℕ × ℕ)} (h : NumberAt stop s at r) where
+  pub no_number : r ≡ None → SideAt stop s at None
   unfolding SideAt
   no_number e = λ n i. number_fault stop s at e h n (omega arith)
 
-  module _ (n next : ℕ) (e : r ≡ number.Read n next) where
-    pub a-side : 1 ≤ n → n ≤ 1024 → SideAt stop s at (side.Read n next)
+  module _ (n next : ℕ) (e : r ≡ Some (n, next)) where
+    pub a-side : 1 ≤ n → n ≤ 1024 → SideAt stop s at (Some (n, next))
     unfolding SideAt
     a-side a b = ((a, b), (number_read stop s at n next e h).1)
 
-    pub no-side : stop < 48 → (IsSide n → ⊥) → SideAt stop s at side.Fault
+    pub no-side : stop < 48 → (IsSide n → ⊥) → SideAt stop s at None
     unfolding SideAt
     no-side low out = λ m i rest d. let t = number_read stop s at n next e h in out (subst IsSide (sym (number_only stop n m rest low t.0 (omega arith) t.1 d).0) i)
 
-pub side_read : (stop : ℕ) (s : List ℕ) (at n next : ℕ) {r : Side} → r ≡ side.Read n next → SideAt stop s at r → IsSide n × Stands (ended (digits 10 n) stop) s at next
+pub side_read : (stop : ℕ) (s : List ℕ) (at n next : ℕ) {r : Option (ℕ × ℕ)} → r ≡ Some (n, next) → SideAt stop s at r → IsSide n × Stands (ended (digits 10 n) stop) s at next
 unfolding SideAt
 side_read stop s at n next e h = subst (SideAt stop s at) e h
 
-pub side_fault : (stop : ℕ) (s : List ℕ) (at : ℕ) {r : Side} → r ≡ side.Fault → SideAt stop s at r → (n : ℕ) → IsSide n → Absent (ended (digits 10 n) stop) s at
+pub side_fault : (stop : ℕ) (s : List ℕ) (at : ℕ) {r : Option (ℕ × ℕ)} → r ≡ None → SideAt stop s at r → (n : ℕ) → IsSide n → Absent (ended (digits 10 n) stop) s at
 unfolding SideAt
 side_fault stop s at e h = subst (SideAt stop s at) e h
 
@@ -61,12 +56,12 @@ head_split : (w h : ℕ) (rest : List ℕ) → head_bytes w h ++ rest ≡ size_n
 head_split w h rest = simp (append_assoc, append-nil)
 
 module _ (s : List ℕ) where
-  pub no_names : Absent size_names s 0 → HeadAt s head.Fault
+  pub no_names : Absent size_names s 0 → HeadAt s None
   unfolding HeadAt
   no_names f = λ w h i j rest e. f _ (e ∙ head_split w h rest)
 
   module _ (p : ℕ) (names : Stands size_names s 0 p) where
-    pub no-width : ((w : ℕ) → IsSide w → Absent (ended (digits 10 w) 32) s p) → HeadAt s head.Fault
+    pub no-width : ((w : ℕ) → IsSide w → Absent (ended (digits 10 w) 32) s p) → HeadAt s None
     unfolding HeadAt
     no-width f = λ w h i j rest e. f w i _ (follows names _ (e ∙ head_split w h rest))
 
@@ -74,7 +69,7 @@ module _ (s : List ℕ) where
       past-width : (v h : ℕ) (rest : List ℕ) → IsSide v → drop 0 s ≡ head_bytes v h ++ rest → (w ≡ v) × (drop q s ≡ ended (digits 10 h) 10 ++ (tile_names ++ rest))
       past-width v h rest j e = side_only 32 w v _ (omega arith) i j width (follows names _ (e ∙ head_split v h rest))
 
-      pub no-height : ((h : ℕ) → IsSide h → Absent (ended (digits 10 h) 10) s q) → HeadAt s head.Fault
+      pub no-height : ((h : ℕ) → IsSide h → Absent (ended (digits 10 h) 10) s q) → HeadAt s None
       unfolding HeadAt
       no-height f = λ v h j k rest e. f h k _ (past-width v h rest j e).1
 
@@ -85,10 +80,10 @@ module _ (s : List ℕ) where
             let b = side_only 10 h g _ (omega arith) j l height a.1 in
             (a.0, b.0, b.1)
 
-        pub no-tiles : Absent tile_names s r → HeadAt s head.Fault
+        pub no-tiles : Absent tile_names s r → HeadAt s None
         unfolding HeadAt
         no-tiles f = λ v g k l rest e. f rest (past-height v g rest k l e).2
 
-        pub a-head : (at : ℕ) → Stands tile_names s r at → HeadAt s (head.Read w h at)
+        pub a-head : (at : ℕ) → Stands tile_names s r at → HeadAt s (Some (w, h, at))
         unfolding HeadAt
         a-head at tiles = (i, j, subst (λ (x : List ℕ). Stands x s 0 at) (simp (append_assoc, append-nil)) (chain names (chain width (chain height tiles))))

@@ -12,12 +12,9 @@ use Rattle.text_decimal.proofs.Places.{stands, chain, follows}
 use Rattle.text_map.specs.Map.{most_bytes, most_tiles, IsSide, IsTile, IsMap, size_names, tile_names, call_names, head_bytes, tile_bytes, map_bytes}
 use Rattle.text_map.specs.Reading.{MapAt, HeadAt, TilesAt}
 use Rattle.text_map.specs.declared.map_text.MapPart.{MapPart}
-use Rattle.text_map.specs.declared.head.Head.{Head}
-use Rattle.text_map.specs.declared.name.Place.{Place}
 use Rattle.text_map.proofs.Rows.{tiles_unique, tiles_long}
-use Rattle.text_map.specs.declared.map_text.MapPart.TheVariants as mapPart
-use Rattle.text_map.specs.declared.head.Head.TheVariants as head
-use Rattle.text_map.specs.declared.name.Place.TheVariants as place
+use Rattle.std.specs.declared.option.Option.{Option}
+use Rattle.std.specs.declared.option.Option.TheVariants.{None, Some}
 
 -- ---- no two maps are written alike
 head_unique : (w h v g : ℕ) (p q : List ℕ) → IsSide w → IsSide h → IsSide v → IsSide g → head_bytes w h ++ p ≡ head_bytes v g ++ q → (w ≡ v) × (h ≡ g)
@@ -46,7 +43,7 @@ module _ (s : List ℕ) (w h p : ℕ) (i : IsSide w) (j : IsSide h) (head : Stan
   counted v g ts a b m = m.count ∙ ap (λ (x : ℕ). x * g) (sym a) ∙ ap (λ (x : ℕ). w * x) (sym b)
 
   -- ---- what reading answers past the head
-  pub too_many : (d : List ℕ) → most_tiles < w * h → MapAt s d mapPart.Fault
+  pub too_many : (d : List ℕ) → most_tiles < w * h → MapAt s d None
   unfolding MapAt
   too_many d big = λ short v g ts m rest e.
       let k = past_head v g ts rest m e in
@@ -60,7 +57,7 @@ module _ (s : List ℕ) (w h p : ℕ) (i : IsSide w) (j : IsSide h) (head : Stan
       over : {c t : ℕ} → t ≡ w * h → 2 * t ≤ c → c ≤ length s → length s ≤ most_bytes → most_tiles < w * h → ⊥
       over e f g i j = let x : ℕ = w * h in omega arith
 
-  pub tiles_absent : (d : List ℕ) → ((ts : List ℕ) → length ts ≡ w * h → All IsTile ts → Absent (tile_bytes w h ts) s p) → MapAt s d mapPart.Fault
+  pub tiles_absent : (d : List ℕ) → ((ts : List ℕ) → length ts ≡ w * h → All IsTile ts → Absent (tile_bytes w h ts) s p) → MapAt s d None
   unfolding MapAt
   tiles_absent d f = λ short v g ts m rest e. let k = past_head v g ts rest m e in f ts (counted v g ts k.0 k.1 m) m.tiles (call_names ++ rest) k.2
 
@@ -71,7 +68,7 @@ module _ (s : List ℕ) (w h p : ℕ) (i : IsSide w) (j : IsSide h) (head : Stan
         let same = tiles_unique w h us ts (drop q s) (call_names ++ rest) n (counted v g ts k.0 k.1 m) a m.tiles (sym tiles.bytes ∙ k.2) in
         follows tiles (call_names ++ rest) (k.2 ∙ ap (λ (x : List ℕ). tile_bytes w h x ++ (call_names ++ rest)) (sym same))
 
-    pub names-absent : (d : List ℕ) → Absent call_names s q → MapAt s d mapPart.Fault
+    pub names-absent : (d : List ℕ) → Absent call_names s q → MapAt s d None
     unfolding MapAt
     names-absent d f = λ short v g ts m rest e. f rest (past-tiles v g ts rest m e)
 
@@ -89,30 +86,30 @@ map_unique w h v g us ts p q m n e =
     (k.0, k.1, tiles_unique w h us ts (call_names ++ p) (call_names ++ q) m.count c m.tiles n.tiles (sym (follows there t (map_split w h us p)) ∙ k.2))
 
 -- ---- what reading answers
-pub too_long : (s d : List ℕ) → most_bytes < length s → MapAt s d mapPart.Fault
+pub too_long : (s d : List ℕ) → most_bytes < length s → MapAt s d None
 unfolding MapAt
 too_long s d h = λ short. absurd (omega arith)
 
-pub head_absent : (s d : List ℕ) {r : Head} → r ≡ head.Fault → HeadAt s r → MapAt s d mapPart.Fault
+pub head_absent : (s d : List ℕ) {r : Option (ℕ × ℕ × ℕ)} → r ≡ None → HeadAt s r → MapAt s d None
 unfolding HeadAt MapAt
 head_absent s d e f = λ short w h ts m rest q. subst (HeadAt s) e f w h m.width m.height (tile_bytes w h ts ++ (call_names ++ rest)) (q ∙ map_split w h ts rest)
 
-pub head_read : (s : List ℕ) (w h next : ℕ) {r : Head} → r ≡ head.Read w h next → HeadAt s r → IsSide w × IsSide h × Stands (head_bytes w h) s 0 next
+pub head_read : (s : List ℕ) (w h next : ℕ) {r : Option (ℕ × ℕ × ℕ)} → r ≡ Some (w, h, next) → HeadAt s r → IsSide w × IsSide h × Stands (head_bytes w h) s 0 next
 unfolding HeadAt
 head_read s w h next e f = subst (HeadAt s) e f
 
-pub tiles_read : (w h : ℕ) (s : List ℕ) (at : ℕ) (d : List ℕ) (next : ℕ) {r : Place} → r ≡ place.At next → TilesAt w h s at d r → All IsTile (take (w * h) d) × Stands (tile_bytes w h (take (w * h) d)) s at next
+pub tiles_read : (w h : ℕ) (s : List ℕ) (at : ℕ) (d : List ℕ) (next : ℕ) {r : Option ℕ} → r ≡ Some next → TilesAt w h s at d r → All IsTile (take (w * h) d) × Stands (tile_bytes w h (take (w * h) d)) s at next
 unfolding TilesAt
 tiles_read w h s at d next e f = subst (TilesAt w h s at d) e f
 
-pub tiles_fault : (w h : ℕ) (s : List ℕ) (at : ℕ) (d : List ℕ) {r : Place} → r ≡ place.Fault → TilesAt w h s at d r → (ts : List ℕ) → length ts ≡ w * h → All IsTile ts → Absent (tile_bytes w h ts) s at
+pub tiles_fault : (w h : ℕ) (s : List ℕ) (at : ℕ) (d : List ℕ) {r : Option ℕ} → r ≡ None → TilesAt w h s at d r → (ts : List ℕ) → length ts ≡ w * h → All IsTile ts → Absent (tile_bytes w h ts) s at
 unfolding TilesAt
 tiles_fault w h s at d e f = subst (TilesAt w h s at d) e f
 
-pub map_read : (s d : List ℕ) (w h next : ℕ) {r : MapPart} → r ≡ mapPart.Read w h next → MapAt s d r → (length s ≤ most_bytes) × IsMap w h (take (w * h) d) × Stands (map_bytes w h (take (w * h) d)) s 0 next
+pub map_read : (s d : List ℕ) (p : MapPart) {r : Option MapPart} → r ≡ Some p → MapAt s d r → (length s ≤ most_bytes) × IsMap p.width p.height (take (p.width * p.height) d) × Stands (map_bytes p.width p.height (take (p.width * p.height) d)) s 0 p.next
 unfolding MapAt
-map_read s d w h next e f = subst (MapAt s d) e f
+map_read s d p e f = subst (MapAt s d) e f
 
-pub map_fault : (s d : List ℕ) {r : MapPart} → r ≡ mapPart.Fault → MapAt s d r → length s ≤ most_bytes → (w h : ℕ) (ts : List ℕ) → IsMap w h ts → Absent (map_bytes w h ts) s 0
+pub map_fault : (s d : List ℕ) {r : Option MapPart} → r ≡ None → MapAt s d r → length s ≤ most_bytes → (w h : ℕ) (ts : List ℕ) → IsMap w h ts → Absent (map_bytes w h ts) s 0
 unfolding MapAt
 map_fault s d e f = subst (MapAt s d) e f

@@ -1,27 +1,14 @@
 // Lines of names, which agree byte for byte.
 ghost use Rattle.text_map.specs.Reading.{NameAt};
 
-// The place past what was read.
-#[derive(Clone, Copy)]
-pub enum Place {
-    At(usize),
-    Fault,
-}
-
-pub fn read_name(text: &[u8], at: usize, name: &[u8]) -> Place
+// Reads a line of names, and returns the place past it.
+pub fn read_name(text: &[u8], at: usize, name: &[u8]) -> Option<usize>
     ensures { NameAt name.now text.now at result }
 {
-    let mut place = at;
-    let mut j = 0;
-    while j < name.len() {
-        if text.len() <= place {
-            return Place::Fault;
-        }
-        if text[place] != name[j] {
-            return Place::Fault;
-        }
-        place += 1;
-        j += 1;
+    let rest = &text[at.min(text.len())..];
+    if rest.starts_with(name) {
+        Some(at + name.len())
+    } else {
+        None
     }
-    Place::At(place)
 }

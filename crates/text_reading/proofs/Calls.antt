@@ -1,7 +1,7 @@
 -- Laws of call lines: what reading answers, and that no two calls are written alike. Assumes nothing.
 use Prim.Native.Nat.{ℕ, ◌≤◌}
 use mathlib.Core.Path.{◌≡◌, refl, sym, ap, ◌∙◌, subst}
-use mathlib.Core.Bool.{Bool, true, false, cond}
+use mathlib.Core.Bool.{cond}
 use mathlib.Core.List.{List, ◌++◌}
 use native.Mathlib.Omega.{arith}
 use lib.Dec.{eqb}
@@ -12,14 +12,11 @@ use Rattle.text_decimal.specs.Lines.{line, All}
 use Rattle.text_decimal.specs.Places.{Stands, Absent}
 use Rattle.text_decimal.proofs.Lines.{line_unique, line_long}
 use Rattle.text_reading.specs.Calls.{values, IsCall, call_bytes, CallAt}
-use Rattle.text_reading.specs.Parts.{SevenAt, ValuesAt, DecodedAs}
-use Rattle.text_reading.specs.declared.call_lines.CallLine.{CallLine}
+use Rattle.text_reading.specs.Parts.{ValuesAt, DecodedAs}
 use Rattle.world.specs.declared.call.Call.{Call}
 use Rattle.world.specs.declared.call.Call.TheVariants.{Join, Leave, Input, Step, Tune}
-use Rattle.text_reading.specs.declared.code.Decoded.{Decoded}
-use Rattle.text_reading.specs.declared.values.Values.{Values}
-use Rattle.text_reading.specs.declared.call_lines.CallLine.TheVariants as callLine
-use Rattle.text_reading.specs.declared.code.Decoded.TheVariants as decoded
+use Rattle.std.specs.declared.option.Option.{Option}
+use Rattle.std.specs.declared.option.Option.TheVariants.{None, Some}
 
 seven : (c : Call) → length (values c) ≡ 7
 seven (Join id x y) = refl
@@ -53,31 +50,25 @@ pub call_long : (c : Call) → 14 ≤ length (call_bytes c)
 unfolding call_bytes
 call_long c = omega (arith, line_long (values c), seven c)
 
-pub call_read : (s : List ℕ) (at : ℕ) (c : Call) (next : ℕ) {r : CallLine} → r ≡ callLine.Read c next → CallAt s at r → IsCall c × Stands (call_bytes c) s at next
+pub call_read : (s : List ℕ) (at : ℕ) (c : Call) (next : ℕ) {r : Option (Call × ℕ)} → r ≡ Some (c, next) → CallAt s at r → IsCall c × Stands (call_bytes c) s at next
 unfolding CallAt
 call_read s at c next e h = subst (CallAt s at) e h
 
-pub call_fault : (s : List ℕ) (at : ℕ) {r : CallLine} → r ≡ callLine.Fault → CallAt s at r → (c : Call) → IsCall c → Absent (call_bytes c) s at
+pub call_fault : (s : List ℕ) (at : ℕ) {r : Option (Call × ℕ)} → r ≡ None → CallAt s at r → (c : Call) → IsCall c → Absent (call_bytes c) s at
 unfolding CallAt
 call_fault s at e h = subst (CallAt s at) e h
 
 -- ---- what the reader's parts say together
-module _ (s : List ℕ) (at : ℕ) (r : Values) where
-  pub no_values : r.whole ≡ false → ValuesAt s at r → CallAt s at callLine.Fault
+module _ (s : List ℕ) (at : ℕ) where
+  pub no_values : ValuesAt s at None → CallAt s at None
   unfolding ValuesAt CallAt call_bytes
-  no_values e h = λ c i. subst (λ (b : Bool). SevenAt s at b r.values r.next) e h (values c) (seven c) i
+  no_values h = λ c i. h (values c) (seven c) i
 
-  module _ (e : r.whole ≡ true) (h : ValuesAt s at r) (d : Decoded) (m : DecodedAs r.values d) where
-    stood : (length r.values ≡ 7) × All IsI32 r.values × Stands (line r.values) s at r.next
-    unfolding ValuesAt
-    stood = subst (λ (b : Bool). SevenAt s at b r.values r.next) e h
+  module _ (zs : List ℤ) (next : ℕ) (h : ValuesAt s at (Some (zs, next))) where
+    pub no_call : DecodedAs zs None → CallAt s at None
+    unfolding ValuesAt DecodedAs CallAt call_bytes
+    no_call m = λ c i rest f. m c (sym (line_unique zs (values c) (drop next s) rest (h.0 ∙ sym (seven c)) h.1 i (sym h.2.bytes ∙ f)))
 
-    pub no_call : d ≡ decoded.None → CallAt s at callLine.Fault
-    unfolding DecodedAs CallAt call_bytes
-    no_call q = λ c i rest f. subst (DecodedAs r.values) q m c (sym (line_unique r.values (values c) (drop r.next s) rest (stood.0 ∙ sym (seven c)) stood.1 i (sym stood.2.bytes ∙ f)))
-
-    pub a_call : (c : Call) → d ≡ decoded.Call c → CallAt s at (callLine.Read c r.next)
-    unfolding DecodedAs CallAt call_bytes
-    a_call c q =
-        let v : values c ≡ r.values = subst (DecodedAs r.values) q m in
-        (subst (All IsI32) (sym v) stood.1, subst (λ (zs : List ℤ). Stands (line zs) s at r.next) (sym v) stood.2)
+    pub a_call : (c : Call) → DecodedAs zs (Some c) → CallAt s at (Some (c, next))
+    unfolding ValuesAt DecodedAs CallAt call_bytes
+    a_call c v = (subst (All IsI32) (sym v) h.1, subst (λ (l : List ℤ). Stands (line l) s at next) (sym v) h.2)

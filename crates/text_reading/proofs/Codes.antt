@@ -1,22 +1,24 @@
 -- Laws of seven values as a call: its code says which, and its spare values are 0. Assumes nothing.
 use Prim.Native.Nat.{ℕ, zero, suc, ◌^◌, ◌≤◌, ◌<◌}
-use mathlib.Core.Path.{◌≡◌, refl, sym, ap, ◌∙◌}
+use mathlib.Core.Path.{◌≡◌, refl, sym, ap, ◌∙◌, subst}
 use mathlib.Core.Bool.{Bool, true, false, cond, ◌&&◌, true≢false}
 use mathlib.Core.List.{List, [], ◌∷◌}
+use mathlib.Core.Logic.{◌⊎◌, inl, inr}
 use native.Mathlib.Omega.{arith}
 use lib.Dec.{eqb}
 use lib.IntN.{ℤ, pos, negsuc}
 use lib.ListN.{length, drop, get_or, replicate}
 use mir.Syntax.{w32}
-use mir.Val.{of_z}
+use mir.Val.{SFits, to_z, of_z}
+use mir.ValLaws.{to_z-of_z}
 use borrow.Author.Tests.{eqb-true, ne_eqb}
 use Rattle.num_convert.specs.Casts.{IsI32}
 use Rattle.text_reading.specs.Calls.{values}
 use Rattle.text_reading.specs.Parts.{DecodedAs, all_zero, with_spare}
 use Rattle.world.specs.declared.call.Call.{Call}
 use Rattle.world.specs.declared.call.Call.TheVariants.{Join, Leave, Input, Step, Tune}
-use Rattle.text_reading.specs.declared.code.Decoded.{Decoded}
-use Rattle.text_reading.specs.declared.code.Decoded.TheVariants as decoded
+use Rattle.std.specs.declared.option.Option.{Option}
+use Rattle.std.specs.declared.option.Option.TheVariants.{None, Some}
 
 -- a number from its bits
 pub from_bits : (z : ℤ) (n : ℕ) → IsI32 z → n < 2 ^ 31 → of_z w32 z ≡ n → z ≡ pos n
@@ -63,7 +65,7 @@ spare_zero zs n e c h =
     let m : k.0 ≡ n = let q : pos k.0 ≡ pos n = sym k.1 ∙ ap (λ (l : List ℤ). get_or l 0 (pos 0)) h ∙ e in cc in
     ap (λ (l : List ℤ). all_zero (drop (used n) l)) (sym h) ∙ ap (λ (i : ℕ). all_zero (drop (used i) (values c))) (sym m) ∙ k.4
 
-pub no_code : (zs : List ℤ) → ((n : ℕ) → 1 ≤ n → n ≤ 5 → get_or zs 0 (pos 0) ≡ pos n → ⊥) → DecodedAs zs decoded.None
+pub no_code : (zs : List ℤ) → ((n : ℕ) → 1 ≤ n → n ≤ 5 → get_or zs 0 (pos 0) ≡ pos n → ⊥) → DecodedAs zs None
 unfolding DecodedAs
 no_code zs h = λ c e. let k = code_first c in h k.0 k.2 k.3 (ap (λ (l : List ℤ). get_or l 0 (pos 0)) (sym e) ∙ k.1)
 
@@ -72,7 +74,7 @@ decided : (zs : List ℤ) (n : ℕ) (c : Call) → get_or zs 0 (pos 0) ≡ pos n
 unfolding DecodedAs with_spare
 decided zs n c e h = by (all_zero (drop (used n) zs)) refl
   where
-    by : (t : Bool) → all_zero (drop (used n) zs) ≡ t → DecodedAs zs (cond t (decoded.Call c) decoded.None)
+    by : (t : Bool) → all_zero (drop (used n) zs) ≡ t → DecodedAs zs (cond t (Some c) None)
     by true q = h q
     by false q = λ k f. true≢false (sym (spare_zero zs n e k f) ∙ q)
 
@@ -98,7 +100,7 @@ is_join = seven _ λ z a b c d e f q. decided _ 1 (Join a b c) q (λ t. let s = 
 pub is_leave : (zs : List ℤ) → length zs ≡ 7 → at zs 0 ≡ pos 2 → DecodedAs zs (with_spare (drop 2 zs) (Leave (at zs 1)))
 is_leave = seven _ λ z a b c d e f q. decided _ 2 (Leave a) q (λ t. let s = zeros (b ∷ c ∷ d ∷ e ∷ f ∷ []) t in cc)
 
-pub is_input : (zs : List ℤ) → length zs ≡ 7 → at zs 0 ≡ pos 3 → DecodedAs zs (decoded.Call (Input (at zs 1) (at zs 2) (at zs 3) (at zs 4) (at zs 5) (at zs 6)))
+pub is_input : (zs : List ℤ) → length zs ≡ 7 → at zs 0 ≡ pos 3 → DecodedAs zs (Some (Input (at zs 1) (at zs 2) (at zs 3) (at zs 4) (at zs 5) (at zs 6)))
 unfolding DecodedAs
 is_input = seven _ λ z a b c d e f q. cc
 
@@ -109,19 +111,69 @@ pub is_tune : (zs : List ℤ) → length zs ≡ 7 → at zs 0 ≡ pos 5 → Deco
 is_tune = seven _ λ z a b c d e f q. decided _ 5 (Tune a b) q (λ t. let s = zeros (c ∷ d ∷ e ∷ f ∷ []) t in cc)
 
 -- seven values stand for a call or for none
-decoded_code : (zs : List ℤ) → length zs ≡ 7 → (n : ℕ) → at zs 0 ≡ pos n → (d : Decoded) × DecodedAs zs d
-decoded_code zs l zero e = (decoded.None, no_code zs (λ m a b q. let f : pos m ≡ pos 0 = sym q ∙ e in let k : m ≡ 0 = cc in omega arith))
+decoded_code : (zs : List ℤ) → length zs ≡ 7 → (n : ℕ) → at zs 0 ≡ pos n → (d : Option Call) × DecodedAs zs d
+decoded_code zs l zero e = (None, no_code zs (λ m a b q. let f : pos m ≡ pos 0 = sym q ∙ e in let k : m ≡ 0 = cc in omega arith))
 decoded_code zs l (suc zero) e = (_, is_join zs l e)
 decoded_code zs l (suc (suc zero)) e = (_, is_leave zs l e)
 decoded_code zs l (suc (suc (suc zero))) e = (_, is_input zs l e)
 decoded_code zs l (suc (suc (suc (suc zero)))) e = (_, is_step zs l e)
 decoded_code zs l (suc (suc (suc (suc (suc zero))))) e = (_, is_tune zs l e)
 decoded_code zs l (suc (suc (suc (suc (suc (suc n)))))) e =
-    (decoded.None, no_code zs (λ m a b q. let f : pos m ≡ pos (suc (suc (suc (suc (suc (suc n)))))) = sym q ∙ e in let k : m ≡ suc (suc (suc (suc (suc (suc n))))) = cc in omega arith))
+    (None, no_code zs (λ m a b q. let f : pos m ≡ pos (suc (suc (suc (suc (suc (suc n)))))) = sym q ∙ e in let k : m ≡ suc (suc (suc (suc (suc (suc n))))) = cc in omega arith))
 
-pub decoded_some : (zs : List ℤ) → length zs ≡ 7 → (d : Decoded) × DecodedAs zs d
+pub decoded_some : (zs : List ℤ) → length zs ≡ 7 → (d : Option Call) × DecodedAs zs d
 decoded_some zs l = by (at zs 0) refl
   where
-    by : (z : ℤ) → at zs 0 ≡ z → (d : Decoded) × DecodedAs zs d
+    by : (z : ℤ) → at zs 0 ≡ z → (d : Option Call) × DecodedAs zs d
     by (pos n) e = decoded_code zs l n e
-    by (negsuc n) e = (decoded.None, no_code zs (λ m a b q. let f : pos m ≡ negsuc n = sym q ∙ e in let z : ◌≡◌ {A = ℕ} 0 1 = cc in omega arith))
+    by (negsuc n) e = (None, no_code zs (λ m a b q. let f : pos m ≡ negsuc n = sym q ∙ e in let z : ◌≡◌ {A = ℕ} 0 1 = cc in omega arith))
+
+-- ---- the bits of a call's values: its code, and 0 for each spare one
+abbrev pub bits : List ℤ → ℕ → ℕ
+bits zs k = of_z w32 (at zs k)
+
+abbrev pub Shape : List ℤ → Type 0
+Shape zs =
+    ((bits zs 0 ≡ 1) × (bits zs 4 ≡ 0) × (bits zs 5 ≡ 0) × (bits zs 6 ≡ 0))
+    ⊎ (((bits zs 0 ≡ 2) × (bits zs 2 ≡ 0) × (bits zs 3 ≡ 0) × (bits zs 4 ≡ 0) × (bits zs 5 ≡ 0) × (bits zs 6 ≡ 0))
+    ⊎ ((bits zs 0 ≡ 3)
+    ⊎ (((bits zs 0 ≡ 4) × (bits zs 1 ≡ 0) × (bits zs 2 ≡ 0) × (bits zs 3 ≡ 0) × (bits zs 4 ≡ 0) × (bits zs 5 ≡ 0) × (bits zs 6 ≡ 0))
+    ⊎ ((bits zs 0 ≡ 5) × (bits zs 3 ≡ 0) × (bits zs 4 ≡ 0) × (bits zs 5 ≡ 0) × (bits zs 6 ≡ 0)))))
+
+shaped : (c : Call) → Shape (values c)
+shaped (Join id x y) = inl (refl, refl, refl, refl)
+shaped (Leave id) = inr (inl (refl, refl, refl, refl, refl, refl))
+shaped (Input id d x y j h) = inr (inr (inl refl))
+shaped Step = inr (inr (inr (inl (refl, refl, refl, refl, refl, refl, refl))))
+shaped (Tune i v) = inr (inr (inr (inr (refl, refl, refl, refl, refl))))
+
+pub shape : (zs : List ℤ) (c : Call) → values c ≡ zs → Shape zs
+shape zs c e = subst Shape e (shaped c)
+
+-- and the call that has them
+held : {z : ℤ} → SFits w32 z → to_z w32 (of_z w32 z) ≡ z
+held {z} f = to_z-of_z w32 z f
+
+value : {z : ℤ} → SFits w32 z → (m : ℕ) → of_z w32 z ≡ m → m < 2 ^ 31 → z ≡ pos m
+value {z} f m e h = from_bits z m f.sfits h e
+
+module _ (zs : List ℤ) (n : length zs ≡ 7) (f0 : SFits w32 (at zs 0)) (f1 : SFits w32 (at zs 1)) (f2 : SFits w32 (at zs 2)) (f3 : SFits w32 (at zs 3)) (f4 : SFits w32 (at zs 4)) (f5 : SFits w32 (at zs 5)) (f6 : SFits w32 (at zs 6)) where
+  pub has_join : bits zs 0 ≡ 1 → bits zs 4 ≡ 0 → bits zs 5 ≡ 0 → bits zs 6 ≡ 0 → DecodedAs zs (Some (Join (to_z w32 (bits zs 1)) (to_z w32 (bits zs 2)) (to_z w32 (bits zs 3))))
+  unfolding DecodedAs
+  has_join q r s t = simp (held f1, held f2, held f3) (seven (λ (l : List ℤ). at l 0 ≡ pos 1 → at l 4 ≡ pos 0 → at l 5 ≡ pos 0 → at l 6 ≡ pos 0 → values (Join (at l 1) (at l 2) (at l 3)) ≡ l) (λ z a b c d e f q r s t. cc) zs n (value f0 1 q (omega arith)) (value f4 0 r (omega arith)) (value f5 0 s (omega arith)) (value f6 0 t (omega arith)))
+
+  pub has_leave : bits zs 0 ≡ 2 → bits zs 2 ≡ 0 → bits zs 3 ≡ 0 → bits zs 4 ≡ 0 → bits zs 5 ≡ 0 → bits zs 6 ≡ 0 → DecodedAs zs (Some (Leave (to_z w32 (bits zs 1))))
+  unfolding DecodedAs
+  has_leave q r s t u v = simp (held f1) (seven (λ (l : List ℤ). at l 0 ≡ pos 2 → at l 2 ≡ pos 0 → at l 3 ≡ pos 0 → at l 4 ≡ pos 0 → at l 5 ≡ pos 0 → at l 6 ≡ pos 0 → values (Leave (at l 1)) ≡ l) (λ z a b c d e f q r s t u v. cc) zs n (value f0 2 q (omega arith)) (value f2 0 r (omega arith)) (value f3 0 s (omega arith)) (value f4 0 t (omega arith)) (value f5 0 u (omega arith)) (value f6 0 v (omega arith)))
+
+  pub has_input : bits zs 0 ≡ 3 → DecodedAs zs (Some (Input (to_z w32 (bits zs 1)) (to_z w32 (bits zs 2)) (to_z w32 (bits zs 3)) (to_z w32 (bits zs 4)) (to_z w32 (bits zs 5)) (to_z w32 (bits zs 6))))
+  unfolding DecodedAs
+  has_input q = simp (held f1, held f2, held f3, held f4, held f5, held f6) (seven (λ (l : List ℤ). at l 0 ≡ pos 3 → values (Input (at l 1) (at l 2) (at l 3) (at l 4) (at l 5) (at l 6)) ≡ l) (λ z a b c d e f q. cc) zs n (value f0 3 q (omega arith)))
+
+  pub has_step : bits zs 0 ≡ 4 → bits zs 1 ≡ 0 → bits zs 2 ≡ 0 → bits zs 3 ≡ 0 → bits zs 4 ≡ 0 → bits zs 5 ≡ 0 → bits zs 6 ≡ 0 → DecodedAs zs (Some Step)
+  unfolding DecodedAs
+  has_step q r s t u v w = seven (λ (l : List ℤ). at l 0 ≡ pos 4 → at l 1 ≡ pos 0 → at l 2 ≡ pos 0 → at l 3 ≡ pos 0 → at l 4 ≡ pos 0 → at l 5 ≡ pos 0 → at l 6 ≡ pos 0 → values Step ≡ l) (λ z a b c d e f q r s t u v w. cc) zs n (value f0 4 q (omega arith)) (value f1 0 r (omega arith)) (value f2 0 s (omega arith)) (value f3 0 t (omega arith)) (value f4 0 u (omega arith)) (value f5 0 v (omega arith)) (value f6 0 w (omega arith))
+
+  pub has_tune : bits zs 0 ≡ 5 → bits zs 3 ≡ 0 → bits zs 4 ≡ 0 → bits zs 5 ≡ 0 → bits zs 6 ≡ 0 → DecodedAs zs (Some (Tune (to_z w32 (bits zs 1)) (to_z w32 (bits zs 2))))
+  unfolding DecodedAs
+  has_tune q r s t u = simp (held f1, held f2) (seven (λ (l : List ℤ). at l 0 ≡ pos 5 → at l 3 ≡ pos 0 → at l 4 ≡ pos 0 → at l 5 ≡ pos 0 → at l 6 ≡ pos 0 → values (Tune (at l 1) (at l 2)) ≡ l) (λ z a b c d e f q r s t u. cc) zs n (value f0 5 q (omega arith)) (value f3 0 r (omega arith)) (value f4 0 s (omega arith)) (value f5 0 t (omega arith)) (value f6 0 u (omega arith)))

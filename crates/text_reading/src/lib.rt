@@ -5,5 +5,5 @@ mod call_lines;
 mod code;
 mod values;
 
-pub use call_lines::{CallLine, next_call};
-pub use code::{Decoded, decode};
+pub use call_lines::next_call;
+pub use code::decode;

@@ -4,24 +4,30 @@ ghost use Rattle.character.specs.Tick.{seats};
 ghost use Rattle.text_writing.specs.Put.{Put};
 ghost use Rattle.text_writing.specs.Output.{most_line};
 ghost use Rattle.world.specs.Run.{told_by};
+ghost use Rattle.world.specs.Step.{stepped};
+ghost use Rattle.world.specs.declared.World.{World};
 ghost use Rattle.text_writing.specs.Answers.{record_lines, told_bytes};
 
 use crate::output_lines::{put_answer, put_record};
 use character::SEATS;
-use num_convert::cast_signed;
-use world::{Published, Stepped};
+use game_refusals::Refusal;
+use world::{AfterStep, Published};
 
 // Puts the lines of a call's answer into buf from `at` on, and answers the place past them.
-pub fn put_told(buf: &mut [u8], at: usize, call: i32, ran: Stepped) -> usize
+pub fn put_told(buf: &mut [u8], at: usize, call: i32, answer: Result<AfterStep, Refusal>) -> usize
     requires { at + most_line * seats ≤ length buf.old }
-    ensures { Put buf.old at (told_bytes seats call (told_by ran)) buf.new result }
+    ensures { (w : World) → Put buf.old at (told_bytes seats call (told_by (stepped seats w answer))) buf.new result }
 {
-    let records = ran.records;
-    let end = put_records(buf, at, call, records);
-    if end == at {
-        return put_answer(buf, at, call, cast_signed(ran.number));
+    match answer {
+        Ok(after) => {
+            let end = put_records(buf, at, call, after.records);
+            if end == at {
+                return put_answer(buf, at, call, 0);
+            }
+            end
+        }
+        Err(refusal) => put_answer(buf, at, call, u32::from(refusal) as i32),
     }
-    end
 }
 
 // A line for each record, by rising id.
@@ -30,11 +36,9 @@ fn put_records(buf: &mut [u8], at: usize, call: i32, records: [Published; SEATS]
     ensures { Put buf.old at (record_lines seats call records) buf.new result }
 {
     let mut next = at;
-    for id in 0..SEATS {
-        let published = records[id];
+    for (id, published) in records.iter().enumerate() {
         if published.present {
-            let core = published.core;
-            next = put_record(buf, next, call, 0, id as i32, core);
+            next = put_record(buf, next, call, 0, id as i32, published.core);
         }
     }
     next

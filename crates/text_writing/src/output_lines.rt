@@ -4,7 +4,6 @@ ghost use Rattle.text_writing.specs.Output.{heading, most_line, line_bytes, reco
 ghost use Rattle.text_writing.specs.Put.{Put};
 
 use crate::line::{put_bytes, put_line};
-use base_rows::copy;
 use game_records::{CORE, CharacterCore, core_numbers};
 
 // How many values a line has: which call, its answer, whose record, and the numbers of that.
@@ -60,9 +59,8 @@ fn put_values(
     requires { at + most_line ≤ length buf.old }
     ensures { Put buf.old at (line_bytes call answer id numbers) buf.new result }
 {
-    let mut row = [id; VALUES];
-    row[0] = call;
-    row[1] = answer;
-    copy(&mut row, 3, &numbers);
+    let mut row = [0i32; VALUES];
+    row[..3].copy_from_slice(&[call, answer, id]);
+    row[3..].copy_from_slice(&numbers);
     put_line(buf, at, &row)
 }

@@ -1,5 +1,5 @@
 // A value's bytes.
-ghost use Rattle.std.specs.Prelude.{◌≡◌, ◌+◌, ◌≤◌, nat_abs, length};
+ghost use Rattle.std.specs.Prelude.{◌≡◌, ◌+◌, ◌≤◌, length};
 ghost use Rattle.text_decimal.specs.Decimal.{digits, written};
 ghost use Rattle.text_writing.specs.Put.{Put};
 
@@ -8,9 +8,9 @@ pub fn put_value(buf: &mut [u8], at: usize, z: i32) -> usize
     requires { at + 11 ≤ length buf.old }
     ensures { Put buf.old at (written z) buf.new result }
 {
-    let n = magnitude(z);
+    let n = z.unsigned_abs();
     if z < 0 {
-        buf[at] = 45;
+        buf[at] = b'-';
         put_number(buf, at + 1, n)
     } else {
         put_number(buf, at, n)
@@ -23,23 +23,11 @@ fn put_number(buf: &mut [u8], at: usize, n: u32) -> usize
     ensures { Put buf.old at (digits 10 n) buf.new result }
 {
     if n < 10 {
-        buf[at] = 48 + n as u8;
+        buf[at] = b'0' + n as u8;
         at + 1
     } else {
         let last = put_number(buf, at, n / 10);
-        buf[last] = 48 + (n % 10) as u8;
+        buf[last] = b'0' + (n % 10) as u8;
         last + 1
-    }
-}
-
-// How far z is from 0.
-fn magnitude(z: i32) -> u32
-    ensures { result ≡ nat_abs z }
-{
-    if z < 0 {
-        let m = -(z + 1);
-        m as u32 + 1
-    } else {
-        z as u32
     }
 }

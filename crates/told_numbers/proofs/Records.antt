@@ -27,7 +27,7 @@ use Rattle.world.specs.Removal.{dying, listed, ids_in, is_in}
 use Rattle.world.specs.Step.{Moving, unpublished, tick_all, move_all, step_refused, step_answer, step_on, step}
 use Rattle.world.specs.declared.Published.{Published}
 use Rattle.world.specs.declared.Removed.{Removed}
-use Rattle.world.specs.declared.Stepped.{Stepped}
+use Rattle.world.specs.Answered.{Stepped}
 use Rattle.world.specs.declared.World.{World}
 use Rattle.world.proofs.Deadly.{step_spikes}
 use Rattle.world.proofs.Present.{step-present}

@@ -11,8 +11,8 @@ use Rattle.character.specs.Tick.{seats}
 use Rattle.world.specs.Calls.{place_of}
 use Rattle.world.specs.Readers.{read_of}
 use Rattle.world.specs.declared.reading.Query.{Query}
-use Rattle.world.specs.declared.reading.Reading.{Reading}
-use Rattle.world.specs.declared.reading.Reading.TheVariants as reading
+use Rattle.world.specs.ReadAnswer.{ReadAnswer}
+use Rattle.world.specs.ReadAnswer as reading
 use Rattle.world.proofs.Seats.{by_test}
 use Rattle.send_rule.specs.Shown.{shown}
 use Rattle.send_rule.specs.declared.Screen.{Screen}
@@ -27,7 +27,7 @@ use Rattle.search_calls.specs.Numbers.{way_count, search_told, search_in}
 use Rattle.told_numbers.specs.Refused.{Leaves, ReadersLeave}
 
 module _ (out : List ℤ) where
-  reading_leaves : (r : Reading) → Leaves out (reading_told out r)
+  reading_leaves : (r : ReadAnswer) → Leaves out (reading_told out r)
   reading_leaves (reading.Refused k) h = refl
   reading_leaves (reading.Record c) h = absurd (h refl)
   reading_leaves (reading.FloorMark g) h = absurd (h refl)

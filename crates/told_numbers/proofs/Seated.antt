@@ -7,14 +7,16 @@ use Rattle.character.specs.Tick.{slot_at}
 use Rattle.world.specs.Calls.{place_of}
 use Rattle.world.specs.Readers.{seated}
 use Rattle.world.specs.declared.World.{World}
-use Rattle.world.specs.declared.reading.Seated.{Seated}
-use Rattle.world.specs.declared.reading.Seated.TheVariants as seat
 use Rattle.world.proofs.Seats.{by_test}
+use Rattle.std.specs.Prelude.{Result, Ok, Err}
+use Rattle.character.specs.declared.Slot.{Slot}
+use Rattle.game_refusals.specs.Refusals.{number_of}
+use Rattle.game_refusals.specs.declared.Refusal.{Refusal}
 
 -- a refusal has a number
-abbrev pub Numbered : Seated → Type 0
-Numbered (seat.Refused k) = 0 < k
-Numbered (seat.There x) = Unit {0}
+abbrev pub Numbered : Result Slot Refusal → Type 0
+Numbered (Err e) = 0 < number_of e
+Numbered (Ok x) = Unit {0}
 
 pub seated_numbered : (n : ℕ) (w : World) (id : ℤ) → Numbered (seated n w id)
 unfolding seated

@@ -14,8 +14,6 @@ use Rattle.map_tiles.specs.declared.tiles.Sides.{Sides}
 use Rattle.character.specs.Tick.{seats}
 use Rattle.world.specs.Readers.{seated}
 use Rattle.world.specs.declared.World.{World}
-use Rattle.world.specs.declared.reading.Seated.{Seated}
-use Rattle.world.specs.declared.reading.Seated.TheVariants as seat
 use Rattle.world.proofs.Seats.{by_test}
 use Rattle.world_numbers.specs.Encoding.{world_count, each}
 use Rattle.world_numbers.specs.Decoding.{each_in, decoding}
@@ -26,6 +24,9 @@ use Rattle.search_rule.proofs.Laws.{search_reaches}
 use Rattle.search_calls.specs.Numbers.{way_count, buttons_numbers, way_numbers, search_told, search_in}
 use Rattle.told_numbers.specs.Ways.{buttons_in, way_of, WaysComeBack, ZerosBehind, way_answer, answer_in, SearchTold}
 use Rattle.told_numbers.proofs.Seated.{Numbered, seated_numbered}
+use Rattle.std.specs.Prelude.{Result, Ok, Err}
+use Rattle.character.specs.declared.Slot.{Slot}
+use Rattle.game_refusals.specs.declared.Refusal.{Refusal}
 
 -- ---- a way
 -- steps are read again, whatever stands behind them
@@ -64,9 +65,9 @@ module _ (n : ℕ) (s : Sides) (ts : List ℕ) (w : World) (id x y : ℤ) where
   found_numbers (more z) = tt
   found_numbers (stop u) = tt
 
-  from_numbers : (z : Seated) → Numbered z → Numbers (search_from n s ts w id x y z)
-  from_numbers (seat.Refused k) h = h
-  from_numbers (seat.There slot) h = found_numbers (first_way n s ts (goal_of id x y slot.input) w)
+  from_numbers : (z : Result Slot Refusal) → Numbered z → Numbers (search_from n s ts w id x y z)
+  from_numbers (Err k) h = h
+  from_numbers (Ok slot) h = found_numbers (first_way n s ts (goal_of id x y slot.input) w)
 
   search-numbers : Numbers (search n s ts w id x y)
   unfolding search

@@ -5,14 +5,14 @@ use Rattle.character.specs.Tick.{seats}
 use Rattle.world.specs.Readers.{read_of}
 use Rattle.world.specs.declared.reading.Query.{Query}
 use Rattle.world.specs.declared.reading.Query.TheVariants as query
-use Rattle.world.specs.declared.reading.Reading.{Reading}
-use Rattle.world.specs.declared.reading.Reading.TheVariants as reading
+use Rattle.world.specs.ReadAnswer.{ReadAnswer}
+use Rattle.world.specs.ReadAnswer as reading
 use Rattle.world_numbers.specs.Encoding.{world_count}
 use Rattle.world_numbers.specs.Decoding.{is_set, decoding}
 use Rattle.world_buffers.specs.Readers.{query_count, read_in}
 
 -- what a reader that told a number and these numbers says to a query: a number other than 0 refuses it
-abbrev pub reading_in : ℕ → Query → List ℤ → Reading
+abbrev pub reading_in : ℕ → Query → List ℤ → ReadAnswer
 reading_in (suc k) q l = reading.Refused (suc k)
 reading_in zero (query.Record id) l = reading.Record (core_in l)
 reading_in zero (query.FloorMark id) l = reading.FloorMark (is_set (number_at l 0))

@@ -8,7 +8,7 @@ use Rattle.world.specs.Demand3.{record_at}
 use Rattle.world.specs.Removal.{ids_in, is_in}
 use Rattle.world.specs.Step.{step}
 use Rattle.world.specs.declared.Published.{Published}
-use Rattle.world.specs.declared.Stepped.{Stepped}
+use Rattle.world.specs.Answered.{Stepped}
 use Rattle.world.specs.declared.World.{World}
 use Rattle.world_numbers.specs.Encoding.{record_count, records_encoding}
 use Rattle.world_numbers.specs.Decoding.{is_set, decoding}

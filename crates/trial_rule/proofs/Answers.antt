@@ -20,7 +20,7 @@ use Rattle.world.specs.World.{fresh}
 use Rattle.world.specs.Answers.{IsMap}
 use Rattle.world.specs.Calls.{place_of, join}
 use Rattle.world.specs.Run.{ran, after}
-use Rattle.world.specs.declared.Answer.{Answer}
+use Rattle.world.specs.Answered.{Answer}
 use Rattle.world.specs.declared.World.{World}
 use Rattle.world.specs.declared.call.Call.{Call}
 use Rattle.world.specs.declared.call.Call.TheVariants.{Join}

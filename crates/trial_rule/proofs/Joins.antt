@@ -18,7 +18,7 @@ use Rattle.character.specs.Tick.{nowhere, slot_at}
 use Rattle.character.specs.declared.Slot.{Slot}
 use Rattle.world.specs.World.{fresh, with_slot}
 use Rattle.world.specs.Calls.{refused, accepted, place_of, is_in_reach, point_of, join_at, join}
-use Rattle.world.specs.declared.Answer.{Answer}
+use Rattle.world.specs.Answered.{Answer}
 use Rattle.world.specs.declared.World.{World}
 use Rattle.world.proofs.Outcomes.{Outcome, no, yes, Joins, join_outcome}
 use Rattle.trial_rule.specs.Trial.{Entrant, Trying, no_player, player_at, entered, enter, enter_all, nobody_yet}

@@ -14,7 +14,7 @@ use Rattle.world.specs.Step.{step}
 use Rattle.world.specs.declared.call.Call.{Call}
 use Rattle.world.specs.declared.call.Call.TheVariants.{Input}
 use Rattle.world.specs.declared.Published.{Published}
-use Rattle.world.specs.declared.Stepped.{Stepped}
+use Rattle.world.specs.Answered.{Stepped}
 use Rattle.world.specs.declared.World.{World}
 use Rattle.game_records.specs.Numbers.{same_number}
 use Rattle.world_numbers.specs.Encoding.{flag}

@@ -13,7 +13,9 @@ use borrow.Author.Tests.{leb-true, eqb-true, eq-eqb, ne_eqb}
 use Rattle.base_rows.specs.Put.{put}
 use Rattle.base_rows.proofs.Puts.{take_put}
 use Rattle.base_turns.specs.Turns.{Turn, more, stop}
-use Rattle.game_refusals.specs.Refusals.{bad_map, bad_trial, bad_hold, bad_length}
+use Rattle.game_refusals.specs.Refusals.{bad_map, bad_trial, bad_hold, bad_length, number_of}
+use Rattle.game_refusals.specs.declared.Refusal.{Refusal}
+use Rattle.std.specs.Prelude.{Ok, Err}
 use Rattle.game_tuning.specs.Tuning.{tuning_count}
 use Rattle.map_tiles.specs.Map.{is_map, count}
 use Rattle.map_tiles.specs.declared.tiles.Sides.{Sides}
@@ -22,28 +24,26 @@ use Rattle.world.specs.World.{fresh}
 use Rattle.world.specs.Settled.{Settled}
 use Rattle.world.proofs.Settled.{after_settled}
 use Rattle.base_turns.proofs.Tests.{both}
-use Rattle.world_numbers.specs.Encoding.{world_count, each, encoding}
+use Rattle.world_numbers.specs.Encoding.{each, encoding}
 use Rattle.world_numbers.specs.Decoding.{decoding}
 use Rattle.world_numbers.proofs.Encoded.{decoding-encoding}
 use Rattle.world_numbers.proofs.Rows.{each_last}
-use Rattle.world_buffers.specs.Buffers.{LeftWorld, accepted_in, fresh_in}
-use Rattle.world_buffers.proofs.Answers.{a_world}
 use Rattle.trial_rule.specs.Trial.{Trying, tried, enter_all, nobody_yet, tuned_to, trial}
+use Rattle.trial_rule.specs.declared.Player.{Player}
 use Rattle.trial_rule.specs.Calls.{join_count, target_count, row_count, tunings_in, are_whole, entrants, tuning_rows, tried_numbers, is_steps, is_trial, have_holds, trial_fault, LeftTrial, trial_in}
 use Rattle.trial_runs.specs.InPlace.{IsWorld, Enters}
-use Rattle.trial_runs.specs.declared.entering.Entered.{Entered}
 use Rattle.trial_runs.proofs.Worlds.{is_encoding}
 use Rattle.trial_runs.proofs.OneTurn.{state}
 
 -- ---- what the joins left
-module _ (r : Entered) (l : List ℤ) where
-  pub joins-refused : (e : Turn Trying ℕ) → Enters e r l → (r.number ≡ 0 → ⊥) → e ≡ stop r.number
-  joins-refused (more t) h z = absurd (z h.0)
-  joins-refused (stop k) h z = ap stop (sym h.0)
+module _ (l : List ℤ) where
+  pub joins-refused : (refusal : Refusal) (e : Turn Trying ℕ) → Enters e (Err refusal) l → e ≡ stop (number_of refusal)
+  joins-refused refusal (more t) h = absurd h
+  joins-refused refusal (stop k) h = ap stop (sym h)
 
-  pub joins-accepted : (e : Turn Trying ℕ) → Enters e r l → r.number ≡ 0 → IsWorld l × (e ≡ more (state l r.players))
-  joins-accepted (more t) h z = (h.1, ap more h.2)
-  joins-accepted (stop k) h z = absurd (h.1 (sym h.0 ∙ z))
+  pub joins-accepted : (players : List Player) (e : Turn Trying ℕ) → Enters e (Ok players) l → IsWorld l × (e ≡ more (state l players))
+  joins-accepted players (more t) h = (h.0, ap more h.1)
+  joins-accepted players (stop k) h = absurd h
 
 -- ---- the refusals in their order
 module _ (s : Sides) (ts : List ℕ) (joins targets tunings : List ℤ) (steps : ℤ) (result : List ℤ) where
@@ -118,9 +118,7 @@ few_steps l z = by (is_trial (tunings_in l) z) (have_holds (tuning_rows l)) refl
     by false d e q = absurd (omega (arith, q))
 
 -- ---- a fresh world
-pub fresh_is : (l m : List ℤ) (k : ℕ) → length l ≡ world_count → fresh_in l ≡ record { number = k; world = m } → IsWorld m × (decoding seats m ≡ fresh seats)
-unfolding fresh_in
-fresh_is l m k e q =
+pub fresh_is : (m : List ℤ) → m ≡ encoding (fresh seats) → IsWorld m × (decoding seats m ≡ fresh seats)
+fresh_is m f =
     let h : Settled seats (fresh seats) = after_settled seats (record { width = 0; height = 0 }) [] [] in
-    let f : m ≡ encoding (fresh seats) = sym (ap (λ (x : LeftWorld). x.world) (sym (a_world l (accepted_in (encoding (fresh seats))) e) ∙ q)) in
     (subst IsWorld (sym f) (is_encoding (fresh seats) h), ap (decoding seats) f ∙ decoding-encoding seats (fresh seats) h)

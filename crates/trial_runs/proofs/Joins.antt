@@ -9,11 +9,14 @@ use lib.ListN.{length, drop, set, drop_of_length-le}
 use lib.Seq.{drop-cons}
 use borrow.Author.Tests.{eq-eqb, ne_eqb}
 use Rattle.base_turns.specs.Turns.{Turn, more, stop, next}
+use Rattle.std.specs.Prelude.{Ok, Err}
+use Rattle.game_refusals.specs.Refusals.{number_of}
+use Rattle.game_refusals.specs.declared.Refusal.{Refusal}
 use Rattle.map_tiles.specs.declared.tiles.Sides.{Sides}
 use Rattle.game_records.specs.Numbers.{number_at}
 use Rattle.character.specs.Tick.{seats}
 use Rattle.world.specs.Calls.{place_of, join}
-use Rattle.world.specs.declared.Answer.{Answer}
+use Rattle.world.specs.Answered.{Answer}
 use Rattle.world.specs.declared.World.{World}
 use Rattle.world.specs.declared.call.Call.TheVariants.{Join}
 use Rattle.world.proofs.Outcomes.{Outcome, no, yes, Joins, join_outcome}
@@ -24,7 +27,6 @@ use Rattle.trial_rule.specs.Trial.{Entrant, Trying, entered, enter, enter_all}
 use Rattle.trial_rule.specs.Calls.{join_count, target_count, entrants}
 use Rattle.trial_rule.specs.declared.Player.{Player}
 use Rattle.trial_runs.specs.InPlace.{IsWorld, Enters}
-use Rattle.trial_runs.specs.declared.entering.Entered.{Entered}
 use Rattle.trial_runs.proofs.Worlds.{world_long, Called, called_quietly, no_buffers}
 use Rattle.trial_runs.proofs.OneTurn.{state}
 
@@ -117,10 +119,10 @@ module _ (s : Sides) (ts : List ℕ) (joins targets : List ℤ) where
   enter_first l ps qs h e = record { world = h; long = world_long l h; left = ap (λ (us : List Player). enter_all seats s ts (entrants joins targets) (state l us)) e; within = omega arith }
 
   module _ (many : length targets ≡ target_count * (length joins / join_count)) (e : Turn Trying ℕ) (i : ℕ) (l : List ℤ) (ps : List Player) (h : Entering s ts joins targets e i l ps) where
-    pub enter-end : (r : Entered) → length joins / join_count ≤ i → r.number ≡ 0 → r.players ≡ ps → Enters e r l
-    enter-end r q z p =
+    pub enter-end : length joins / join_count ≤ i → Enters e (Ok ps) l
+    enter-end q =
         let f : e ≡ more (state l ps) = sym h.left ∙ ap (λ (es : List Entrant). enter_all seats s ts es (state l ps)) (last_entrant joins targets many i q) in
-        subst (λ (x : Turn Trying ℕ). Enters x r l) (sym f) (z, h.world, ap (state l) (sym p))
+        subst (λ (x : Turn Trying ℕ). Enters x (Ok ps) l) (sym f) (h.world, refl)
 
     module _ (q : i < length joins / join_count) (l₁ : List ℤ) (k : ℕ) (told : join_in s ts l (entrant_at joins targets i).id (entrant_at joins targets i).x (entrant_at joins targets i).y ≡ record { number = k; world = l₁ }) where
       abbrev me : Entrant
@@ -129,8 +131,8 @@ module _ (s : Sides) (ts : List ℕ) (joins targets : List ℤ) where
       goes : e ≡ next (enter_all seats s ts (rest joins targets (i + 1))) (enter seats s ts me (state l ps))
       goes = sym h.left ∙ ap (λ (es : List Entrant). enter_all seats s ts es (state l ps)) (next_entrant joins targets many i q)
 
-      pub enter-off : (r : Entered) (m : List ℤ) → (k ≡ 0 → ⊥) → r.number ≡ k → Enters e r m
-      enter-off r m z p = subst (λ (x : Turn Trying ℕ). Enters x r m) (sym (goes ∙ ap (next (enter_all seats s ts (rest joins targets (i + 1)))) (refused s ts l l₁ ps me k h.world told z))) (p, z)
+      pub enter-off : (refusal : Refusal) (m : List ℤ) → (k ≡ 0 → ⊥) → number_of refusal ≡ k → Enters e (Err refusal) m
+      enter-off refusal m z p = subst (λ (x : Turn Trying ℕ). Enters x (Err refusal) m) (sym (goes ∙ ap (next (enter_all seats s ts (rest joins targets (i + 1)))) (refused s ts l l₁ ps me k h.world told z))) p
 
       pub enter-on : (qs : List Player) → k ≡ 0 → qs ≡ set ps (place_of seats me.id) (entered s me) → Entering s ts joins targets e (i + 1) l₁ qs
       enter-on qs z p =

@@ -15,7 +15,7 @@ use Rattle.game_tuning.specs.Tuning.{tuning_count}
 use Rattle.map_tiles.specs.declared.tiles.Sides.{Sides}
 use Rattle.character.specs.Tick.{seats}
 use Rattle.world.specs.Step.{step}
-use Rattle.world.specs.declared.Stepped.{Stepped}
+use Rattle.world.specs.Answered.{Stepped}
 use Rattle.world.specs.declared.World.{World}
 use Rattle.world.specs.declared.call.Call.TheVariants.{Step}
 use Rattle.world_solo.proofs.Seatless.{step_sized}
@@ -76,8 +76,8 @@ module _ (s : Sides) (ts : List ℕ) (l : List ℤ) (ps : List Player) (h : IsWo
     pub stepped_kept : IsWorld l₂
     stepped_kept = subst IsWorld (ap (λ (x : LeftByStep). x.world) told) by_call.kept
 
-    pub accepted : (i : ℕ) (qs : List Player) → RecordsOf d.records (λ rs. qs ≡ noted_all seats s (i + 1) rs ps) → try_turn seats s ts i (state l ps) ≡ more (state l₂ qs)
-    accepted i qs f =
+    pub turned : (i : ℕ) (qs : List Player) → RecordsOf d.records (λ rs. qs ≡ noted_all seats s (i + 1) rs ps) → try_turn seats s ts i (state l ps) ≡ more (state l₂ qs)
+    turned i qs f =
         let rs = (step seats (decoding seats l₁) s ts).records in
         let zero : a.number ≡ 0 = number_is ∙ z in
         let u = f rs (step_sized seats s ts (decoding seats l₁)) (told_records s ts l₁ b (record { number = k; world = l₂; told = d }) (world_long l₁ kept) long wide told (ap (λ (x : Stepped). x.number) step_is ∙ zero)) in

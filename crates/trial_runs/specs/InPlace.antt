@@ -1,6 +1,8 @@
 -- A trial on the numbers of a world in place. Definitions only.
-use Rattle.std.specs.Prelude.{ℕ, ◌+◌, ◌*◌, cond, List, ◌≡◌, ℤ, pos, length}
+use Rattle.std.specs.Prelude.{ℕ, ◌+◌, ◌*◌, cond, List, ◌≡◌, ℤ, pos, length, Result, Ok, Err}
 use Rattle.base_turns.specs.Turns.{Turn, more, stop, fold}
+use Rattle.game_refusals.specs.Refusals.{number_of}
+use Rattle.game_refusals.specs.declared.Refusal.{Refusal}
 use Rattle.num_convert.specs.Convert.{i32_to_f32}
 use Rattle.map_corners.specs.Tile.{tile_at}
 use Rattle.map_tiles.specs.declared.tiles.Sides.{Sides}
@@ -15,7 +17,6 @@ use Rattle.world_numbers.specs.Decoding.{is_set, decoding}
 use Rattle.world_buffers.specs.Buffers.{input_in}
 use Rattle.trial_rule.specs.Trial.{Trying, player_at, towards, noted}
 use Rattle.trial_rule.specs.declared.Player.{Player}
-use Rattle.trial_runs.specs.declared.entering.Entered.{Entered}
 
 -- where x and y stand among the numbers of a seat, behind its presence and its tick
 abbrev pub x_place : ℕ
@@ -49,7 +50,9 @@ noted_at s k l j p = let at = record_count * j in cond (is_set (number_at l at))
 abbrev pub RecordsOf : List ℤ → (List Published → Type 0) → Type 0
 RecordsOf l P = (rs : List Published) → length rs ≡ seats → l ≡ records_encoding rs → P rs
 
--- what joins leave: the numbers of the world and the players, or the number of a refusal
-abbrev pub Enters : Turn Trying ℕ → Entered → List ℤ → Type 0
-Enters (more t) r l = (r.number ≡ 0) × IsWorld l × (t ≡ record { world = decoding seats l; players = r.players })
-Enters (stop k) r l = (r.number ≡ k) × (k ≡ 0 → ⊥)
+-- what joins leave: the numbers of the world and the players, or a refusal
+abbrev pub Enters : Turn Trying ℕ → Result (List Player) Refusal → List ℤ → Type 0
+Enters (more t) (Ok players) l = IsWorld l × (t ≡ record { world = decoding seats l; players = players })
+Enters (more t) (Err refusal) l = ⊥
+Enters (stop k) (Ok players) l = ⊥
+Enters (stop k) (Err refusal) l = number_of refusal ≡ k

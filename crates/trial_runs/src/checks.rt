@@ -1,11 +1,12 @@
 // When a trial is refused before its joins.
 ghost use Rattle.std.specs.Prelude.{◌≡◌};
+ghost use Rattle.game_refusals.specs.Refusals.{number_of_answer};
 ghost use Rattle.character.specs.Tick.{seats};
-ghost use Rattle.trial_rule.specs.Calls.{are_whole, tuning_rows, is_trial, have_holds, trial_fault};
+ghost use Rattle.trial_rule.specs.Calls.{are_whole, tuning_rows, is_steps, is_trial, have_holds, trial_fault};
 
 use crate::entering::{JOIN, TARGET};
 use crate::telling::ROW;
-use game_refusals::{BAD_HOLD, BAD_TRIAL};
+use game_refusals::Refusal;
 use game_tuning::{HOOK_HOLD, TUNINGS, is_hold};
 
 // The most tunings, and the most steps.
@@ -17,31 +18,23 @@ const MOST_STEPS: i32 = 3000;
 pub fn are_whole(joins: usize, targets: usize, tunings: usize, res: usize) -> bool
     ensures { result ≡ are_whole seats joins targets tunings res }
 {
-    if joins % JOIN != 0 {
-        return false;
-    }
-    if targets != TARGET * (joins / JOIN) {
-        return false;
-    }
-    if tunings % TUNINGS != 0 {
-        return false;
-    }
-    if res % ROW != 0 {
-        return false;
-    }
-    res / ROW == tunings / TUNINGS
+    joins % JOIN == 0
+        && targets == TARGET * (joins / JOIN)
+        && tunings % TUNINGS == 0
+        && res % ROW == 0
+        && res / ROW == tunings / TUNINGS
+}
+
+fn is_steps(steps: i32) -> bool
+    ensures { result ≡ is_steps steps }
+{
+    0 <= steps && steps <= MOST_STEPS
 }
 
 fn is_trial(tunings: usize, steps: i32) -> bool
     ensures { result ≡ is_trial tunings steps }
 {
-    if tunings < 1 {
-        return false;
-    }
-    if tunings > MOST_TUNINGS {
-        return false;
-    }
-    0 <= steps && steps <= MOST_STEPS
+    1 <= tunings && tunings <= MOST_TUNINGS && is_steps(steps)
 }
 
 // Whether every tuning's hold is one.
@@ -56,15 +49,15 @@ fn have_holds(tunings: &[i32]) -> bool
     true
 }
 
-// The number that refuses a trial before its joins.
-pub fn trial_fault(tunings: &[i32], steps: i32) -> u32
-    ensures { result ≡ trial_fault tunings.now steps }
+// Refuses a trial before its joins.
+pub fn trial_fault(tunings: &[i32], steps: i32) -> Result<(), Refusal>
+    ensures { number_of_answer result ≡ trial_fault tunings.now steps }
 {
     if !is_trial(tunings.len() / TUNINGS, steps) {
-        return BAD_TRIAL;
+        return Err(Refusal::BadTrial);
     }
     if !have_holds(tunings) {
-        return BAD_HOLD;
+        return Err(Refusal::BadHold);
     }
-    0
+    Ok(())
 }

@@ -9,6 +9,7 @@ ghost use Rattle.trial_runs.specs.InPlace.{IsWorld, Enters};
 
 use crate::players::entered;
 use character::SEATS;
+use game_refusals::Refusal;
 use map_tiles::Sides;
 use trial_rule::Player;
 use world_buffers::join_in;
@@ -18,13 +19,6 @@ use world_joins::place_of;
 pub const JOIN: usize = 3;
 
 pub const TARGET: usize = 2;
-
-// The number of the first join that is refused, or 0 and the players.
-#[derive(Clone, Copy)]
-pub struct Entered {
-    pub number: u32,
-    pub players: [Player; SEATS],
-}
 
 fn no_player() -> Player
     ensures { result ≡ no_player }
@@ -52,7 +46,7 @@ pub fn enter_all(
     tiles: &[u8],
     joins: &[i32],
     targets: &[i32],
-) -> Entered
+) -> Result<[Player; SEATS], Refusal>
     requires { IsWorld world.old × T (is_map sides tiles.now) × (length targets.now ≡ target_count * (length joins.now / join_count)) }
     ensures { Enters (enter_all seats sides tiles.now (entrants joins.now targets.now) (record { world = decoding seats world.entry.now; players = replicate seats no_player })) result world.exit.now }
 {
@@ -62,12 +56,9 @@ pub fn enter_all(
         let id = joins[at];
         let x = joins[at + 1];
         let y = joins[at + 2];
-        let number = join_in(world, sides, tiles, id, x, y);
-        if number != 0 {
-            return Entered { number, players };
-        }
+        join_in(world, sides, tiles, id, x, y)?;
         let to = TARGET * i;
         players[place_of(SEATS, id)] = entered(sides, x, y, targets[to], targets[to + 1]);
     }
-    Entered { number: 0, players }
+    Ok(players)
 }

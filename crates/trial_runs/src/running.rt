@@ -58,7 +58,7 @@ fn steer_seat(world: &mut [i32], seat: usize, player: Player, sides: Sides)
     let at = seat_place(seat);
     if is_set(world[at]) {
         let x = world[at + X];
-        input_in(world, seat as i32, trial_input(player, sides, x));
+        let _ = input_in(world, seat as i32, trial_input(player, sides, x));
     }
 }
 
@@ -118,18 +118,9 @@ pub fn run_tuning(
     copy(&mut world, 0, tuning);
     let mut records = [0i32; RECORDS];
     let mut removed = [0i32; SEATS];
-    let mut count = 0usize;
     for i in 0..steps {
         steer_all(&mut world, players, sides);
-        let number = step_in(
-            &mut world,
-            sides,
-            tiles,
-            &mut records,
-            &mut removed,
-            &mut count,
-        );
-        if number != 0 {
+        if step_in(&mut world, sides, tiles, &mut records, &mut removed).is_err() {
             return Tried { steps: i, players };
         }
         let next = note_all(players, &records, sides, i + 1);

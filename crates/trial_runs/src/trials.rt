@@ -1,5 +1,6 @@
 // The trial: refusals, the joins, and the run of each tuning into its row of the result.
 ghost use Rattle.std.specs.Prelude.{map, ◌≡◌, ◌*◌, ◌/◌, ◌%◌, T, length};
+ghost use Rattle.game_refusals.specs.Refusals.{number_of_answer};
 ghost use Rattle.game_tuning.specs.Tuning.{tuning_count};
 ghost use Rattle.map_tiles.specs.Map.{is_map};
 ghost use Rattle.character.specs.Tick.{seats};
@@ -15,12 +16,12 @@ use crate::running::run_tuning;
 use crate::telling::{ROW, tried_numbers};
 use base_rows::copy;
 use character::SEATS;
-use game_refusals::{BAD_LENGTH, BAD_MAP};
+use game_refusals::Refusal;
 use game_tuning::TUNINGS;
 use map_tiles::{Sides, count, is_map};
 use trial_rule::Player;
-use world_buffers::fresh_in;
-use world_numbers::WORLD;
+use world_joins::fresh;
+use world_numbers::{WORLD, encode};
 
 pub fn trial(
     sides: Sides,
@@ -30,29 +31,22 @@ pub fn trial(
     tunings: &[i32],
     steps: i32,
     res: &mut [i32],
-) -> u32
-    ensures { trial_in seats sides tiles.now joins.now targets.now tunings.now steps res.old ≡ record { number = result; result = res.new } }
+) -> Result<(), Refusal>
+    ensures { trial_in seats sides tiles.now joins.now targets.now tunings.now steps res.old ≡ record { number = number_of_answer result; result = res.new } }
 {
     if !are_whole(joins.len(), targets.len(), tunings.len(), res.len()) {
-        return BAD_LENGTH;
+        return Err(Refusal::BadLength);
     }
     if !is_map(sides, tiles) {
-        return BAD_MAP;
+        return Err(Refusal::BadMap);
     }
-    let fault = trial_fault(tunings, steps);
-    if fault != 0 {
-        return fault;
-    }
+    trial_fault(tunings, steps)?;
     let mut world = [0i32; WORLD];
-    fresh_in(&mut world);
-    let entered = enter_all(&mut world, sides, tiles, joins, targets);
-    if entered.number != 0 {
-        return entered.number;
-    }
-    let players = entered.players;
+    encode(fresh(), &mut world);
+    let players = enter_all(&mut world, sides, tiles, joins, targets)?;
     let most = count(steps) as u16;
     run_all(&world, players, sides, tiles, tunings, most, res);
-    0
+    Ok(())
 }
 
 // Each tuning from the same numbers.

@@ -24,12 +24,6 @@ use Rattle.character.specs.Slot.{joined_slot}
 use Rattle.character.specs.Tick.{slot_at, tick_at}
 use Rattle.character.specs.Records.{to_net}
 use Rattle.character.specs.declared.Slot.{Slot}
-use Rattle.character.specs.declared.records.Net.{Net}
-use Rattle.character.specs.declared.records.Net.TheVariants as net
-use Rattle.character.specs.declared.tick.TickedAt.{TickedAt}
-use Rattle.character.specs.declared.tick.TickedAt.TheVariants as ticked
-use Rattle.character.specs.declared.walk.MovedAt.{MovedAt}
-use Rattle.character.specs.declared.walk.MovedAt.TheVariants as moved
 use Rattle.character_laws.proofs.Slots.{replicate_every}
 use Rattle.world.specs.declared.call.Call.{Call}
 use Rattle.world.specs.declared.call.Call.TheVariants.{Join, Leave, Input, Step, Tune}
@@ -40,11 +34,17 @@ use Rattle.world.specs.Step.{Moving, unpublished, after_tick, tick_turn, tick_al
 use Rattle.world.specs.Demand3.{CornersClear}
 use Rattle.world.specs.Answers.{LowestFirst, Outside, IsMap, Present, IsHold, JoinFits, SeatFits, TuneFits, Untold, Answers}
 use Rattle.world.specs.Answers as fits
-use Rattle.world.specs.declared.Stepped.{Stepped}
+use Rattle.world.specs.Answered.{Stepped}
 use Rattle.world.specs.declared.World.{World}
 use Rattle.world.proofs.Demand3.{corners_clear}
 use Rattle.world.proofs.Removal.{listed_ids}
 use Rattle.world.proofs.Seats.{by_test}
+use Rattle.std.specs.Prelude.{Result, Ok, Err}
+use Rattle.game_records.specs.declared.CharacterCore.{CharacterCore}
+use Rattle.character.specs.declared.Character.{Character}
+use Rattle.character.specs.declared.tick.AfterTick.{AfterTick}
+use Rattle.game_refusals.specs.declared.Refusal.{Refusal}
+use Rattle.game_refusals.specs.declared.Refusal.TheVariants.{TickTooLarge}
 
 -- ---- the lowest
 module _ (Fits : ℕ → Type 0) where
@@ -226,21 +226,21 @@ module _ (n : ℕ) (s : Sides) (ts : List ℕ) where
   tick_late : (t : Tuning) (j : ℕ) (us : List Slot) → Unit {0} → Ends (λ vs. Unit {0}) (λ r. 1 < r) (tick_turn n s ts t j us)
   tick_late t j us h = let x = slot_at us j in by_test (Ends (λ vs. Unit {0}) (λ r. 1 < r)) x.present (λ p. ticks (tick_at n x.character j us s ts x.input t)) (λ p. tt)
     where
-      ticks : (a : TickedAt) → Ends (λ vs. Unit {0}) (λ r. 1 < r) (after_tick us j a)
-      ticks ticked.TooFar = omega arith
-      ticks (ticked.To a) = tt
+      ticks : (a : Result AfterTick Refusal) → Ends (λ vs. Unit {0}) (λ r. 1 < r) (after_tick us j a)
+      ticks (Err e) = omega arith
+      ticks (Ok a) = tt
 
   move_late : (t : Tuning) (j : ℕ) (m : Moving) → Unit {0} → Ends (λ o. Unit {0}) (λ r. 1 < r) (move_turn n s ts t j m)
   unfolding record_of
   move_late t j m h = by_test (Ends (λ o. Unit {0}) (λ r. 1 < r)) (slot_at m.slots j).present (λ p. moves (move_in n s ts t m.slots j)) (λ p. tt)
     where
-      recorded : (o : Net) → Ends (λ o. Unit {0}) (λ r. 1 < r) (publish m j (of_net o))
-      recorded net.TickTooLarge = omega arith
-      recorded (net.Core c) = tt
+      recorded : (o : Result CharacterCore Refusal) → Ends (λ o. Unit {0}) (λ r. 1 < r) (publish m j (of_net o))
+      recorded (Err e) = omega arith
+      recorded (Ok c) = tt
 
-      moves : (a : MovedAt) → Ends (λ o. Unit {0}) (λ r. 1 < r) (publish m j (record_of a))
-      moves moved.TooFar = omega arith
-      moves (moved.To c) = recorded (to_net c)
+      moves : (a : Result Character Refusal) → Ends (λ o. Unit {0}) (λ r. 1 < r) (publish m j (record_of a))
+      moves (Err e) = omega arith
+      moves (Ok c) = recorded (to_net c)
 
   module _ (w : World) where
     abbrev Late : Stepped → Type 0

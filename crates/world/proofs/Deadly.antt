@@ -27,7 +27,7 @@ use Rattle.world.specs.Run.{after}
 use Rattle.world.specs.Demand3.{record_at}
 use Rattle.world.specs.Deadly.{Rising, corner_deadly, leaves_of, Spiked, StepSpikes}
 use Rattle.world.specs.Step.{Moving, tick_all, move_all, step_answer, step_on, step}
-use Rattle.world.specs.declared.Stepped.{Stepped}
+use Rattle.world.specs.Answered.{Stepped}
 use Rattle.world.specs.declared.World.{World}
 use Rattle.world.proofs.Removal.{dying_are, dying_within, listed_ids, removed_every, removed_present}
 use Rattle.world.proofs.Seats.{by_test, present_within, Same, Settling, ticks_same, moves-settle}

@@ -11,7 +11,7 @@ use Rattle.world.specs.declared.call.Call.TheVariants.{Join, Leave, Input, Step,
 use Rattle.world.specs.Demand1.{Demand1}
 use Rattle.world.specs.Run.{input_of}
 use Rattle.world.specs.Step.{Moving, tick_all, move_all, step_refused, step_answer, step_on, step}
-use Rattle.world.specs.declared.Answer.{Answer}
+use Rattle.world.specs.Answered.{Answer}
 use Rattle.world.specs.declared.World.{World}
 use Rattle.world.proofs.Outcomes.{Outcome, no, yes, join_outcome, leave_outcome, input_outcome, tune_outcome}
 

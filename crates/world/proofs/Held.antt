@@ -19,18 +19,13 @@ use Rattle.character.specs.Records.{core_of, most_tick, to_net}
 use Rattle.character.specs.Tick.{slot_at, nowhere, after_pull, tick_at}
 use Rattle.character.specs.declared.Character.{Character}
 use Rattle.character.specs.declared.Slot.{Slot}
-use Rattle.character.specs.declared.records.Net.TheVariants as net
 use Rattle.character.specs.declared.tick.AfterTick.{AfterTick}
-use Rattle.character.specs.declared.tick.TickedAt.{TickedAt}
-use Rattle.character.specs.declared.tick.TickedAt.TheVariants as ticked
-use Rattle.character.specs.declared.walk.MovedAt.{MovedAt}
-use Rattle.character.specs.declared.walk.MovedAt.TheVariants as moved
 use Rattle.character_laws.proofs.Held.{Only, only_holds, holds_only, tick-only, record_only, Rests, move_hook}
 use Rattle.character_laws.proofs.Others.{Then, pulled_others}
 use Rattle.character_laws.proofs.Slots.{set_every, replicate_every}
 use Rattle.world.specs.declared.call.Call.{Call}
 use Rattle.world.specs.declared.call.Call.TheVariants.{Join, Leave, Input, Step, Tune}
-use Rattle.world.specs.declared.Stepped.{Stepped}
+use Rattle.world.specs.Answered.{Stepped}
 use Rattle.world.specs.declared.World.{World}
 use Rattle.world.specs.World.{fresh, with_slot}
 use Rattle.world.specs.Calls.{place_of, point_of, vacate}
@@ -43,6 +38,9 @@ use Rattle.world.proofs.Present.{present_follows}
 use Rattle.world.proofs.Removal.{removed_kept}
 use Rattle.world.proofs.Seats.{by_test}
 use Rattle.world.proofs.Vacated.{released_only, vacated_every, vacated_others, nobody-holds}
+use Rattle.std.specs.Prelude.{Result, Ok, Err}
+use Rattle.game_refusals.specs.declared.Refusal.{Refusal}
+use Rattle.game_refusals.specs.declared.Refusal.TheVariants.{TooFar, TickTooLarge}
 
 -- k is there among the slots ss
 abbrev There : List Slot → ℕ → Type 0
@@ -75,9 +73,9 @@ module _ (n : ℕ) (s : Sides) (ts : List ℕ) (t : Tuning) (ss : List Slot) whe
         held = λ k. subst (HoldsPresent ss) (sym (same k)) (h.held k);
       }
 
-      ticks : (k : TickedAt) → Then (λ a. Only (There ss) a.me.hook) k → Ends Holding (λ r. Unit {0}) (after_tick us j k)
-      ticks ticked.TooFar q = tt
-      ticks (ticked.To a) q = holding_set (after_pull us a.pull) j _ (pulled a) refl q
+      ticks : (k : Result AfterTick Refusal) → Then (λ a. Only (There ss) a.me.hook) k → Ends Holding (λ r. Unit {0}) (after_tick us j k)
+      ticks (Err e) q = tt
+      ticks (Ok a) q = holding_set (after_pull us a.pull) j _ (pulled a) refl q
 
   ticks_hold : Holding ss → Ends Holding (λ r. Unit {0}) (tick_all n ss s ts t)
   unfolding tick_all
@@ -87,13 +85,13 @@ module _ (n : ℕ) (s : Sides) (ts : List ℕ) (t : Tuning) (ss : List Slot) whe
   unfolding record_of to_net
   move_turn_lem i m h = by_test (Ends (λ (m : Moving). Holding m.slots) (λ r. Unit {0})) (slot_at m.slots i).present (λ p. recorded (move_in n s ts t m.slots i) (move_hook n (slot_at m.slots i).character i m.slots s ts t)) (λ p. h)
     where
-      published : (c : Character) → Only (There ss) c.hook → (b : Bool) → Ends (λ (m : Moving). Holding m.slots) (λ r. Unit {0}) (publish m i (of_net (cond b (net.Core (core_of c)) net.TickTooLarge)))
+      published : (c : Character) → Only (There ss) c.hook → (b : Bool) → Ends (λ (m : Moving). Holding m.slots) (λ r. Unit {0}) (publish m i (of_net (cond b (Ok (core_of c)) (Err TickTooLarge))))
       published c k true = holding_set m.slots i _ h refl (record_only (There ss) c k)
       published c k false = tt
 
-      recorded : (d : MovedAt) → Rests (λ d. d.hook ≡ (slot_at m.slots i).character.hook) d → Ends (λ (m : Moving). Holding m.slots) (λ r. Unit {0}) (publish m i (record_of d))
-      recorded moved.TooFar q = tt
-      recorded (moved.To c) q = published c (subst (Only (There ss)) (sym q) (h.held i)) (leb (tick_of c.hook) most_tick)
+      recorded : (d : Result Character Refusal) → Rests (λ d. d.hook ≡ (slot_at m.slots i).character.hook) d → Ends (λ (m : Moving). Holding m.slots) (λ r. Unit {0}) (publish m i (record_of d))
+      recorded (Err e) q = tt
+      recorded (Ok c) q = published c (subst (Only (There ss)) (sym q) (h.held i)) (leb (tick_of c.hook) most_tick)
 
   moves_hold : (us : List Slot) → Holding us → Ends (λ (m : Moving). Holding m.slots) (λ r. Unit {0}) (move_all n us s ts t)
   unfolding move_all

@@ -24,7 +24,6 @@ use Rattle.character.specs.Records.{to_net}
 use Rattle.character.specs.Slot.{empty_slot, joined_slot, with_input}
 use Rattle.character.specs.Tick.{slot_at, nowhere}
 use Rattle.character.specs.declared.Character.{Character}
-use Rattle.character.specs.declared.records.Net.TheVariants as net
 use Rattle.character_laws.proofs.Back.{record_of_lem}
 use Rattle.character_laws.proofs.Slots.{set_every, replicate_every}
 use Rattle.world.specs.Calls.{place_of, point_of, tune}
@@ -37,7 +36,7 @@ use Rattle.world.specs.declared.World.{World}
 use Rattle.world.specs.declared.call.Call.{Call}
 use Rattle.world.specs.declared.call.Call.TheVariants.{Join, Leave, Input, Step, Tune}
 use Rattle.world.specs.declared.reading.Query.TheVariants as query
-use Rattle.world.specs.declared.reading.Reading.TheVariants as reading
+use Rattle.world.specs.ReadAnswer as reading
 use Rattle.world.specs.Settled.{Settled}
 use Rattle.world.proofs.Demand1.{demand1}
 use Rattle.world.proofs.Numbers.{core_within, step-answer}
@@ -45,6 +44,7 @@ use Rattle.world.proofs.Outcomes.{outcome_kept, join_outcome, leave_outcome, inp
 use Rattle.world.proofs.Readings.{record_read}
 use Rattle.world.proofs.Settled.{answer-settled, after_settled}
 use Rattle.world.proofs.Vacated.{released-kept, vacated_every}
+use Rattle.std.specs.Prelude.{Ok}
 
 -- nobody who is there has held for more than 60 ticks
 abbrev ShortIn : World → Type 0
@@ -78,7 +78,7 @@ fresh-short n = replicate_every (λ x. x.present ≡ true → tick_of x.characte
 
 -- ---- what is read
 -- the record of whoever has held for so long
-record_within : (x : Character) (m : ℕ) → tick_of x.hook ≤ m → (c : CharacterCore) → to_net x ≡ net.Core c → TicksWithin m c
+record_within : (x : Character) (m : ℕ) → tick_of x.hook ≤ m → (c : CharacterCore) → to_net x ≡ Ok c → TicksWithin m c
 record_within x m l c e = subst (TicksWithin m) (sym (record_of_lem x c e).0) (core_within x m l)
 
 read_within : (n : ℕ) (w : World) → ShortIn w → (id : ℤ) (c : CharacterCore) → read_of n w (query.Record id) ≡ reading.Record c → TicksWithin max_hook_grab_time c

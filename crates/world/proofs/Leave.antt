@@ -14,7 +14,7 @@ use Rattle.character.specs.Tick.{slot_at}
 use Rattle.character.specs.declared.Slot.{Slot}
 use Rattle.world.specs.Calls.{place_of, released, vacate, leave}
 use Rattle.world.specs.Leave.{Holds, Vacated, LeaveReleases}
-use Rattle.world.specs.declared.Answer.{Answer}
+use Rattle.world.specs.Answered.{Answer}
 use Rattle.world.specs.declared.World.{World}
 use Rattle.world.proofs.Outcomes.{Outcome, no, yes, Seated, leave_outcome}
 use Rattle.world.proofs.Vacated.{held-released, other_released, vacated_at, vacated_others, vacated_length}

@@ -21,21 +21,16 @@ use Rattle.character.specs.Slot.{empty_slot, joined_slot, with_character, with_i
 use Rattle.character.specs.Tick.{slot_at, nowhere, after_pull, tick_at}
 use Rattle.character.specs.Records.{from_net}
 use Rattle.character.specs.declared.Slot.{Slot}
-use Rattle.character.specs.declared.tick.TickedAt.{TickedAt}
-use Rattle.character.specs.declared.tick.TickedAt.TheVariants as ticked
 use Rattle.character_laws.proofs.Slots.{set_every, set_others}
 use Rattle.character_laws.proofs.Others.{Then, tick_pos, tick-grounded, pulled_others}
 use Rattle.world.specs.declared.call.Call.{Call}
 use Rattle.world.specs.declared.call.Call.TheVariants.{Join, Leave, Input, Step, Tune}
-use Rattle.world.specs.declared.Recorded.{Recorded}
-use Rattle.world.specs.declared.Recorded.TheVariants.{Refused, Core}
-use Rattle.world.specs.declared.Stepped.{Stepped}
+use Rattle.world.specs.Answered.{Stepped}
 use Rattle.world.specs.declared.World.{World}
 use Rattle.world.specs.World.{fresh}
 use Rattle.world.specs.Calls.{place_of, point_of, join, released_slot, leave, input}
 use Rattle.world.specs.Readers.{seated, of_seated, mark_now}
-use Rattle.world.specs.declared.reading.Reading.TheVariants as reading
-use Rattle.world.specs.declared.reading.Seated.TheVariants as seat
+use Rattle.world.specs.ReadAnswer as reading
 use Rattle.world.specs.Removal.{dying, ids_in, is_in}
 use Rattle.world.specs.Step.{Moving, after_tick, tick_turn, tick_all, record_of, publish, move_in, move_turn, moving_from, move_all, step_answer, step_on, step}
 use Rattle.world.specs.Run.{input_of, ran, after}
@@ -47,6 +42,11 @@ use Rattle.world.proofs.Seats.{last_or_below, present_within, by_test, Settling,
 use Rattle.world.proofs.NextSlot.{join_slot, leave_slot, input_slot, tune_slot}
 use Rattle.world.proofs.Present.{present-next, fresh_absent, present_follows}
 use Rattle.world.proofs.Settled.{answer-settled, after_settled}
+use Rattle.std.specs.Prelude.{Result, Ok, Err}
+use Rattle.game_records.specs.declared.CharacterCore.{CharacterCore}
+use Rattle.character.specs.declared.tick.AfterTick.{AfterTick}
+use Rattle.game_refusals.specs.declared.Refusal.{Refusal}
+use Rattle.game_refusals.specs.declared.Refusal.TheVariants.{BadId, Absent}
 
 module _ (n : ℕ) (s : Sides) (ts : List ℕ) where
   -- ---- the ticks of a step that began with ss
@@ -60,9 +60,9 @@ module _ (n : ℕ) (s : Sides) (ts : List ℕ) where
     tick_turn_lem : (i : ℕ) (us : List Slot) → Ticking i us → Ends (Ticking (suc i)) (λ r. 0 < r) (tick_turn n s ts t i us)
     tick_turn_lem i us h = let x = slot_at us i in by_test (Ends (Ticking (suc i)) (λ r. 0 < r)) x.present (λ p. ticks p (tick_at n x.character i us s ts x.input t) (tick_pos n x.character i us s ts x.input t) (tick-grounded n x.character i us s ts x.input t)) nobody
       where
-        ticks : (slot_at us i).present ≡ true → (k : TickedAt) → Then (λ a. a.me.pos ≡ (slot_at us i).character.pos) k → Then (λ a. a.grounded ≡ grounded s ts (slot_at us i).character.pos) k → Ends (Ticking (suc i)) (λ r. 0 < r) (after_tick us i k)
-        ticks p ticked.TooFar stays mark = omega arith
-        ticks p (ticked.To a) stays mark =
+        ticks : (slot_at us i).present ≡ true → (k : Result AfterTick Refusal) → Then (λ a. a.me.pos ≡ (slot_at us i).character.pos) k → Then (λ a. a.grounded ≡ grounded s ts (slot_at us i).character.pos) k → Ends (Ticking (suc i)) (λ r. 0 < r) (after_tick us i k)
+        ticks p (Err e) stays mark = omega arith
+        ticks p (Ok a) stays mark =
             let vs = after_pull us a.pull in
             let same = pulled_others us a.pull in
             let there : (k : ℕ) → (slot_at vs k).present ≡ (slot_at ss k).present = λ k. ap (λ (y : Slot). y.present) (same k) ∙ h.there k in
@@ -87,9 +87,9 @@ module _ (n : ℕ) (s : Sides) (ts : List ℕ) where
     move_turn_lem : (i : ℕ) (m : Moving) → Marked m → Ends Marked (λ r. Unit {0}) (move_turn n s ts t i m)
     move_turn_lem i m h = by_test (Ends Marked (λ r. Unit {0})) (slot_at m.slots i).present (λ p. published (record_of (move_in n s ts t m.slots i))) (λ p. h)
       where
-        published : (r : Recorded) → Ends Marked (λ r. Unit {0}) (publish m i r)
-        published (Refused k) = tt
-        published (Core core) = set_every (λ k y. y.grounded ≡ (slot_at us k).grounded) m.slots i (with_character (slot_at m.slots i) (from_net core)) nowhere h (h i)
+        published : (r : Result CharacterCore Refusal) → Ends Marked (λ r. Unit {0}) (publish m i r)
+        published (Err k) = tt
+        published (Ok core) = set_every (λ k y. y.grounded ≡ (slot_at us k).grounded) m.slots i (with_character (slot_at m.slots i) (from_net core)) nowhere h (h i)
 
     pub moves-keep : Ends Marked (λ r. Unit {0}) (move_all n us s ts t)
     unfolding move_all
@@ -177,7 +177,7 @@ marks_follow n s ts cs id = go (ltb k n) refl (present n s ts k false (fresh n) 
     last : LastStep
     last = last_step n s ts k none (fresh n) cs
 
-    go : (b : Bool) → ltb k n ≡ b → (c : Bool) → x.present ≡ c → of_seated mark_now (cond b (cond x.present (seat.There x) (seat.Refused not_present)) (seat.Refused bad_id)) ≡ cond b (cond c (reading.FloorMark (grounded_then s ts last)) (reading.Refused not_present)) (reading.Refused bad_id)
+    go : (b : Bool) → ltb k n ≡ b → (c : Bool) → x.present ≡ c → of_seated mark_now (cond b (cond x.present (Ok x) (Err Absent)) (Err BadId)) ≡ cond b (cond c (reading.FloorMark (grounded_then s ts last)) (reading.Refused not_present)) (reading.Refused bad_id)
     go false e c p = refl
     go true e false p = rw p refl
     go true e true p = rw p (ap reading.FloorMark (marks-fresh n s ts k (ltb-true k n e) cs p))

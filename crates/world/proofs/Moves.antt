@@ -21,14 +21,10 @@ use Rattle.game_records.specs.declared.CharacterCore.{CharacterCore}
 use Rattle.character.specs.Slot.{with_character}
 use Rattle.character.specs.declared.Character.{Character}
 use Rattle.character.specs.declared.Slot.{Slot}
-use Rattle.character.specs.declared.walk.MovedAt.{MovedAt}
-use Rattle.character.specs.declared.walk.MovedAt.TheVariants as moved
 use Rattle.character.specs.Tick.{slot_at, nowhere}
 use Rattle.character_laws.specs.Faithful.{Faithful}
 use Rattle.character.specs.Records.{to_net, from_net}
 use Rattle.character_laws.specs.Representable.{Representable}
-use Rattle.character.specs.declared.records.Net.{Net}
-use Rattle.character.specs.declared.records.Net.TheVariants as net
 use Rattle.character_laws.proofs.Faithful.{core_faithful, core_clear, core_deadly}
 use Rattle.character_laws.proofs.Slots.{set_every, set_others, replicate_every}
 use Rattle.character_laws.proofs.Moved.{move_clear}
@@ -39,6 +35,9 @@ use Rattle.world.specs.declared.Published.{Published}
 use Rattle.character_laws.proofs.Back.{record_of_lem}
 use Rattle.world.proofs.Seats.{last_or_below, present_within, net_representable, Settling, move_turn_lem, nobody-moved}
 use Rattle.world.proofs.Standing.{representable_fits, Standing, Stands}
+use Rattle.std.specs.Prelude.{Result, Ok, Err}
+use Rattle.game_refusals.specs.declared.Refusal.{Refusal}
+use Rattle.game_refusals.specs.declared.Refusal.TheVariants.{TooFar}
 
 -- ---- the record of a character
 module _ (s : Sides) (ts : List ℕ) where
@@ -49,7 +48,7 @@ module _ (s : Sides) (ts : List ℕ) where
     clear : Clear s ts (from_net core).pos character_box
     deadly : on_deadly s ts (from_net core).pos ≡ on_deadly s ts c.pos
 
-  read : (c : Character) (core : CharacterCore) → T (is_map s ts) → FitsPair c.pos → FitsPair c.vel → Clear s ts c.pos character_box → to_net c ≡ net.Core core → Read c core
+  read : (c : Character) (core : CharacterCore) → T (is_map s ts) → FitsPair c.pos → FitsPair c.vel → Clear s ts c.pos character_box → to_net c ≡ Ok core → Read c core
   read c core m p v h e =
       let i = (record_of_lem c core e).0 in
       record {
@@ -69,7 +68,7 @@ same_more a b e = cc
 -- ---- the moves so far
 
 -- what the move leaves of j where the moves begin with ss
-abbrev pub left_from : ℕ → Sides → List ℕ → Tuning → List Slot → ℕ → MovedAt
+abbrev pub left_from : ℕ → Sides → List ℕ → Tuning → List Slot → ℕ → Result Character Refusal
 left_from n s ts t ss j = left_in n s ts t j (run (move_turn n s ts t) j 0 (moving_from n ss))
 
 module _ (n : ℕ) (s : Sides) (ts : List ℕ) (t : Tuning) (ss : List Slot) where
@@ -117,7 +116,7 @@ module _ (n : ℕ) (s : Sides) (ts : List ℕ) (t : Tuning) (map : T (is_map s t
         nobody k q = rw q (sym (same i) ∙ p)
 
     -- somebody is there: its record is published
-    module _ (l : i < n) (p : (slot_at m.slots i).present ≡ true) (c : Character) (core : CharacterCore) (q : move_in n s ts t m.slots i ≡ moved.To c) (r : Read s ts c core) where
+    module _ (l : i < n) (p : (slot_at m.slots i).present ≡ true) (c : Character) (core : CharacterCore) (q : move_in n s ts t m.slots i ≡ Ok c) (r : Read s ts c core) where
       abbrev after : Moving
       after = record { slots = set m.slots i (with_character (slot_at m.slots i) (from_net core)); records = set m.records i (record { present = true; core = core }) }
 
@@ -127,7 +126,7 @@ module _ (n : ℕ) (s : Sides) (ts : List ℕ) (t : Tuning) (map : T (is_map s t
       records-in : i < length m.records
       records-in = omega (arith, h.size)
 
-      left_is : left_from n s ts t ss i ≡ moved.To c
+      left_is : left_from n s ts t ss i ≡ Ok c
       left_is = ap (left_in n s ts t i) h.reached ∙ q
 
       standing : Standing s ts new
@@ -144,7 +143,7 @@ module _ (n : ℕ) (s : Sides) (ts : List ℕ) (t : Tuning) (map : T (is_map s t
         untold = λ k b. set_others (λ j x. i < j → x.present ≡ false) m.records i (record { present = true; core = core }) unpublished records-in (λ j d a. h.untold j (omega arith)) (λ a. absurd (omega arith)) k (omega arith);
       }
 
-    reads : (slot_at m.slots i).present ≡ true → (c : Character) (core : CharacterCore) → move_in n s ts t m.slots i ≡ moved.To c → to_net c ≡ net.Core core → Read s ts c core
+    reads : (slot_at m.slots i).present ≡ true → (c : Character) (core : CharacterCore) → move_in n s ts t m.slots i ≡ Ok c → to_net c ≡ Ok core → Read s ts c core
     reads p c core q w =
         let me = (slot_at m.slots i).character in
         let f = move_fits n me c i m.slots s ts t off ((h.stands i).pos-fits p) (h.stands i).vel-fits q in
@@ -155,13 +154,13 @@ module _ (n : ℕ) (s : Sides) (ts : List ℕ) (t : Tuning) (map : T (is_map s t
     unfolding record_of
     turn l m' e = go (slot_at m.slots i).present refl e
       where
-        named : (c : Character) (o : Net) → move_in n s ts t m.slots i ≡ moved.To c → to_net c ≡ o → (slot_at m.slots i).present ≡ true → publish m i (of_net o) ≡ more m' → Upto (suc i) m'
-        named c net.TickTooLarge q w p z = absurd (stop_or_more 10 m' z)
-        named c (net.Core core) q w p z = subst (Upto (suc i)) (same_more (after l p c core q (reads p c core q w)) m' z) (present l p c core q (reads p c core q w) (e ∙ sym z))
+        named : (c : Character) (o : Result CharacterCore Refusal) → move_in n s ts t m.slots i ≡ Ok c → to_net c ≡ o → (slot_at m.slots i).present ≡ true → publish m i (of_net o) ≡ more m' → Upto (suc i) m'
+        named c (Err e) q w p z = absurd (stop_or_more 10 m' z)
+        named c (Ok core) q w p z = subst (Upto (suc i)) (same_more (after l p c core q (reads p c core q w)) m' z) (present l p c core q (reads p c core q w) (e ∙ sym z))
 
-        recorded : (d : MovedAt) → move_in n s ts t m.slots i ≡ d → (slot_at m.slots i).present ≡ true → publish m i (record_of d) ≡ more m' → Upto (suc i) m'
-        recorded moved.TooFar q p z = absurd (stop_or_more 9 m' z)
-        recorded (moved.To c) q p z = named c (to_net c) q refl p z
+        recorded : (d : Result Character Refusal) → move_in n s ts t m.slots i ≡ d → (slot_at m.slots i).present ≡ true → publish m i (record_of d) ≡ more m' → Upto (suc i) m'
+        recorded (Err e) q p z = absurd (stop_or_more 9 m' z)
+        recorded (Ok c) q p z = named c (to_net c) q refl p z
 
         go : (b : Bool) → (slot_at m.slots i).present ≡ b → cond b (publish m i (record_of (move_in n s ts t m.slots i))) (more m) ≡ more m' → Upto (suc i) m'
         go true p z = recorded (move_in n s ts t m.slots i) refl p z

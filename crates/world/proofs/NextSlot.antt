@@ -16,7 +16,7 @@ use Rattle.character.specs.declared.Slot.{Slot}
 use Rattle.character_laws.proofs.Slots.{set_others}
 use Rattle.world.specs.World.{with_slot}
 use Rattle.world.specs.Calls.{place_of, point_of, join, released_slot, vacate, leave, input, tune}
-use Rattle.world.specs.declared.Answer.{Answer}
+use Rattle.world.specs.Answered.{Answer}
 use Rattle.world.specs.declared.World.{World}
 use Rattle.world.proofs.Outcomes.{Outcome, no, yes, outcome_kept, Seated, join_outcome, leave_outcome, input_outcome, tune_outcome}
 use Rattle.world.proofs.Vacated.{vacated_at, vacated_others}

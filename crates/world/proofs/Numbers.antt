@@ -29,26 +29,22 @@ use Rattle.character.specs.Records.{core_of, to_net, from_net}
 use Rattle.character_laws.proofs.Back.{to_core}
 use Rattle.character.specs.declared.Character.{Character}
 use Rattle.character.specs.declared.Slot.{Slot}
-use Rattle.character.specs.declared.tick.HookFlight.{HookFlight}
-use Rattle.character.specs.declared.tick.HookFlight.TheVariants.{TooFar, To}
 use Rattle.character.specs.declared.tick.AfterTick.{AfterTick}
-use Rattle.character.specs.declared.tick.TickedAt.{TickedAt}
-use Rattle.character.specs.declared.tick.TickedAt.TheVariants as ticked-at
 use Rattle.character.specs.Tick.{slot_at, nowhere, steer, flight, after_pull, hooked, ticked, tick_at}
 use Rattle.character_laws.proofs.Held.{Rests, move_hook}
 use Rattle.character_laws.proofs.Slots.{set_every, set_others, replicate_every}
 use Rattle.character_laws.proofs.Others.{Then, pulled_others, pulled-length}
-use Rattle.character.specs.declared.walk.MovedAt.{MovedAt}
-use Rattle.character.specs.declared.walk.MovedAt.TheVariants as moved
 use Rattle.world.specs.Demand3.{record_at}
 use Rattle.world.specs.Hold.{TicksWithin}
 use Rattle.world.specs.Removal.{dying, remove_all}
 use Rattle.world.specs.Step.{unpublished, Moving, after_tick, tick_turn, tick_all, of_net, record_of, publish, move_in, move_turn, moving_from, move_all, step_answer, step_on, step}
-use Rattle.world.specs.declared.Stepped.{Stepped}
+use Rattle.world.specs.Answered.{Stepped}
 use Rattle.world.specs.declared.World.{World}
 use Rattle.world.proofs.Removal.{removed_every}
 use Rattle.world.proofs.Vacated.{released-kept}
 use Rattle.world.proofs.Seats.{last_or_below, present_within, by_test}
+use Rattle.std.specs.Prelude.{Result, Ok, Err}
+use Rattle.game_refusals.specs.declared.Refusal.{Refusal}
 
 -- the record that a hook makes reads as one that has held for no longer
 hook_back_lem : (h : Hook) (p d : vec2) → tick_of (hook_from_net (net_state h) p d (net_hooked_player h) (record { 0 = pos (tick_of h) })) ≤ tick_of h
@@ -90,9 +86,9 @@ pub tick-short : (n : ℕ) (c : Character) (id : ℕ) (ss : List Slot) (s : Side
 unfolding tick_at hooked
 tick-short n c id ss s ts i t = let d = steer c (grounded s ts c.pos) i t in go d (flight n d.hook c.pos id ss s ts t)
   where
-    go : (d : Character) (f : HookFlight) → Then (ShortAfter t) (ticked n d (grounded s ts c.pos) id ss t f)
-    go d TooFar = tt
-    go d (To h) = hold-short h t.hook_hold
+    go : (d : Character) (f : Result Hook Refusal) → Then (ShortAfter t) (ticked n d (grounded s ts c.pos) id ss t f)
+    go d (Err e) = tt
+    go d (Ok h) = hold-short h t.hook_hold
 
 module _ (n : ℕ) (s : Sides) (ts : List ℕ) (t : Tuning) where
   -- after i ticks, of n slots those that have ticked
@@ -105,9 +101,9 @@ module _ (n : ℕ) (s : Sides) (ts : List ℕ) (t : Tuning) where
       c : Character
       c = (slot_at us i).character
 
-      ticks : (slot_at us i).present ≡ true → (k : TickedAt) → Then (ShortAfter t) k → Ends (Ticks (suc i)) (λ r. r ≡ 9) (after_tick us i k)
-      ticks p ticked-at.TooFar z = refl
-      ticks p (ticked-at.To a) z =
+      ticks : (slot_at us i).present ≡ true → (k : Result AfterTick Refusal) → Then (ShortAfter t) k → Ends (Ticks (suc i)) (λ r. r ≡ 9) (after_tick us i k)
+      ticks p (Err e) z = refl
+      ticks p (Ok a) z =
           let vs = after_pull us a.pull in
           let l = present_within us i p in
           let b = pulled-length us a.pull in
@@ -148,9 +144,9 @@ module _ (n : ℕ) (s : Sides) (ts : List ℕ) (t : Tuning) where
             told = set_every (λ k x. TicksWithin (most t) x.core) m.records i (record { present = true; core = core_of d }) unpublished h.told (core_within d (most t) f);
           })
 
-      moves : (slot_at m.slots i).present ≡ true → (o : MovedAt) → Rests (λ d. d.hook ≡ c.hook) o → Ends Moves (λ r. r ≡ 9) (publish m i (record_of o))
-      moves p moved.TooFar e = refl
-      moves p (moved.To d) e = records p d e
+      moves : (slot_at m.slots i).present ≡ true → (o : Result Character Refusal) → Rests (λ d. d.hook ≡ c.hook) o → Ends Moves (λ r. r ≡ 9) (publish m i (record_of o))
+      moves p (Err why) e = refl
+      moves p (Ok d) e = records p d e
 
   none_told : (k : ℕ) → TicksWithin (most t) (record_at (replicate n unpublished) k).core
   none_told = replicate_every (λ x. TicksWithin (most t) x.core) n unpublished unpublished none none

@@ -19,7 +19,7 @@ use Rattle.character.specs.Tick.{slot_at}
 use Rattle.num_convert.specs.Casts.{IsI32}
 use Rattle.world.specs.World.{with_slot, with_tuning}
 use Rattle.world.specs.Calls.{refused, accepted, place_of, is_in_reach, point_of, join_at, join, if_present, vacate, leave, input, tune}
-use Rattle.world.specs.declared.Answer.{Answer}
+use Rattle.world.specs.Answered.{Answer}
 use Rattle.world.specs.declared.World.{World}
 
 -- a is a refusal that leaves w, or under the facts F it goes on with the world u

@@ -25,7 +25,7 @@ use Rattle.world.specs.Step.{Moving, tick_all, move_all, step_answer, step_on, s
 use Rattle.world.specs.Run.{input_of, ran, after}
 use Rattle.world.specs.Demand3.{present_after, present}
 use Rattle.world.specs.Settled.{Settled}
-use Rattle.world.specs.declared.Stepped.{Stepped}
+use Rattle.world.specs.Answered.{Stepped}
 use Rattle.world.specs.declared.World.{World}
 use Rattle.world.proofs.Removal.{dying_within, listed_ids, removed_present}
 use Rattle.world.proofs.Seats.{by_test, Same, Settling, ticks_same, moves-settle}

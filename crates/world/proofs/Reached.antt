@@ -29,7 +29,7 @@ use Rattle.world.specs.Calls.{vacate}
 use Rattle.world.specs.Removal.{dies, dying, ids_in, is_in}
 use Rattle.world.specs.Step.{Moving, tick_all, move_all, move_turn, moving_from, step_refused, step_answer, step_on, step}
 use Rattle.world.specs.Demand3.{left, left_in, record_at, FaithfulTo, left_on_deadly}
-use Rattle.world.specs.declared.Stepped.{Stepped}
+use Rattle.world.specs.Answered.{Stepped}
 use Rattle.world.specs.declared.World.{World}
 use Rattle.world.proofs.Seats.{Same, Settling, ticks_same, moves-settle}
 use Rattle.world.proofs.Removal.{dying_are, listed_ids, removed_kept}

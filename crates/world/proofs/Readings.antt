@@ -17,9 +17,6 @@ use Rattle.character_hook.specs.declared.hook.Hook.TheVariants.{Retracted, Idle,
 use Rattle.character.specs.Records.{most_tick, core_of, to_net, from_net, back, quantize}
 use Rattle.character.specs.Tick.{slot_at}
 use Rattle.character.specs.declared.Slot.{Slot}
-use Rattle.character.specs.declared.records.Net.{Net}
-use Rattle.character.specs.declared.records.Net.TheVariants as net
-use Rattle.character.specs.declared.records.Quantized.TheVariants as quantized
 use Rattle.character_laws.specs.Representable.{RepresentableHook}
 use Rattle.character_laws.proofs.Back.{representable_back}
 use Rattle.world.specs.Answers.{LowestFirst, Outside, SeatFits}
@@ -32,12 +29,14 @@ use Rattle.world.specs.Settled.{Settled}
 use Rattle.world.specs.World.{fresh}
 use Rattle.world.specs.declared.World.{World}
 use Rattle.world.specs.declared.reading.Query.TheVariants as query
-use Rattle.world.specs.declared.reading.Reading.{Reading}
-use Rattle.world.specs.declared.reading.Reading.TheVariants as reading
-use Rattle.world.specs.declared.reading.Seated.TheVariants as seat
+use Rattle.world.specs.ReadAnswer.{ReadAnswer}
+use Rattle.world.specs.ReadAnswer as reading
 use Rattle.world.proofs.Answers.{none_fits, lowest_fits, place_is, place_outside, seat_present, seat_absent, seat_inside, seat_none, seat_lowest}
 use Rattle.world.proofs.Seats.{present_within}
 use Rattle.world.proofs.Settled.{after_settled}
+use Rattle.std.specs.Prelude.{Result, Ok, Err}
+use Rattle.game_refusals.specs.declared.Refusal.{Refusal}
+use Rattle.game_refusals.specs.declared.Refusal.TheVariants.{BadId, TickTooLarge, Absent}
 
 -- ---- a hook that has held for long
 long_grabs : (h : Hook) → most_tick < tick_of h → {P : Type 0} → ((c : CharacterId) (t : ℕ) → h ≡ Grabbed c t → most_tick < t → P) → P
@@ -63,11 +62,11 @@ module _ (n : ℕ) (w : World) (id : ℤ) where
   abbrev me : Slot
   me = slot_at w.slots at
 
-  seat_number : (f : Slot → Reading) → read_number (f me) ≡ 0 → read_number (of_seated f (seated n w id)) ≡ cond (ltb at n) (cond me.present 0 8) 2
+  seat_number : (f : Slot → ReadAnswer) → read_number (f me) ≡ 0 → read_number (of_seated f (seated n w id)) ≡ cond (ltb at n) (cond me.present 0 8) 2
   unfolding seated
   seat_number f z = go (ltb at n) me.present
     where
-      go : (b c : Bool) → read_number (of_seated f (cond b (cond c (seat.There me) (seat.Refused not_present)) (seat.Refused bad_id))) ≡ cond b (cond c 0 8) 2
+      go : (b c : Bool) → read_number (of_seated f (cond b (cond c (Ok me) (Err Absent)) (Err BadId))) ≡ cond b (cond c 0 8) 2
       go false c = refl
       go true false = refl
       go true true = z
@@ -91,7 +90,7 @@ module _ (n : ℕ) (w : World) (id : ℤ) where
       others : (Before : ℕ → Type 0) → (k : ℕ) → Before k → SeatFits n w id k → ⊥
       others B = seat_none n w id B (λ b. seat_inside w n id l) (λ b. seat_present w n id l p)
 
-      go : (d : Bool) → leb (tick_of me.character.hook) most_tick ≡ d → LowestFirst (RecordFits n w id) (read_number (of_record (cond d (net.Core (core_of me.character)) net.TickTooLarge)))
+      go : (d : Bool) → leb (tick_of me.character.hook) most_tick ≡ d → LowestFirst (RecordFits n w id) (read_number (of_record (cond d (Ok (core_of me.character)) (Err TickTooLarge))))
       go true m = none_fits _ (λ k. record_none (λ j. Unit {0}) (others (λ j. Unit {0})) (λ b. not_long l (leb-true _ most_tick m)) k tt)
       go false m = long_grabs me.character.hook (leb-false _ most_tick m) (λ c t e b. lowest_fits _ 10 (omega arith) (too_long refl (record { seat = at; is = place_is n id l; there = p; who = c; ticks = t; holds = e; long = b })) (record_none (λ k. k < 10) (others (λ k. k < 10)) (λ b. absurd (omega arith))))
 
@@ -99,7 +98,7 @@ module _ (n : ℕ) (w : World) (id : ℤ) where
   unfolding seated
   record_number = go (ltb at n) me.present refl refl
     where
-      go : (b c : Bool) → ltb at n ≡ b → me.present ≡ c → LowestFirst (RecordFits n w id) (read_number (of_seated record_now (cond b (cond c (seat.There me) (seat.Refused not_present)) (seat.Refused bad_id))))
+      go : (b c : Bool) → ltb at n ≡ b → me.present ≡ c → LowestFirst (RecordFits n w id) (read_number (of_seated record_now (cond b (cond c (Ok me) (Err Absent)) (Err BadId))))
       go false c l p = lowest_fits _ 2 (omega arith) (no_one (fits.SeatFits.no_seat refl (place_outside n id (ltb-false at n l)))) (record_none (λ k. k < 2) (seat_none n w id (λ k. k < 2) (λ b. absurd (omega arith)) (λ b. absurd (omega arith))) (λ b. absurd (omega arith)))
       go true false l p = let h = ltb-true at n l in lowest_fits _ 8 (omega arith) (no_one (fits.SeatFits.absent refl (seat_absent w n id h p))) (record_none (λ k. k < 8) (seat_none n w id (λ k. k < 8) (λ b. seat_inside w n id h) (λ b. absurd (omega arith))) (λ b. absurd (omega arith)))
       go true true l p = there_number (ltb-true at n l) p
@@ -108,11 +107,11 @@ module _ (n : ℕ) (w : World) (id : ℤ) where
   pub record Read (c : CharacterCore) : Type 0 where
     pub inside : at < n
     pub there : me.present ≡ true
-    pub net : to_net me.character ≡ net.Core c
+    pub net : to_net me.character ≡ Ok c
 
-  named : (o : Net) (c : CharacterCore) → of_record o ≡ reading.Record c → o ≡ net.Core c
-  named net.TickTooLarge c e = let z : ◌≡◌ {A = ℕ} 0 1 = cc in absurd (omega arith)
-  named (net.Core d) c e = cc
+  named : (o : Result CharacterCore Refusal) (c : CharacterCore) → of_record o ≡ reading.Record c → o ≡ Ok c
+  named (Err why) c e = let z : ◌≡◌ {A = ℕ} 0 1 = cc in absurd (omega arith)
+  named (Ok d) c e = cc
 
   pub record_read : (c : CharacterCore) → read_of n w (query.Record id) ≡ reading.Record c → Read c
   unfolding seated
@@ -121,7 +120,7 @@ module _ (n : ℕ) (w : World) (id : ℤ) where
       none : {r : ℕ} → reading.Refused r ≡ reading.Record c → Read c
       none e = let z : ◌≡◌ {A = ℕ} 0 1 = cc in absurd (omega arith)
 
-      go : (b d : Bool) → ltb at n ≡ b → me.present ≡ d → of_seated record_now (cond b (cond d (seat.There me) (seat.Refused not_present)) (seat.Refused bad_id)) ≡ reading.Record c → Read c
+      go : (b d : Bool) → ltb at n ≡ b → me.present ≡ d → of_seated record_now (cond b (cond d (Ok me) (Err Absent)) (Err BadId)) ≡ reading.Record c → Read c
       go false d l p e = none e
       go true false l p e = none e
       go true true l p e = record { inside = ltb-true at n l; there = p; net = named (to_net me.character) c e }
@@ -131,11 +130,11 @@ module _ (n : ℕ) (w : World) (id : ℤ) where
   unfolding seated quantize
   tells = go (ltb at n) me.present (to_net me.character) refl refl refl
     where
-      go : (b d : Bool) (o : Net) → ltb at n ≡ b → me.present ≡ d → to_net me.character ≡ o → read_number (of_seated record_now (cond b (cond d (seat.There me) (seat.Refused not_present)) (seat.Refused bad_id))) ≡ 0 → TellsRecord n w id
+      go : (b d : Bool) (o : Result CharacterCore Refusal) → ltb at n ≡ b → me.present ≡ d → to_net me.character ≡ o → read_number (of_seated record_now (cond b (cond d (Ok me) (Err Absent)) (Err BadId))) ≡ 0 → TellsRecord n w id
       go false d o l p q e = absurd (omega (arith, e))
       go true false o l p q e = absurd (omega (arith, e))
-      go true true net.TickTooLarge l p q e = let z : ◌≡◌ {A = ℕ} 10 0 = sym (ap (λ (o : Net). read_number (of_record o)) q) ∙ e in absurd (omega (arith, z))
-      go true true (net.Core c) l p q e = record { seat = at; is = place_is n id (ltb-true at n l); core = c; told = rw (l, p, q); back = ap back q }
+      go true true (Err why) l p q e = let z : ◌≡◌ {A = ℕ} 10 0 = sym (ap (λ (o : Result CharacterCore Refusal). read_number (of_record o)) q) ∙ e in absurd (omega (arith, z))
+      go true true (Ok c) l p q e = record { seat = at; is = place_is n id (ltb-true at n l); core = c; told = rw (l, p, q); back = ap back q }
 
 -- ---- worlds that calls can reach
 module _ (n : ℕ) (w : World) (h : Settled n w) where
@@ -145,7 +144,7 @@ module _ (n : ℕ) (w : World) (h : Settled n w) where
       let r = record_read n w (pos k) c e in
       let q : place_of n (pos k) ≡ k = ap nat_abs (sym (place_is n (pos k) r.inside)) in
       let x = (slot_at w.slots (place_of n (pos k))).character in
-      let b : quantized.To (from_net c) ≡ quantized.To x = sym (ap back r.net) ∙ representable_back x (h.representable (place_of n (pos k)) r.inside r.there) in
+      let b : Ok (from_net c) ≡ Ok x = sym (ap back r.net) ∙ representable_back x (h.representable (place_of n (pos k)) r.inside r.there) in
       let z : from_net c ≡ x = cc in
       z ∙ ap (λ (j : ℕ). (slot_at w.slots j).character) q
 

@@ -16,16 +16,15 @@ use Rattle.character.specs.Records.{from_net}
 use Rattle.character.specs.Slot.{with_character}
 use Rattle.character.specs.Tick.{slot_at, nowhere, after_pull, tick_at}
 use Rattle.character.specs.declared.Slot.{Slot}
-use Rattle.character.specs.declared.tick.TickedAt.{TickedAt}
-use Rattle.character.specs.declared.tick.TickedAt.TheVariants as ticked
 use Rattle.character_laws.proofs.Others.{pulled_others}
 use Rattle.character_laws.proofs.Slots.{set_every}
 use Rattle.world.specs.Demand3.{record_at}
 use Rattle.world.specs.Step.{Moving, unpublished, after_tick, tick_turn, tick_all, record_of, publish, move_in, move_turn, moving_from, move_all}
 use Rattle.world.specs.declared.Published.{Published}
-use Rattle.world.specs.declared.Recorded.{Recorded}
-use Rattle.world.specs.declared.Recorded.TheVariants.{Refused, Core}
 use Rattle.world.proofs.Seats.{by_test, last_or_below, present_within}
+use Rattle.std.specs.Prelude.{Result, Ok, Err}
+use Rattle.character.specs.declared.tick.AfterTick.{AfterTick}
+use Rattle.game_refusals.specs.declared.Refusal.{Refusal}
 
 module _ (n : ℕ) (s : Sides) (ts : List ℕ) (t : Tuning) (ss : List Slot) where
   -- every input is as in ss
@@ -36,9 +35,9 @@ module _ (n : ℕ) (s : Sides) (ts : List ℕ) (t : Tuning) (ss : List Slot) whe
   tick_turn_lem : (i : ℕ) (us : List Slot) → SameInput us → Ends SameInput (λ r. Unit {0}) (tick_turn n s ts t i us)
   tick_turn_lem i us h = let x = slot_at us i in by_test (Ends SameInput (λ r. Unit {0})) x.present (λ p. ticks (tick_at n x.character i us s ts x.input t)) (λ p. h)
     where
-      ticks : (k : TickedAt) → Ends SameInput (λ r. Unit {0}) (after_tick us i k)
-      ticks ticked.TooFar = tt
-      ticks (ticked.To a) =
+      ticks : (k : Result AfterTick Refusal) → Ends SameInput (λ r. Unit {0}) (after_tick us i k)
+      ticks (Err e) = tt
+      ticks (Ok a) =
           let vs = after_pull us a.pull in
           let input : SameInput vs = λ k. ap (λ (x : Slot). x.input) (pulled_others us a.pull k) ∙ h k in
           set_every (λ k x. x.input ≡ (slot_at ss k).input) vs i _ nowhere input (input i)
@@ -81,9 +80,9 @@ module _ (n : ℕ) (s : Sides) (ts : List ℕ) (t : Tuning) (ss : List Slot) whe
         reads = λ k l b q. ⊎_elim (λ e. subst Reading (sym e) (own (omega (arith, e)))) (λ c. other k c b q) (last_or_below k i l);
       }
 
-    published : (slot_at m.slots i).present ≡ true → (r : Recorded) → Ends (Reads (suc i)) (λ r. Unit {0}) (publish m i r)
-    published p (Refused k) = tt
-    published p (Core core) = publishes p core
+    published : (slot_at m.slots i).present ≡ true → (r : Result CharacterCore Refusal) → Ends (Reads (suc i)) (λ r. Unit {0}) (publish m i r)
+    published p (Err k) = tt
+    published p (Ok core) = publishes p core
 
     nobody : (slot_at m.slots i).present ≡ false → Reads (suc i) m
     nobody p = record { size = h.size; input = h.input; reads = λ k l b q. ⊎_elim (λ e. absurd (true≢false (sym q ∙ ap (λ (j : ℕ). (slot_at m.slots j).present) e ∙ p))) (λ c. h.reads k c b q) (last_or_below k i l) }

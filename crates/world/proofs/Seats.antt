@@ -15,19 +15,17 @@ use Rattle.game_records.specs.declared.CharacterCore.{CharacterCore}
 use Rattle.character_meeting.specs.declared.meeting.HookPull.{HookPull}
 use Rattle.character.specs.declared.Character.{Character}
 use Rattle.character.specs.declared.Slot.{Slot}
-use Rattle.character.specs.declared.tick.TickedAt.{TickedAt}
-use Rattle.character.specs.declared.tick.TickedAt.TheVariants as ticked
-use Rattle.character.specs.declared.walk.MovedAt.{MovedAt}
-use Rattle.character.specs.declared.walk.MovedAt.TheVariants as moved
 use Rattle.character.specs.Tick.{slot_at, nowhere, after_pull, tick_at}
 use Rattle.character.specs.Records.{to_net, from_net, quantize}
 use Rattle.character_laws.specs.Representable.{Representable}
-use Rattle.character.specs.declared.records.Net.{Net}
-use Rattle.character.specs.declared.records.Net.TheVariants as net
 use Rattle.character_laws.proofs.FromNet.{quantized_representable}
 use Rattle.character_laws.proofs.Slots.{set_every, set_others}
 use Rattle.character_laws.proofs.Others.{Then, There, tick_there, pulled_others, pulled_absent, pulled-length}
 use Rattle.world.specs.Step.{Moving, after_tick, tick_turn, tick_all, of_net, record_of, publish, move_in, move_turn, moving_from, move_all}
+use Rattle.std.specs.Prelude.{Option, Result, Ok, Err}
+use Rattle.character.specs.declared.tick.AfterTick.{AfterTick}
+use Rattle.game_refusals.specs.declared.Refusal.{Refusal}
+use Rattle.game_refusals.specs.declared.Refusal.TheVariants.{TooFar}
 
 -- the last of the indices below i + 1, or one before it
 pub last_or_below : (k i : ℕ) → k < suc i → (k ≡ i) ⊎ (k < i)
@@ -45,7 +43,7 @@ by_test P true f g = f refl
 by_test P false f g = g refl
 
 -- what a record of a character reads as
-pub net_representable : (c : Character) (core : CharacterCore) → to_net c ≡ net.Core core → Representable (from_net core)
+pub net_representable : (c : Character) (core : CharacterCore) → to_net c ≡ Ok core → Representable (from_net core)
 unfolding quantize
 net_representable c core e = quantized_representable c (from_net core) (rw e)
 
@@ -76,7 +74,7 @@ same_set ss j x p e = record {
 }
 
 -- so may the velocity of whom a hook pulls
-pull_same : (ss : List Slot) (k : HookPull) → There ss k → Same ss (after_pull ss k)
+pull_same : (ss : List Slot) (k : Option HookPull) → There ss k → Same ss (after_pull ss k)
 pull_same ss k h = record {
   size = pulled-length ss k;
   present = λ j. ap (λ (x : Slot). x.present) (pulled_others ss k j);
@@ -88,9 +86,9 @@ module _ (n : ℕ) (s : Sides) (ts : List ℕ) (t : Tuning) where
   tick_turn_lem : (ss : List Slot) (j : ℕ) (us : List Slot) → Same ss us → Ends (Same ss) (λ r. 0 < r) (tick_turn n s ts t j us)
   tick_turn_lem ss j us h = let x = slot_at us j in by_test (Ends (Same ss) (λ r. 0 < r)) x.present (λ p. ticks p (tick_at n x.character j us s ts x.input t) (tick_there n x.character j us s ts x.input t)) (λ p. h)
     where
-      ticks : (slot_at us j).present ≡ true → (k : TickedAt) → Then (λ a. There us a.pull) k → Ends (Same ss) (λ r. 0 < r) (after_tick us j k)
-      ticks p ticked.TooFar z = omega arith
-      ticks p (ticked.To a) z =
+      ticks : (slot_at us j).present ≡ true → (k : Result AfterTick Refusal) → Then (λ a. There us a.pull) k → Ends (Same ss) (λ r. 0 < r) (after_tick us j k)
+      ticks p (Err e) z = omega arith
+      ticks p (Ok a) z =
           let vs = after_pull us a.pull in
           let same = pull_same us a.pull z in
           same_on ss us _ h (same_on us vs _ same (same_set vs j _ (same.present j ∙ p) refl))
@@ -111,16 +109,16 @@ module _ (n : ℕ) (s : Sides) (ts : List ℕ) (t : Tuning) where
     unfolding record_of
     move_turn_lem i m h = by_test (Ends (Settling (suc i)) (λ r. 0 < r)) (slot_at m.slots i).present (λ p. recorded p (move_in n s ts t m.slots i)) nobody
       where
-        named : (slot_at m.slots i).present ≡ true → (c : Character) (o : Net) → to_net c ≡ o → Ends (Settling (suc i)) (λ r. 0 < r) (publish m i (of_net o))
-        named p c net.TickTooLarge e = omega arith
-        named p c (net.Core core) e = record {
+        named : (slot_at m.slots i).present ≡ true → (c : Character) (o : Result CharacterCore Refusal) → to_net c ≡ o → Ends (Settling (suc i)) (λ r. 0 < r) (publish m i (of_net o))
+        named p c (Err why) e = omega arith
+        named p c (Ok core) e = record {
           same = same_on ss m.slots _ h.same (same_set m.slots i _ p refl);
           moved = set_others (λ k x. k < suc i → x.present ≡ true → Representable x.character) m.slots i _ nowhere (present_within m.slots i p) (λ k d l. h.moved k (omega arith)) (λ l q. net_representable c core e);
         }
 
-        recorded : (slot_at m.slots i).present ≡ true → (d : MovedAt) → Ends (Settling (suc i)) (λ r. 0 < r) (publish m i (record_of d))
-        recorded p moved.TooFar = omega arith
-        recorded p (moved.To c) = named p _ (to_net _) refl
+        recorded : (slot_at m.slots i).present ≡ true → (d : Result Character Refusal) → Ends (Settling (suc i)) (λ r. 0 < r) (publish m i (record_of d))
+        recorded p (Err e) = omega arith
+        recorded p (Ok c) = named p _ (to_net _) refl
 
         nobody : (slot_at m.slots i).present ≡ false → Settling (suc i) m
         nobody p = record { same = h.same; moved = λ k l. ⊎_elim (λ e. λ q. absurd (true≢false (sym q ∙ ap (λ (j : ℕ). (slot_at m.slots j).present) e ∙ p))) (h.moved k) (last_or_below k i l) }

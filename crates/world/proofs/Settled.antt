@@ -28,7 +28,7 @@ use Rattle.world.specs.Removal.{dying}
 use Rattle.world.specs.Step.{Moving, tick_all, move_all, step_answer, step_on, step}
 use Rattle.world.specs.Run.{input_of, ran, after}
 use Rattle.world.specs.Settled.{Settled, AfterSettled}
-use Rattle.world.specs.declared.Stepped.{Stepped}
+use Rattle.world.specs.Answered.{Stepped}
 use Rattle.world.specs.declared.World.{World}
 use Rattle.world.proofs.Outcomes.{outcome_kept, reach_i32, Joins, join_outcome, leave_outcome, input_outcome, tune_outcome}
 use Rattle.world.proofs.Removal.{removed_kept}

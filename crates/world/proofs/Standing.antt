@@ -18,8 +18,6 @@ use Rattle.game_tuning.specs.declared.Tuning.{Tuning}
 use Rattle.map_tiles.specs.Box.{Clear, character_box}
 use Rattle.character.specs.declared.Character.{Character}
 use Rattle.character.specs.declared.Slot.{Slot}
-use Rattle.character.specs.declared.tick.TickedAt.{TickedAt}
-use Rattle.character.specs.declared.tick.TickedAt.TheVariants as ticked
 use Rattle.character.specs.Tick.{slot_at, nowhere, after_pull, tick_at}
 use Rattle.character_laws.specs.Representable.{Pair, Representable}
 use Rattle.character_laws.proofs.Slots.{set_every}
@@ -27,6 +25,9 @@ use Rattle.character_laws.proofs.Others.{Then, SameButVel, tick_pos, pulled_othe
 use Rattle.character_laws.proofs.FitsTick.{FitsAfter, tick_fits, after_pull_fits}
 use Rattle.world.specs.Step.{after_tick, tick_turn, tick_all}
 use Rattle.world.proofs.Seats.{by_test}
+use Rattle.std.specs.Prelude.{Result, Ok, Err}
+use Rattle.character.specs.declared.tick.AfterTick.{AfterTick}
+use Rattle.game_refusals.specs.declared.Refusal.{Refusal}
 
 -- ---- values of the format
 pub i32_fits : (z : ℤ) → T (fits binary32 (i32_to_f32 z))
@@ -72,9 +73,9 @@ module _ (s : Sides) (ts : List ℕ) where
         t : Tuning
         t = tuning_of tunings
 
-        ticks : (slot_at us j).present ≡ true → (k : TickedAt) → Then (λ a. a.me.pos ≡ c.pos) k → Then FitsAfter k → Ends Stands (λ r. Unit {0}) (after_tick us j k)
-        ticks p ticked.TooFar stays fit = tt
-        ticks p (ticked.To a) stays fit =
+        ticks : (slot_at us j).present ≡ true → (k : Result AfterTick Refusal) → Then (λ a. a.me.pos ≡ c.pos) k → Then FitsAfter k → Ends Stands (λ r. Unit {0}) (after_tick us j k)
+        ticks p (Err e) stays fit = tt
+        ticks p (Ok a) stays fit =
             let vs = after_pull us a.pull in
             let fits = after_pull_fits us a.pull (λ m. (h m).vel-fits) fit.1 in
             let others : Stands vs = λ m. same_standing (slot_at us m) (slot_at vs m) (pulled_others us a.pull m) (h m) (fits m) in

@@ -29,12 +29,6 @@ use Rattle.character.specs.Tick.{slot_at, nowhere, after_pull, tick_at, ticked_s
 use Rattle.character.specs.Records.{core_of, to_net, from_net}
 use Rattle.character.specs.declared.Character.{Character}
 use Rattle.character.specs.declared.Slot.{Slot}
-use Rattle.character.specs.declared.records.Net.{Net}
-use Rattle.character.specs.declared.records.Net.TheVariants as net
-use Rattle.character.specs.declared.tick.TickedAt.{TickedAt}
-use Rattle.character.specs.declared.tick.TickedAt.TheVariants as ticked
-use Rattle.character.specs.declared.walk.MovedAt.{MovedAt}
-use Rattle.character.specs.declared.walk.MovedAt.TheVariants as moved
 use Rattle.character_laws.specs.Representable.{Pair, RepresentableHook, Representable}
 use Rattle.character_laws.proofs.Again.{Small, net_again}
 use Rattle.character_laws.proofs.FitsHook.{FitsPlace, tick_place}
@@ -47,12 +41,16 @@ use Rattle.world.specs.Demand3.{record_at}
 use Rattle.world.specs.Removal.{dying, remove_all, listed, is_in}
 use Rattle.world.specs.Settled.{Settled}
 use Rattle.world.specs.Step.{Moving, unpublished, after_tick, tick_turn, tick_all, of_net, record_of, publish, move_in, move_turn, moving_from, move_all, step_answer, step_on, step}
-use Rattle.world.specs.declared.Stepped.{Stepped}
+use Rattle.world.specs.Answered.{Stepped}
 use Rattle.world.specs.declared.World.{World}
 use Rattle.world.proofs.Removal.{dying_within}
 use Rattle.character_laws.proofs.Back.{record_of_lem}
 use Rattle.world.proofs.Seats.{last_or_below, present_within, by_test, Same, same_on, ticks_same, Settling, moves-settle}
 use Rattle.world.proofs.Standing.{i32_fits, pair_fits}
+use Rattle.std.specs.Prelude.{Result, Ok, Err}
+use Rattle.character.specs.declared.tick.AfterTick.{AfterTick}
+use Rattle.game_refusals.specs.declared.Refusal.{Refusal}
+use Rattle.game_refusals.specs.declared.Refusal.TheVariants.{TooFar}
 
 -- ---- what can be recorded: the character's place and its hook's are f32 values, and whom it holds doesn't read as nobody
 record Ready (c : Character) : Type 0 where
@@ -104,7 +102,7 @@ pub record Taken (core : CharacterCore) (y : Slot) : Type 0 where
   pub made : Character
   pub is : core ≡ core_of made
   pub read : y.character ≡ from_net core
-  pub again : to_net (from_net core) ≡ net.Core core
+  pub again : to_net (from_net core) ≡ Ok core
 
 module _ (n : ℕ) (s : Sides) (ts : List ℕ) (t : Tuning) where
   -- ---- ticks
@@ -120,9 +118,9 @@ module _ (n : ℕ) (s : Sides) (ts : List ℕ) (t : Tuning) where
         small : (k : ℕ) → (slot_at us k).present ≡ true → Small k
         small k p = let l = present_within us k p in omega (arith, h.size)
 
-        ticks : (k : TickedAt) → Then (λ a. FitsPair a.me.pos × FitsPlace a.me.hook) k → Then (λ a. Only Small a.me.hook) k → Ends Ticked (λ r. Unit {0}) (after_tick us j k)
-        ticks ticked.TooFar q o = tt
-        ticks (ticked.To a) q o =
+        ticks : (k : Result AfterTick Refusal) → Then (λ a. FitsPair a.me.pos × FitsPlace a.me.hook) k → Then (λ a. Only Small a.me.hook) k → Ends Ticked (λ r. Unit {0}) (after_tick us j k)
+        ticks (Err e) q o = tt
+        ticks (Ok a) q o =
             let vs = after_pull us a.pull in
             let same = pulled_others us a.pull in
             let input : (k : ℕ) → (slot_at vs k).input ≡ (slot_at ss k).input = λ k. ap (λ (x : Slot). x.input) (same k) ∙ h.input k in
@@ -157,9 +155,9 @@ module _ (n : ℕ) (s : Sides) (ts : List ℕ) (t : Tuning) where
         taken = λ k q. ⊎_elim (λ e r. absurd (true≢false (sym r ∙ ap (λ (j : ℕ). (slot_at m.slots j).present) e ∙ p))) (h.taken k) (last_or_below k i q);
       }
 
-      named : me.present ≡ true → (c : Character) (o : Net) → to_net c ≡ o → FitsPair c.pos → c.hook ≡ me.character.hook → Ends (Moved (suc i)) (λ r. Unit {0}) (publish m i (of_net o))
-      named p c net.TickTooLarge e f g = tt
-      named p c (net.Core core) e f g =
+      named : me.present ≡ true → (c : Character) (o : Result CharacterCore Refusal) → to_net c ≡ o → FitsPair c.pos → c.hook ≡ me.character.hook → Ends (Moved (suc i)) (λ r. Unit {0}) (publish m i (of_net o))
+      named p c (Err why) e f g = tt
+      named p c (Ok core) e f g =
           let q = record_of_lem c core e in
           let r = h.waits i (omega arith) in
           let x = with_character me (from_net core) in
@@ -177,10 +175,10 @@ module _ (n : ℕ) (s : Sides) (ts : List ℕ) (t : Tuning) where
           others : (k : ℕ) → k < suc i → (core : CharacterCore) (x : Slot) → i < length m.slots → i < length m.records → Taken core x → (slot_at (set m.slots i x) k).present ≡ true → Taken (record_at (set m.records i (record { present = true; core = core })) k).core (slot_at (set m.slots i x) k)
           others k z core x a b new = set_others (λ j p. j < suc i → (slot_at (set m.slots i x) j).present ≡ true → Taken p.core (slot_at (set m.slots i x) j)) m.records i (record { present = true; core = core }) unpublished b (λ j d y. set_others (λ v u. (v ≡ i → ⊥) → v < suc i → u.present ≡ true → Taken (record_at m.records v).core u) m.slots i x nowhere a (λ v e g w. h.taken v (omega (arith, e))) (λ e. absurd (e refl)) j d y) (λ y r. subst (Taken core) (sym (get_or-set_same m.slots i x nowhere a)) new) k z
 
-      recorded : me.present ≡ true → (d : MovedAt) → Rests (λ d. FitsPair d.pos) d → Rests (λ d. d.hook ≡ me.character.hook) d → Ends (Moved (suc i)) (λ r. Unit {0}) (publish m i (record_of d))
+      recorded : me.present ≡ true → (d : Result Character Refusal) → Rests (λ d. FitsPair d.pos) d → Rests (λ d. d.hook ≡ me.character.hook) d → Ends (Moved (suc i)) (λ r. Unit {0}) (publish m i (record_of d))
       unfolding record_of
-      recorded p moved.TooFar f g = tt
-      recorded p (moved.To c) f g = named p c (to_net c) refl f g
+      recorded p (Err e) f g = tt
+      recorded p (Ok c) f g = named p c (to_net c) refl f g
 
       move_turn_lem : Ends (Moved (suc i)) (λ r. Unit {0}) (move_turn n s ts t i m)
       move_turn_lem = by_test (Ends (Moved (suc i)) (λ r. Unit {0})) me.present (λ p. recorded p (move_in n s ts t m.slots i) (move_place n me.character i m.slots s ts t (h.waits i (omega arith)).place) (move_hook n me.character i m.slots s ts t)) nobody

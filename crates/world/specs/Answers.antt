@@ -12,7 +12,7 @@ use Rattle.world.specs.declared.call.Call.TheVariants.{Join, Leave, Input, Step,
 use Rattle.world.specs.Demand3.{CornersClear, record_at}
 use Rattle.world.specs.Removal.{ids_in}
 use Rattle.world.specs.Run.{ran}
-use Rattle.world.specs.declared.Stepped.{Stepped}
+use Rattle.world.specs.Answered.{Stepped}
 use Rattle.world.specs.declared.World.{World}
 
 -- lowest fitting number first: a call answers 0 just where no refusal fits, and k just where k fits and none below it

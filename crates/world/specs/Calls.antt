@@ -17,7 +17,7 @@ use Rattle.character.specs.Tick.{slot_at}
 use Rattle.character.specs.declared.Slot.{Slot}
 use Rattle.world.specs.World.{with_slot, with_tuning}
 use Rattle.game_tuning.specs.Tuning.{tuning_count, may_tune}
-use Rattle.world.specs.declared.Answer.{Answer}
+use Rattle.world.specs.Answered.{Answer}
 use Rattle.world.specs.declared.World.{World}
 
 -- a refusal's number, and the world as it was

@@ -15,7 +15,7 @@ use Rattle.world.specs.Removal.{ids_in, is_in}
 use Rattle.world.specs.Run.{after}
 use Rattle.world.specs.Step.{step}
 use Rattle.world.specs.declared.Published.{Published}
-use Rattle.world.specs.declared.Stepped.{Stepped}
+use Rattle.world.specs.Answered.{Stepped}
 use Rattle.world.specs.declared.World.{World}
 use Rattle.world.specs.declared.call.Call.{Call}
 use Rattle.world.specs.declared.call.Call.TheVariants.{Leave}

@@ -15,11 +15,8 @@ use Rattle.game_records.specs.declared.CharacterCore.{CharacterCore}
 use Rattle.world.specs.declared.call.Call.{Call}
 use Rattle.world.specs.declared.call.Call.TheVariants.{Join, Leave, Input, Step, Tune}
 use Rattle.character.specs.Tick.{slot_at}
-use Rattle.character.specs.declared.walk.MovedAt.{MovedAt}
-use Rattle.character.specs.declared.walk.MovedAt.TheVariants as moved
 use Rattle.character_laws.specs.Faithful.{Faithful}
 use Rattle.character.specs.Records.{quantize}
-use Rattle.character.specs.declared.records.Quantized.TheVariants as quantized
 use Rattle.world.specs.World.{fresh}
 use Rattle.game_tuning.specs.Tuning.{tuning_count, player_collision}
 use Rattle.world.specs.Calls as calls
@@ -27,8 +24,12 @@ use Rattle.world.specs.Removal.{ids_in, is_in}
 use Rattle.world.specs.Step.{Moving, unpublished, tick_all, move_in, move_turn, moving_from, step}
 use Rattle.world.specs.Run.{ran, after}
 use Rattle.world.specs.declared.Published.{Published}
-use Rattle.world.specs.declared.Stepped.{Stepped}
+use Rattle.world.specs.Answered.{Stepped}
 use Rattle.world.specs.declared.World.{World}
+use Rattle.std.specs.Prelude.{Result, Ok, Err}
+use Rattle.character.specs.declared.Character.{Character}
+use Rattle.game_refusals.specs.declared.Refusal.{Refusal}
+use Rattle.game_refusals.specs.declared.Refusal.TheVariants.{TooFar}
 
 -- ---- player collision zero whenever step is called
 
@@ -68,26 +69,26 @@ pub record CornersClear (s : Sides) (ts : List ℕ) (p : vec2) : Type 0 where
 -- ---- every accepted step
 
 -- what `move_` gives the id j when its turn has come: those below it have moved and are quantized
-abbrev pub left_in : ℕ → Sides → List ℕ → Tuning → ℕ → Turn Moving ℕ → MovedAt
+abbrev pub left_in : ℕ → Sides → List ℕ → Tuning → ℕ → Turn Moving ℕ → Result Character Refusal
 left_in n s ts t j (more m) = move_in n s ts t m.slots j
-left_in n s ts t j (stop k) = moved.TooFar
+left_in n s ts t j (stop k) = Err TooFar
 
 -- what the move left of j in a step on w
-abbrev pub left : ℕ → World → Sides → List ℕ → ℕ → MovedAt
+abbrev pub left : ℕ → World → Sides → List ℕ → ℕ → Result Character Refusal
 left n w s ts j = let t = tuning_of w.tunings in left_in n s ts t j (next (λ ss. run (move_turn n s ts t) j 0 (moving_from n ss)) (tick_all n w.slots s ts t))
 
 -- a record is within 1/2 and 1/512 of the position and velocity that the move left
-abbrev pub FaithfulTo : CharacterCore → MovedAt → Type 0
-FaithfulTo core moved.TooFar = ⊥
-FaithfulTo core (moved.To c) = Faithful core c.pos c.vel
+abbrev pub FaithfulTo : CharacterCore → Result Character Refusal → Type 0
+FaithfulTo core (Err e) = ⊥
+FaithfulTo core (Ok c) = Faithful core c.pos c.vel
 
 abbrev pub record_at : List Published → ℕ → Published
 record_at rs j = get_or rs j unpublished
 
 -- whether what a move left has a corner on a deadly tile
-abbrev pub left_on_deadly : Sides → List ℕ → MovedAt → Bool
-left_on_deadly s ts moved.TooFar = false
-left_on_deadly s ts (moved.To c) = on_deadly s ts c.pos
+abbrev pub left_on_deadly : Sides → List ℕ → Result Character Refusal → Bool
+left_on_deadly s ts (Err e) = false
+left_on_deadly s ts (Ok c) = on_deadly s ts c.pos
 
 -- one record for each id that is there when the step is called, the removed included; removed is who then has a corner on a deadly tile, which is who had it before quantizing
 pub record StepFaithful (n : ℕ) (w : World) (s : Sides) (ts : List ℕ) (there : ℕ → Bool) : Type 0 where
@@ -105,7 +106,7 @@ StepsFaithful n s ts there w (c ∷ cs) = (c ≡ Step → (ran n s ts w c).numbe
 -- after the list, and in every accepted step of it; the physics state that comes back from a record is the slot's character: the input and the floor mark are not of it
 pub record Kept (n : ℕ) (s : Sides) (ts : List ℕ) (cs : List Call) : Type 0 where
   pub clear : (k : ℕ) → k < n → present n s ts k false (fresh n) cs ≡ true → CornersClear s ts (slot_at (after n s ts (fresh n) cs).slots k).character.pos
-  pub back : (k : ℕ) → k < n → present n s ts k false (fresh n) cs ≡ true → quantize (slot_at (after n s ts (fresh n) cs).slots k).character ≡ quantized.To (slot_at (after n s ts (fresh n) cs).slots k).character
+  pub back : (k : ℕ) → k < n → present n s ts k false (fresh n) cs ≡ true → quantize (slot_at (after n s ts (fresh n) cs).slots k).character ≡ Ok (slot_at (after n s ts (fresh n) cs).slots k).character
   pub steps : StepsFaithful n s ts (λ k. false) (fresh n) cs
 
 -- every map and every list of calls from a fresh world of n slots, with player collision, 100 before any tune, zero whenever step is called

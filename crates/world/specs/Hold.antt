@@ -14,7 +14,7 @@ use Rattle.world.specs.Step.{step}
 use Rattle.world.specs.declared.World.{World}
 use Rattle.world.specs.declared.call.Call.{Call}
 use Rattle.world.specs.declared.reading.Query.TheVariants as query
-use Rattle.world.specs.declared.reading.Reading.TheVariants as reading
+use Rattle.world.specs.ReadAnswer as reading
 
 -- for how many steps a hook holds in the world w
 abbrev pub hold_in : World → ℕ

@@ -1,5 +1,7 @@
 pub mod World
+pub mod Answered
 pub mod Calls
+pub mod ReadAnswer
 pub mod Readers
 pub mod Hold
 pub mod Removal

@@ -13,8 +13,8 @@ use Rattle.world.specs.Readers.{read_of}
 use Rattle.world.specs.Run.{ran, after}
 use Rattle.world.specs.Demand3.{present}
 use Rattle.world.specs.declared.reading.Query.TheVariants as query
-use Rattle.world.specs.declared.reading.Reading.TheVariants as reading
-use Rattle.world.specs.declared.Stepped.{Stepped}
+use Rattle.world.specs.ReadAnswer as reading
+use Rattle.world.specs.Answered.{Stepped}
 use Rattle.world.specs.declared.World.{World}
 
 -- where an id stood when the last accepted step since its join began, if there was such a step

@@ -7,7 +7,6 @@ use Rattle.game_tuning.specs.Tuning.{tuning_count, hook_hold}
 use Rattle.character_hook.specs.declared.hook.CharacterId.{CharacterId}
 use Rattle.character_hook.specs.declared.hook.Hook.TheVariants.{Grabbed}
 use Rattle.character.specs.Records.{from_net, quantize}
-use Rattle.character.specs.declared.records.Quantized.TheVariants as quantized
 use Rattle.character.specs.Tick.{slot_at}
 use Rattle.world.specs.World.{fresh}
 use Rattle.world.specs.Answers.{LowestFirst, Outside, SeatFits}
@@ -17,11 +16,12 @@ use Rattle.world.specs.Run.{after}
 use Rattle.world.specs.declared.World.{World}
 use Rattle.world.specs.declared.call.Call.{Call}
 use Rattle.world.specs.declared.reading.Query.TheVariants as query
-use Rattle.world.specs.declared.reading.Reading.{Reading}
-use Rattle.world.specs.declared.reading.Reading.TheVariants as reading
+use Rattle.world.specs.ReadAnswer.{ReadAnswer}
+use Rattle.world.specs.ReadAnswer as reading
+use Rattle.std.specs.Prelude.{Ok}
 
 -- 0 where a query is told what it asks for, else the number that refuses it
-abbrev pub read_number : Reading → ℕ
+abbrev pub read_number : ReadAnswer → ℕ
 read_number (reading.Refused k) = k
 read_number (reading.Record c) = 0
 read_number (reading.FloorMark b) = 0
@@ -57,7 +57,7 @@ pub record TellsRecord (n : ℕ) (w : World) (id : ℤ) : Type 0 where
   pub is : id ≡ pos seat
   pub core : CharacterCore
   pub told : read_of n w (query.Record id) ≡ reading.Record core
-  pub back : quantize (slot_at w.slots seat).character ≡ quantized.To (from_net core)
+  pub back : quantize (slot_at w.slots seat).character ≡ Ok (from_net core)
 
 pub record Readings (n : ℕ) : Type 0 where
   -- in every world: when a query is refused, and with which number

@@ -7,9 +7,8 @@ use Rattle.world.specs.declared.call.Call.TheVariants.{Join, Leave, Input, Step,
 use Rattle.world.specs.Calls.{join, leave, input, tune}
 use Rattle.world.specs.Removal.{listed, ids_in}
 use Rattle.world.specs.Step.{unpublished, step}
-use Rattle.world.specs.declared.Answer.{Answer}
+use Rattle.world.specs.Answered.{Answer, Stepped}
 use Rattle.world.specs.declared.Published.{Published}
-use Rattle.world.specs.declared.Stepped.{Stepped}
 use Rattle.world.specs.declared.World.{World}
 
 -- the input of an input call

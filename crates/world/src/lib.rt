@@ -8,19 +8,12 @@ pub use call::Call;
 use character::{SEATS, Slot};
 use game_records::CharacterCore;
 use game_tuning::TUNINGS;
-pub use reading::{Query, Reading, Seated};
+pub use reading::{Query, Reading};
 
 #[derive(Clone, Copy)]
 pub struct World {
     pub slots: [Slot; SEATS],
     pub tunings: [i32; TUNINGS],
-}
-
-// What join, leave, input and tune answer: 0 and the next world, or a refusal's number and the world as it was.
-#[derive(Clone, Copy)]
-pub struct Answer {
-    pub number: u32,
-    pub world: World,
 }
 
 // The record of a seat, where somebody is there.
@@ -30,13 +23,6 @@ pub struct Published {
     pub core: CharacterCore,
 }
 
-// What becomes of a move: the record of what it left, or the number that refuses it.
-#[derive(Clone, Copy)]
-pub enum Recorded {
-    Refused(u32),
-    Core(CharacterCore),
-}
-
 // Who is removed, by rising id: as many ids as counted, and zeros behind them.
 #[derive(Clone, Copy)]
 pub struct Removed {
@@ -44,10 +30,9 @@ pub struct Removed {
     pub ids: [i32; SEATS],
 }
 
-// What step answers: the records too, and who is removed after they are taken.
+// What a step leaves: the world after it, the records, and who is removed after they are taken.
 #[derive(Clone, Copy)]
-pub struct Stepped {
-    pub number: u32,
+pub struct AfterStep {
     pub world: World,
     pub records: [Published; SEATS],
     pub removed: Removed,

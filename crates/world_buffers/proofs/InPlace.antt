@@ -7,14 +7,13 @@ use native.Mathlib.Omega.{arith}
 use lib.Ieee.{Float}
 use lib.IntN.{ℤ}
 use Rattle.base_turns.specs.Turns.{more, stop}
-use Rattle.game_refusals.specs.Refusals.{too_far}
 use Rattle.map_tiles.specs.declared.tiles.Sides.{Sides}
 use Rattle.character.specs.Tick.{seats, slot_at}
 use Rattle.character.specs.declared.Slot.{Slot}
 use Rattle.world.specs.Removal.{dies, dying}
 use Rattle.world.specs.Step.{step_refused, step_answer, step_on}
 use Rattle.world.specs.declared.Removed.{Removed}
-use Rattle.world.specs.declared.Stepped.{Stepped}
+use Rattle.world.specs.Answered.{Stepped}
 use Rattle.world.specs.declared.World.{World}
 use Rattle.world.proofs.Removal.{dying_are}
 use Rattle.world_numbers.specs.Encoding.{record_count}
@@ -23,12 +22,15 @@ use Rattle.world_inplace.specs.Advance.{advanced, Advanced}
 use Rattle.world_buffers.specs.Stepping.{StepBuffers, left_by_step, RowsOf, DyingOf}
 use Rattle.world_buffers.proofs.Gone.{gone_at, gone_grounded}
 use Rattle.world_buffers.proofs.StepAnswers.{step-refused}
+use Rattle.game_refusals.specs.Refusals.{number_of}
+use Rattle.game_refusals.specs.declared.Refusal.{Refusal}
+use Rattle.world_buffers.proofs.Numbered.{numbered}
 
 module _ (w : World) (s : Sides) (ts : List ℕ) where
   -- one is too far
-  pub refused_in : (l : List ℤ) (b : StepBuffers) → advanced w s ts ≡ stop too_far → left_by_step l b (step_on seats w s ts) ≡ record { number = too_far; world = l; told = b }
+  pub refused_in : (l : List ℤ) (b : StepBuffers) (r : Refusal) → advanced w s ts ≡ stop (number_of r) → left_by_step l b (step_on seats w s ts) ≡ record { number = number_of r; world = l; told = b }
   unfolding step_on
-  refused_in l b e = rw e (step-refused l b (step_refused seats w too_far) (λ z. omega arith))
+  refused_in l b r e = rw e (step-refused l b (step_refused seats w (number_of r)) (numbered r))
 
   module _ (ps : List Bool) (xs ys : List Float) (rows : List ℤ) (marks : List Bool) (h : Advanced (advanced w s ts) ps xs ys rows marks) where
     abbrev ss : List Slot

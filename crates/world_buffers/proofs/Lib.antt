@@ -11,3 +11,4 @@ pub mod Refusals
 pub mod Reached
 pub mod InPlace
 pub mod Dying
+pub mod Numbered

@@ -20,7 +20,7 @@ use Rattle.character.specs.declared.Slot.{Slot}
 use Rattle.world.specs.Calls.{place_of}
 use Rattle.world.specs.Removal.{dies, dying, listed, is_in}
 use Rattle.world.specs.Step.{Moving, tick_all, move_all, step_answer, step_on, step}
-use Rattle.world.specs.declared.Stepped.{Stepped}
+use Rattle.world.specs.Answered.{Stepped}
 use Rattle.world.specs.declared.World.{World}
 use Rattle.world.proofs.Removal.{dying_within}
 use Rattle.world.proofs.Seats.{by_test}

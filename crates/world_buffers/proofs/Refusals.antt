@@ -15,7 +15,7 @@ use Rattle.character.specs.Tick.{seats}
 use Rattle.world.specs.Calls.{place_of, is_in_reach, point_of}
 use Rattle.world.specs.Run.{input_of}
 use Rattle.world.specs.Step.{step}
-use Rattle.world.specs.declared.Stepped.{Stepped}
+use Rattle.world.specs.Answered.{Stepped}
 use Rattle.world.specs.declared.call.Call.TheVariants.{Join, Leave, Input, Step, Tune}
 use Rattle.world.proofs.Seats.{by_test}
 use Rattle.world_numbers.specs.Encoding.{record_count, world_count, records_count, seat_place}

@@ -31,7 +31,6 @@ use Rattle.character.specs.Slot.{empty_slot, with_character}
 use Rattle.character.specs.Tick.{seats}
 use Rattle.character.specs.Records.{net_jumped, core_of, most_tick, from_net}
 use Rattle.character.specs.declared.Character.{Character}
-use Rattle.character.specs.declared.records.Net.{Net}
 use Rattle.character.specs.declared.Slot.{Slot}
 use Rattle.character_laws.specs.Representable.{Representable}
 use Rattle.character_laws.proofs.Back.{to_core}
@@ -49,6 +48,8 @@ use Rattle.world_numbers.proofs.Seats.{seat_is}
 use Rattle.world_numbers.proofs.Written.{row_at, row_long, world_is, Written, put_written, written-decoding, Own}
 use Rattle.world_buffers.specs.Leaving.{is_attached, holds_in, release_at, release_in, vacate_in}
 use Rattle.world_buffers.proofs.SeatTurns.{Turned, turned, turned-own, put_own, seat_written, seat_own}
+use Rattle.std.specs.Prelude.{Result}
+use Rattle.game_refusals.specs.declared.Refusal.{Refusal}
 
 -- ---- whom a hook holds, by its numbers
 -- no seat is the player that reads as nobody
@@ -145,9 +146,9 @@ unfolding present_numbers tick_of
 retracted_numbers_lem x r =
     let c = x.character in
     let rest = input_numbers x.input ++ (flag x.grounded ∷ []) in
-    ap (λ (n : Net). put (record_numbers (record { present = true; core = net_core n }) ++ rest) hook_place retracted_numbers) (to_core c (ticks_fit c r))
+    ap (λ (n : Result CharacterCore Refusal). put (record_numbers (record { present = true; core = net_core n }) ++ rest) hook_place retracted_numbers) (to_core c (ticks_fit c r))
     ∙ hook_in (core_of c) (core_of (with_hook c Retracted)) rest (retracted_record c)
-    ∙ sym (ap (λ (n : Net). record_numbers (record { present = true; core = net_core n }) ++ rest) (to_core (with_hook c Retracted) (no-ticks c)))
+    ∙ sym (ap (λ (n : Result CharacterCore Refusal). record_numbers (record { present = true; core = net_core n }) ++ rest) (to_core (with_hook c Retracted) (no-ticks c)))
   where
     no-ticks : (c : Character) → tick_of (with_hook c Retracted).hook ≤ most_tick
     no-ticks c = zero-le

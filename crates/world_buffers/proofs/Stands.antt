@@ -28,8 +28,7 @@ use Rattle.world.specs.Run.{input_of}
 use Rattle.world.specs.Removal.{ids_in}
 use Rattle.world.specs.Settled.{Settled}
 use Rattle.world.specs.Step.{step}
-use Rattle.world.specs.declared.Answer.{Answer}
-use Rattle.world.specs.declared.Stepped.{Stepped}
+use Rattle.world.specs.Answered.{Answer, Stepped}
 use Rattle.world.specs.declared.World.{World}
 use Rattle.world.specs.declared.call.Call.{Call}
 use Rattle.world.specs.declared.call.Call.TheVariants.{Join, Leave, Input, Step, Tune}

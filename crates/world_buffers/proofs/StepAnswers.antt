@@ -19,7 +19,7 @@ use Rattle.world.specs.Demand3.{record_at}
 use Rattle.world.specs.Removal.{ids_in}
 use Rattle.world.specs.Step.{unpublished, step_refused, step_on, step}
 use Rattle.world.specs.declared.Published.{Published}
-use Rattle.world.specs.declared.Stepped.{Stepped}
+use Rattle.world.specs.Answered.{Stepped}
 use Rattle.world.specs.declared.World.{World}
 use Rattle.world_numbers.specs.Encoding.{record_count, mark_place, world_count, records_count, seat_place, flag, record_numbers, records_encoding}
 use Rattle.world_numbers.specs.Decoding.{decoding}

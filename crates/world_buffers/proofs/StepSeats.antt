@@ -21,15 +21,13 @@ use Rattle.character.specs.Tick.{seats, slot_at, nowhere}
 use Rattle.character.specs.Records.{core_of, to_net, from_net, back, quantize}
 use Rattle.character.specs.declared.Character.{Character}
 use Rattle.character.specs.declared.Slot.{Slot}
-use Rattle.character.specs.declared.records.Net.{Net}
-use Rattle.character.specs.declared.records.Net.TheVariants as net
 use Rattle.character_laws.specs.Representable.{Representable}
 use Rattle.character_laws.proofs.FromNet.{back_representable}
 use Rattle.world.specs.Demand3.{record_at}
 use Rattle.world.specs.Removal.{remove_all, ids_in, is_in}
 use Rattle.world.specs.Settled.{Settled}
 use Rattle.world.specs.Step.{step}
-use Rattle.world.specs.declared.Stepped.{Stepped}
+use Rattle.world.specs.Answered.{Stepped}
 use Rattle.world.specs.declared.World.{World}
 use Rattle.world.proofs.TakenRecords.{Recorded, step_recorded}
 use Rattle.world.proofs.Removal.{listed_ids}
@@ -48,6 +46,8 @@ use Rattle.world_buffers.proofs.Gone.{gone_slot, gone_at, gone_tunings, gone_len
 use Rattle.world_buffers.proofs.Listed.{first_of, either_in}
 use Rattle.world_buffers.proofs.Released.{first_in, present_is, vacate-long, vacate-decoding, vacate-own}
 use Rattle.world_buffers.proofs.SeatTurns.{Turned, turned, turned-own, put_own}
+use Rattle.std.specs.Prelude.{Result, Ok}
+use Rattle.game_refusals.specs.declared.Refusal.{Refusal}
 
 -- ---- one seat
 -- what its slot becomes
@@ -70,14 +70,14 @@ record_in : (a n : CharacterCore) (rest : List ℤ) → put (record_numbers (rec
 unfolding record_numbers core_numbers put
 record_in a n rest = refl
 
-with_core : (x : Slot) (n : CharacterCore) → x.present ≡ true → to_net (from_net (readable n)) ≡ net.Core n → put (seat_numbers x) 1 (core_numbers n) ≡ seat_numbers (with_character x (from_net (readable n)))
+with_core : (x : Slot) (n : CharacterCore) → x.present ≡ true → to_net (from_net (readable n)) ≡ Ok n → put (seat_numbers x) 1 (core_numbers n) ≡ seat_numbers (with_character x (from_net (readable n)))
 unfolding seat_numbers present_numbers
 with_core x n p e =
     let zeros : List ℤ = replicate seat_count (pos 0) in
     let rest : List ℤ = input_numbers x.input ++ (flag x.grounded ∷ []) in
     ap (λ (b : Bool). put (cond b (present_numbers x) zeros) 1 (core_numbers n)) p
     ∙ record_in (net_core (to_net x.character)) n rest
-    ∙ sym (ap (λ (o : Net). record_numbers (record { present = true; core = net_core o }) ++ rest) e)
+    ∙ sym (ap (λ (o : Result CharacterCore Refusal). record_numbers (record { present = true; core = net_core o }) ++ rest) e)
     ∙ sym (ap (λ (b : Bool). cond b (present_numbers (with_character x (from_net (readable n)))) zeros) p)
 
 with_mark : (x : Slot) (g : Bool) → x.present ≡ true → put (seat_numbers x) mark_place (flag g ∷ []) ≡ seat_numbers (with_grounded x g)
@@ -121,7 +121,7 @@ module _ (n : CharacterCore) (g : Bool) (j : ℕ) (l : List ℤ) (h : j < seats)
         subst (Written seats j (step_slot n g old) l) (sym marked)
         (subst (λ (x : Slot). Written seats j x l (put recorded (seat_place j + mark_place) (flag g ∷ []))) (mark-is ∙ sym (ap (λ (b : Bool). cond b (with_grounded (with_character old (from_net (readable n))) g) old) old-there)) (written_then seats j _ _ l recorded _ core_written (put_written seats recorded recorded-long j mark_place (flag g ∷ []) h (omega arith))))
 
-    both_own : Own seats l → Representable (from_net (readable n)) → to_net (from_net (readable n)) ≡ net.Core n → Own seats (set recorded (seat_place j + mark_place) (flag g))
+    both_own : Own seats l → Representable (from_net (readable n)) → to_net (from_net (readable n)) ≡ Ok n → Own seats (set recorded (seat_place j + mark_place) (flag g))
     both_own o r q =
         let kept : Kept (with_character old (from_net (readable n))) = record { somebody = λ z. r; nobody = λ z. absurd (true≢false (sym old-there ∙ z)) } in
         let first : Own seats recorded = put_own seats l long o j 1 (core_numbers n) _ h (omega (arith, core_long n)) core_is (with_core old n old-there q) kept in
@@ -215,7 +215,7 @@ module _ (l : List ℤ) (long : length l ≡ world_count) (s : Sides) (ts : List
   unfolding step_seats seat_written quantize
   step_own o = subst (λ (ids : List ℕ). Own seats (remove_in (step_seats a l) ids)) (sym ids_are) ((all_gone r.ids (step_seats a l) seats_long r.within).2 (turned-own seats (step_seat a) (λ j x. step_slot (core j) (mark j) x) (λ j m. seat_turn (core j) (mark j) j m) l turn_own long o))
     where
-      good : (j : ℕ) → j < seats → (slot_at w.slots j).present ≡ true → (to_net (from_net (readable (core j))) ≡ net.Core (core j)) × Representable (from_net (readable (core j)))
+      good : (j : ℕ) → j < seats → (slot_at w.slots j).present ≡ true → (to_net (from_net (readable (core j))) ≡ Ok (core j)) × Representable (from_net (readable (core j)))
       good j h p =
           let t = r.taken j h (r.same.present j ∙ p) in
           let e : readable (core j) ≡ core j = readable_is (core j) t.made t.is in

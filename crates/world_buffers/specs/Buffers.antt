@@ -1,9 +1,11 @@
 -- Calls on a world that is kept as the numbers of a buffer: what each answers, and the numbers that it leaves. A call writes what it changes and nothing
 -- else; a refused one leaves every number as it was. Definitions only.
-use Rattle.std.specs.Prelude.{ℕ, ◌+◌, Bool, cond, ◌&&◌, List, eqb, ltb, ℤ, length, set}
+use Rattle.std.specs.Prelude.{ℕ, ◌+◌, Bool, cond, ◌&&◌, List, eqb, ltb, ℤ, length, set, Result, Ok, Err}
 use Rattle.base_rows.specs.Put.{put}
 use Rattle.num_vec2.specs.declared.vec2.{vec2}
 use Rattle.game_refusals.specs.Refusals.{bad_map, bad_id, bad_tuning, out_of_reach, not_clear, already_present, not_present, bad_hold, bad_length}
+use Rattle.game_refusals.specs.declared.Refusal.{Refusal}
+use Rattle.game_refusals.specs.declared.Refusal.TheVariants.{BadId, Absent, BadLength}
 use Rattle.map_tiles.specs.Map.{is_map}
 use Rattle.map_tiles.specs.declared.tiles.Sides.{Sides}
 use Rattle.map_tiles.specs.Box.{check_box, character_box}
@@ -50,6 +52,10 @@ tune_in l index z =
 -- somebody is at the seat k
 abbrev pub is_there : List ℤ → ℕ → Bool
 is_there l k = is_set (number_at l (seat_place k))
+
+-- the seat of somebody who is there: 17 where the numbers are not as many as a world's, then 2 and 8
+abbrev pub present_in : List ℤ → ℤ → Result ℕ Refusal
+present_in l id = let k = place_of seats id in cond (has world_count l) (cond (ltb k seats) (cond (is_there l k) (Ok k) (Err Absent)) (Err BadId)) (Err BadLength)
 
 -- what leave and input do at a seat: 2 where there is none, 8 where nobody is there
 abbrev pub at_seat : List ℤ → ℤ → (ℕ → List ℤ) → LeftWorld

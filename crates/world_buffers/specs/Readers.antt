@@ -1,13 +1,15 @@
 -- What is read of a world that is kept as the numbers of a buffer: the answers, and what is left in the reader's buffer. Definitions only.
-use Rattle.std.specs.Prelude.{ℕ, cond, ◌&&◌, List, [], ◌∷◌, ℤ}
-use Rattle.game_refusals.specs.Refusals.{bad_length}
+use Rattle.std.specs.Prelude.{ℕ, cond, ◌&&◌, List, [], ◌∷◌, ℤ, Result, Ok, Err}
+use Rattle.game_refusals.specs.Refusals.{bad_length, number_of}
+use Rattle.game_refusals.specs.declared.Refusal.{Refusal}
 use Rattle.game_records.specs.Numbers.{core_count, input_count, core_numbers, input_numbers}
 use Rattle.character.specs.Tick.{seats}
+use Rattle.character.specs.declared.Slot.{Slot}
 use Rattle.world.specs.Readers.{read_of}
 use Rattle.world.specs.declared.reading.Query.{Query}
 use Rattle.world.specs.declared.reading.Query.TheVariants as query
-use Rattle.world.specs.declared.reading.Reading.{Reading}
-use Rattle.world.specs.declared.reading.Reading.TheVariants as reading
+use Rattle.world.specs.ReadAnswer.{ReadAnswer}
+use Rattle.world.specs.ReadAnswer as reading
 use Rattle.world_numbers.specs.Encoding.{world_count, flag}
 use Rattle.world_numbers.specs.Decoding.{decoding}
 use Rattle.world_buffers.specs.Buffers.{has}
@@ -33,7 +35,7 @@ abbrev pub told_as : List ℤ → ReadTold
 told_as new = record { number = 0; numbers = new }
 
 -- a reading as numbers
-abbrev pub reading_told : List ℤ → Reading → ReadTold
+abbrev pub reading_told : List ℤ → ReadAnswer → ReadTold
 reading_told out (reading.Refused k) = untold out k
 reading_told out (reading.Record c) = told_as (core_numbers c)
 reading_told out (reading.FloorMark g) = told_as (flag g ∷ [])

@@ -11,7 +11,7 @@ use Rattle.world.specs.Demand3.{record_at}
 use Rattle.world.specs.Removal.{dies, dying, listed, ids_in}
 use Rattle.world.specs.Step.{step}
 use Rattle.world.specs.declared.Removed.{Removed}
-use Rattle.world.specs.declared.Stepped.{Stepped}
+use Rattle.world.specs.Answered.{Stepped}
 use Rattle.world_numbers.specs.Encoding.{mark_place, world_count, records_count, seat_place, flag, records_encoding}
 use Rattle.world_numbers.specs.Decoding.{decoding}
 use Rattle.world_buffers.specs.Buffers.{has, is_there}

@@ -1,6 +1,8 @@
 // Step on a world that is kept as the numbers of a lent buffer, over plain arrays: no slot is made but for the tick of whoever is there. A refused one leaves
 // every number of every buffer as it was.
-ghost use Rattle.std.specs.Prelude.{◌≡◌, T, length};
+ghost use Rattle.std.specs.Prelude.{◌≡◌, ℕ, T, length};
+ghost use Rattle.std.specs.Result.{result_unwrap_or};
+ghost use Rattle.game_refusals.specs.Refusals.{number_of_answer};
 ghost use Rattle.map_tiles.specs.Map.{is_map};
 ghost use Rattle.character.specs.Places.{Among};
 ghost use Rattle.character.specs.Tick.{seats};
@@ -11,7 +13,7 @@ ghost use Rattle.world_buffers.specs.Stepping.{DyingOf, left_by_step, step_in};
 
 use crate::telling::tell_step;
 use character::SEATS;
-use game_refusals::{BAD_LENGTH, BAD_MAP, TOO_FAR};
+use game_refusals::Refusal;
 use map_tiles::{Sides, is_map, on_deadly};
 use num_vec2::vec2;
 use world::Removed;
@@ -52,17 +54,16 @@ fn step_on_in(
     tiles: &[u8],
     records: &mut [i32],
     removed: &mut [i32],
-    count: &mut usize,
-) -> u32
+) -> Result<usize, Refusal>
     requires { T (is_map sides tiles.now) × (length world.old ≡ world_count) × (length records.old ≡ records_count) × (length removed.old ≡ seats) }
-    ensures { left_by_step world.old (record { records = records.entry.now; removed = removed.old; count = count.old }) (step_on seats (decoding seats world.old) sides tiles.now) ≡ record { number = result; world = world.new; told = record { records = records.exit.now; removed = removed.new; count = count.new } } }
+    ensures { (n : ℕ) → left_by_step world.old (record { records = records.entry.now; removed = removed.old; count = n }) (step_on seats (decoding seats world.old) sides tiles.now) ≡ record { number = number_of_answer result; world = world.new; told = record { records = records.exit.now; removed = removed.new; count = result_unwrap_or result n } } }
 {
     let mut present = [false; SEATS];
     let mut xs = [0.0f32; SEATS];
     let mut ys = [0.0f32; SEATS];
     let mut rows = [0i32; RECORDS];
     let mut marks = [false; SEATS];
-    if advance(
+    advance(
         world,
         sides,
         tiles,
@@ -71,12 +72,10 @@ fn step_on_in(
         &mut ys,
         &mut rows,
         &mut marks,
-    ) {
-        let gone = list_dying(&present, &xs, &ys, &mut marks, sides, tiles);
-        tell_step(&rows, &marks, gone, world, records, removed, count);
-        return 0;
-    }
-    TOO_FAR
+    )?;
+    let gone = list_dying(&present, &xs, &ys, &mut marks, sides, tiles);
+    tell_step(&rows, &marks, gone, world, records, removed);
+    Ok(gone.count)
 }
 
 pub fn step_in(
@@ -85,21 +84,14 @@ pub fn step_in(
     tiles: &[u8],
     records: &mut [i32],
     removed: &mut [i32],
-    count: &mut usize,
-) -> u32
-    ensures { step_in sides tiles.now world.old (record { records = records.entry.now; removed = removed.old; count = count.old }) ≡ record { number = result; world = world.new; told = record { records = records.exit.now; removed = removed.new; count = count.new } } }
+) -> Result<usize, Refusal>
+    ensures { (n : ℕ) → step_in sides tiles.now world.old (record { records = records.entry.now; removed = removed.old; count = n }) ≡ record { number = number_of_answer result; world = world.new; told = record { records = records.exit.now; removed = removed.new; count = result_unwrap_or result n } } }
 {
-    if world.len() != WORLD {
-        return BAD_LENGTH;
+    if world.len() != WORLD || records.len() != RECORDS || removed.len() != SEATS {
+        return Err(Refusal::BadLength);
     }
-    if records.len() != RECORDS {
-        return BAD_LENGTH;
+    if !is_map(sides, tiles) {
+        return Err(Refusal::BadMap);
     }
-    if removed.len() != SEATS {
-        return BAD_LENGTH;
-    }
-    if is_map(sides, tiles) {
-        return step_on_in(world, sides, tiles, records, removed, count);
-    }
-    BAD_MAP
+    step_on_in(world, sides, tiles, records, removed)
 }

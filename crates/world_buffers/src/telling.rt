@@ -1,5 +1,5 @@
 // What an accepted step leaves in the buffers: the records and floor marks at the seats, without who is removed, and what is told.
-ghost use Rattle.std.specs.Prelude.{◌≡◌, ◌<◌, length};
+ghost use Rattle.std.specs.Prelude.{◌≡◌, ℕ, ◌<◌, length};
 ghost use Rattle.game_records.specs.Numbers.{core_count};
 ghost use Rattle.character.specs.Tick.{seats};
 ghost use Rattle.world_numbers.specs.Encoding.{world_count, records_count};
@@ -9,7 +9,7 @@ ghost use Rattle.world_buffers.specs.Stepping.{seat_written, step_seats, left_by
 use crate::leaving::remove_in;
 use base_rows::copy;
 use character::{SEATS, Slot};
-use world::{Removed, Stepped};
+use world::{AfterStep, Removed};
 use world_numbers::{MARK, RECORD, RECORDS, encode_records, flag, is_set, seat_place};
 
 // Where somebody is at a seat, it takes the numbers of a record and a floor mark.
@@ -43,17 +43,15 @@ pub fn tell_step(
     world: &mut [i32],
     records: &mut [i32],
     removed: &mut [i32],
-    count: &mut usize,
 )
     requires { (length rows.now ≡ records_count) × (length world.old ≡ world_count) × (length records.old ≡ records_count) × (length removed.old ≡ seats) × ListsSeats gone }
-    ensures { OfStep rows.now marks.now (StepWritten gone world.old (record { records = records.entry.now; removed = removed.old; count = count.old }) world.new (record { records = records.exit.now; removed = removed.new; count = count.new })) }
+    ensures { OfStep rows.now marks.now (λ a. (n : ℕ) → StepWritten gone world.old (record { records = records.entry.now; removed = removed.old; count = n }) world.new (record { records = records.exit.now; removed = removed.new; count = gone.count }) a) }
 {
     let ids = gone.ids;
     write_seats(world, rows, marks);
     remove_in(world, gone);
     copy(records, 0, rows);
     copy(removed, 0, &ids);
-    *count = gone.count;
 }
 
 fn marks_of(slots: [Slot; SEATS]) -> [bool; SEATS]
@@ -67,27 +65,17 @@ fn marks_of(slots: [Slot; SEATS]) -> [bool; SEATS]
     marks
 }
 
-// The same for a step by value; a refused one leaves everything as it was.
-pub fn write_step(
-    stepped: Stepped,
-    world: &mut [i32],
-    records: &mut [i32],
-    removed: &mut [i32],
-    count: &mut usize,
-) -> u32
-    requires { (length world.old ≡ world_count) × (length records.old ≡ records_count) × (length removed.old ≡ seats) × ListsSeats stepped.removed }
-    ensures { left_by_step world.old (record { records = records.entry.now; removed = removed.old; count = count.old }) stepped ≡ record { number = result; world = world.new; told = record { records = records.exit.now; removed = removed.new; count = count.new } } }
+// The same for what a step by value leaves.
+pub fn write_step(after: AfterStep, world: &mut [i32], records: &mut [i32], removed: &mut [i32])
+    requires { (length world.old ≡ world_count) × (length records.old ≡ records_count) × (length removed.old ≡ seats) × ListsSeats after.removed }
+    ensures { (n : ℕ) → left_by_step world.old (record { records = records.entry.now; removed = removed.old; count = n }) (record { number = 0; world = after.world; records = after.records; removed = after.removed }) ≡ record { number = 0; world = world.new; told = record { records = records.exit.now; removed = removed.new; count = after.removed.count } } }
 {
-    if stepped.number == 0 {
-        let published = stepped.records;
-        let next = stepped.world;
-        let gone = stepped.removed;
-        let slots = next.slots;
-        let mut rows = [0i32; RECORDS];
-        encode_records(published, &mut rows);
-        let marks = marks_of(slots);
-        tell_step(&rows, &marks, gone, world, records, removed, count);
-        return 0;
-    }
-    stepped.number
+    let published = after.records;
+    let gone = after.removed;
+    let next = after.world;
+    let slots = next.slots;
+    let mut rows = [0i32; RECORDS];
+    encode_records(published, &mut rows);
+    let marks = marks_of(slots);
+    tell_step(&rows, &marks, gone, world, records, removed);
 }

@@ -1,87 +1,49 @@
 // What is read of a world.
 ghost use Rattle.std.specs.Prelude.{◌≡◌};
 ghost use Rattle.character.specs.Tick.{seats};
-ghost use Rattle.world.specs.Readers.{seated, of_seated, record_now, mark_now, input_now, tuning_now, read_of};
+ghost use Rattle.world.specs.ReadAnswer.{read_answer};
+ghost use Rattle.world.specs.Readers.{seated, tuning_now, read_of};
 
-use character::{Net, SEATS, Slot};
-use game_refusals::{ABSENT, BAD_ID, BAD_TUNING, TICK_TOO_LARGE};
+use character::{SEATS, Slot};
+use game_refusals::Refusal;
 use game_tuning::{TUNINGS, told_tuning};
-use world::{Query, Reading, Seated, World};
+use world::{Query, Reading, World};
 use world_joins::place_of;
 
-pub fn read(world: World, query: Query) -> Reading
-    ensures { result ≡ read_of seats world query }
+pub fn read(world: World, query: Query) -> Result<Reading, Refusal>
+    ensures { read_answer result ≡ read_of seats world query }
 {
     match query {
-        Query::Record(id) => record_of(seated(world, id)),
-        Query::FloorMark(id) => mark_of(seated(world, id)),
-        Query::PlayerInput(id) => input_of(seated(world, id)),
+        Query::Record(id) => {
+            let core = seated(world, id)?.character.to_net()?;
+            Ok(Reading::Record(core))
+        }
+        Query::FloorMark(id) => Ok(Reading::FloorMark(seated(world, id)?.grounded)),
+        Query::PlayerInput(id) => Ok(Reading::PlayerInput(seated(world, id)?.input)),
         Query::Tuning(index) => tuning_now(world, index),
     }
 }
 
-fn seated(world: World, id: i32) -> Seated
+fn seated(world: World, id: i32) -> Result<Slot, Refusal>
     ensures { result ≡ seated seats world id }
 {
     let at = place_of(SEATS, id);
     if at < SEATS {
         let slot = world.slots[at];
         if slot.present {
-            return Seated::There(slot);
+            return Ok(slot);
         }
-        return Seated::Refused(ABSENT);
+        return Err(Refusal::Absent);
     }
-    Seated::Refused(BAD_ID)
+    Err(Refusal::BadId)
 }
 
-fn record_of(seated: Seated) -> Reading
-    ensures { result ≡ of_seated record_now seated }
-{
-    match seated {
-        Seated::Refused(number) => Reading::Refused(number),
-        Seated::There(slot) => record_now(slot),
-    }
-}
-
-// The record of a slot as it now stands.
-fn record_now(slot: Slot) -> Reading
-    ensures { result ≡ record_now slot }
-{
-    let character = slot.character;
-    match character.to_net() {
-        Net::TickTooLarge => Reading::Refused(TICK_TOO_LARGE),
-        Net::Core(core) => Reading::Record(core),
-    }
-}
-
-fn mark_of(seated: Seated) -> Reading
-    ensures { result ≡ of_seated mark_now seated }
-{
-    match seated {
-        Seated::Refused(number) => Reading::Refused(number),
-        Seated::There(slot) => Reading::FloorMark(slot.grounded),
-    }
-}
-
-fn input_of(seated: Seated) -> Reading
-    ensures { result ≡ of_seated input_now seated }
-{
-    match seated {
-        Seated::Refused(number) => Reading::Refused(number),
-        Seated::There(slot) => {
-            let input = slot.input;
-            Reading::PlayerInput(input)
-        }
-    }
-}
-
-fn tuning_now(world: World, index: i32) -> Reading
-    ensures { result ≡ tuning_now world index }
+fn tuning_now(world: World, index: i32) -> Result<Reading, Refusal>
+    ensures { read_answer result ≡ tuning_now world index }
 {
     let at = place_of(TUNINGS, index);
     if at < TUNINGS {
-        let tunings = world.tunings;
-        return Reading::Tuning(told_tuning(at, tunings[at]));
+        return Ok(Reading::Tuning(told_tuning(at, world.tunings[at])));
     }
-    Reading::Refused(BAD_TUNING)
+    Err(Refusal::BadTuning)
 }

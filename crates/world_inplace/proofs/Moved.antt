@@ -14,11 +14,10 @@ use Rattle.base_rows.proofs.Puts.{length-put}
 use Rattle.base_turns.specs.Turns.{Turn, more, stop}
 use Rattle.base_turns.proofs.Loop.{Left, turn_on, turn_off, turn_end}
 use Rattle.game_records.specs.declared.CharacterCore.{CharacterCore}
-use Rattle.game_refusals.specs.Refusals.{too_far}
+use Rattle.game_refusals.specs.Refusals.{number_of}
+use Rattle.character.proofs.Refused.{move_refused}
 use Rattle.game_tuning.specs.declared.Tuning.{Tuning}
 use Rattle.map_tiles.specs.declared.tiles.Sides.{Sides}
-use Rattle.map_walks.specs.declared.moves.BoxWalk.{BoxWalk}
-use Rattle.map_walks.specs.declared.moves.BoxWalk.TheVariants as box
 use Rattle.num_convert.specs.Convert.{i32_to_f32}
 use Rattle.num_convert.specs.Whole.{round_to_i32}
 use Rattle.num_vec2.specs.declared.vec2.{vec2}
@@ -31,34 +30,33 @@ use Rattle.character.specs.Tick.{seats, nowhere, slot_at}
 use Rattle.character.specs.Walk.{moved_to, player_walk, rested, after_box, move_at}
 use Rattle.character.specs.declared.Character.{Character}
 use Rattle.character.specs.declared.Slot.{Slot}
-use Rattle.character.specs.declared.walk.MovedAt.{MovedAt}
-use Rattle.character.specs.declared.walk.MovedAt.TheVariants as moved
-use Rattle.character.specs.declared.walk.PlayerWalk.{PlayerWalk}
-use Rattle.character.specs.declared.walk.PlayerWalk.TheVariants as among
 use Rattle.character_laws.proofs.Back.{to_core}
 use Rattle.world.specs.Demand3.{record_at}
 use Rattle.world.specs.Step.{unpublished, put_back, Moving, record_of, move_in, move_turn, moving_from}
-use Rattle.world.specs.declared.Recorded.TheVariants.{Core}
 use Rattle.world_numbers.specs.Encoding.{record_count, record_numbers}
 use Rattle.world_inplace.specs.Bodies.{Bodies, row_of, body_place, body_numbers, RowFor}
 use Rattle.world_inplace.specs.Moves.{Ready, MovesOf, MovesWent, MovesDone, MoveOf}
 use Rattle.world_inplace.proofs.Rows.{no_row, row_part, row_else}
+use Rattle.std.specs.Prelude.{Result, Ok, Err}
+use Rattle.map_walks.specs.declared.moves.Body.{Body}
+use Rattle.game_refusals.specs.declared.Refusal.{Refusal}
+use Rattle.game_refusals.specs.declared.Refusal.TheVariants.{TooFar}
 
 -- ---- a move asks nothing of a character but its place and velocity
 
 -- c where another has moved to
-abbrev carried : Character → MovedAt → MovedAt
-carried c moved.TooFar = moved.TooFar
-carried c (moved.To d) = moved.To (moved_to c d.pos d.vel)
+abbrev carried : Character → Result Character Refusal → Result Character Refusal
+carried c (Err e) = Err e
+carried c (Ok d) = Ok (moved_to c d.pos d.vel)
 
 module _ (n : ℕ) (c d : Character) (id : ℕ) (ss : List Slot) (s : Sides) (ts : List ℕ) (t : Tuning) (p : c.pos ≡ d.pos) (v : c.vel ≡ d.vel) where
-  rested_carried : (u : vec2) (w : PlayerWalk) → rested c u w ≡ carried c (rested d u w)
-  rested_carried u among.TooFar = refl
-  rested_carried u (among.At q) = refl
+  rested_carried : (u : vec2) (w : Result vec2 Refusal) → rested c u w ≡ carried c (rested d u w)
+  rested_carried u (Err e) = refl
+  rested_carried u (Ok q) = refl
 
-  box_carried : (w : BoxWalk) → after_box n c id ss t w ≡ carried c (after_box n d id ss t w)
-  box_carried box.TooFar = refl
-  box_carried (box.To b) = rested_carried b.vel (player_walk n ss id c.pos b.pos t.player_collision) ∙ ap (λ (q : vec2). carried c (rested d b.vel (player_walk n ss id q b.pos t.player_collision))) p
+  box_carried : (w : Result Body Refusal) → after_box n c id ss t w ≡ carried c (after_box n d id ss t w)
+  box_carried (Err e) = refl
+  box_carried (Ok b) = rested_carried b.vel (player_walk n ss id c.pos b.pos t.player_collision) ∙ ap (λ (q : vec2). carried c (rested d b.vel (player_walk n ss id q b.pos t.player_collision))) p
 
   move_carried : move_at n c id ss s ts t ≡ carried c (move_at n d id ss s ts t)
   unfolding move_at
@@ -86,23 +84,25 @@ module _ (s : Sides) (ts : List ℕ) (t : Tuning) (j : ℕ) (l : j < seats) (m :
   abbrev old : Character
   old = (slot_at ss j).character
 
-  module _ (k : MovedAt) (c : Character) (e : k ≡ move_at seats c j ss s ts t) (p : c.pos ≡ place_at b.xs b.ys j) (v : c.vel ≡ place_at b.vxs b.vys j) where
+  module _ (k : Result Character Refusal) (c : Character) (e : k ≡ move_at seats c j ss s ts t) (p : c.pos ≡ place_at b.xs b.ys j) (v : c.vel ≡ place_at b.vxs b.vys j) where
     -- what the own character's move answers
     answer : move_in seats s ts t ss j ≡ carried old k
     answer = rw e (move_carried seats old c j ss s ts t (sym (p ∙ (h.places j l).stands here)) (sym (v ∙ (h.waits j (omega arith) l here).1)))
 
-    pub refuses : k ≡ moved.TooFar → move_turn seats s ts t j m ≡ stop too_far
+    pub refuses : (r : Refusal) → k ≡ Err r → move_turn seats s ts t j m ≡ stop (number_of r)
     unfolding record_of
-    refuses z = let f : move_in seats s ts t ss j ≡ moved.TooFar = answer ∙ ap (carried old) z in simp (here, f)
+    refuses r z =
+        let f : move_in seats s ts t ss j ≡ Err r = answer ∙ ap (carried old) z in
+        rw (move_refused seats old j ss s ts t r f) (simp (here, f))
 
-    module _ (d : Character) (z : k ≡ moved.To d) where
+    module _ (d : Character) (z : k ≡ Ok d) where
       abbrev core : CharacterCore
       core = core_of (moved_to old d.pos d.vel)
 
-      recorded : record_of (move_in seats s ts t ss j) ≡ Core core
+      recorded : record_of (move_in seats s ts t ss j) ≡ Ok core
       unfolding record_of
       recorded =
-          let f : move_in seats s ts t ss j ≡ moved.To (moved_to old d.pos d.vel) = answer ∙ ap (carried old) z in
+          let f : move_in seats s ts t ss j ≡ Ok (moved_to old d.pos d.vel) = answer ∙ ap (carried old) z in
           rw (f, to_core (moved_to old d.pos d.vel) (h.waits j (omega arith) l here).0.fits) refl
 
       abbrev left : Moving
@@ -203,9 +203,9 @@ module _ (s : Sides) (ts : List ℕ) (t : Tuning) (i : ℕ) (e : Turn Moving ℕ
   present_there : i < seats → (q : Bool) → get_or b.present i false ≡ q → (slot_at h.moving.slots i).present ≡ q
   present_there m q z = sym (h.stand.places i m).there ∙ z
 
-  pub move_on : i < seats → get_or b.present i false ≡ true → (r : Bool) → r ≡ true → (c : Bodies) (us : List ℤ) → MoveOf r i s ts t b rows c us → Going s ts t (i + 1) e c us marks
-  move_on m z r q c us f =
-      let w : MovesWent (i + 1) (move_turn seats s ts t i h.moving) c us marks = subst (λ (r : Bool). MovesDone r (i + 1) (move_turn seats s ts t i h.moving) c us marks) q (f h.moving marks (present_there m true z) h.stand) in
+  pub move_on : i < seats → get_or b.present i false ≡ true → (r : Result (Unit {0}) Refusal) (u : Unit {0}) → r ≡ Ok u → (c : Bodies) (us : List ℤ) → MoveOf r i s ts t b rows c us → Going s ts t (i + 1) e c us marks
+  move_on m z r u q c us f =
+      let w : MovesWent (i + 1) (move_turn seats s ts t i h.moving) c us marks = subst (λ (r : Result (Unit {0}) Refusal). MovesDone r (i + 1) (move_turn seats s ts t i h.moving) c us marks) q (f h.moving marks (present_there m true z) h.stand) in
       record { moving = w.moving; goes = turn_on h.goes m w.went; stand = w.stand }
 
   pub move_past : i < seats → get_or b.present i false ≡ false → Going s ts t (i + 1) e b rows marks
@@ -217,8 +217,8 @@ module _ (s : Sides) (ts : List ℕ) (t : Tuning) (i : ℕ) (e : Turn Moving ℕ
       below : (j : ℕ) → j < i + 1 → (j ≡ i → ⊥) → j < i
       below j q d = omega arith
 
-  pub move_off : i < seats → get_or b.present i false ≡ true → (r : Bool) → r ≡ false → (c : Bodies) (us : List ℤ) → MoveOf r i s ts t b rows c us → e ≡ stop too_far
-  move_off m z r q c us f = turn_off h.goes m (subst (λ (r : Bool). MovesDone r (i + 1) (move_turn seats s ts t i h.moving) c us marks) q (f h.moving marks (present_there m true z) h.stand))
+  pub move_off : i < seats → get_or b.present i false ≡ true → (r : Result (Unit {0}) Refusal) (w : Refusal) → r ≡ Err w → (c : Bodies) (us : List ℤ) → MoveOf r i s ts t b rows c us → e ≡ stop (number_of w)
+  move_off m z r w q c us f = turn_off h.goes m (subst (λ (r : Result (Unit {0}) Refusal). MovesDone r (i + 1) (move_turn seats s ts t i h.moving) c us marks) q (f h.moving marks (present_there m true z) h.stand))
 
   pub move_end : seats ≤ i → MovesWent seats e b rows marks
   move_end m =

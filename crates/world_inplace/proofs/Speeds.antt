@@ -14,7 +14,6 @@ use Rattle.game_tuning.specs.declared.Tuning.{Tuning}
 use Rattle.character_hook.specs.Hook.{id_of}
 use Rattle.character_meeting.specs.Meeting.{drags, pull_on, pulled}
 use Rattle.character_meeting.specs.declared.meeting.HookPull.{HookPull}
-use Rattle.character_meeting.specs.declared.meeting.HookPull.TheVariants.{Nobody, Of}
 use Rattle.character.specs.Among.{held_seat, pull_at}
 use Rattle.character.specs.Places.{place_at}
 use Rattle.character.specs.Tick.{seats, nowhere, slot_at, after_pull, pulled_slot}
@@ -23,6 +22,8 @@ use Rattle.character.specs.declared.Slot.{Slot}
 use Rattle.character_laws.proofs.Choices.{either}
 use Rattle.world_ticks.proofs.Pulled.{pulled_there}
 use Rattle.world_inplace.specs.Bodies.{Bodies, Embodied, BodiesOf, pulled_vel, left_at, speeds_after}
+use Rattle.std.specs.Prelude.{Option, None}
+use Rattle.std.specs.Prelude.{Some}
 
 -- the velocity v at the seat j
 abbrev pub with_speed_at : Bodies → ℕ → vec2 → Bodies
@@ -49,17 +50,17 @@ module _ (n : ℕ) (ss : List Slot) (b : Bodies) (j : ℕ) (full : j < length ss
 
 -- what a pull leaves of the slot s at the held seat, who has the velocity v
 module _ (s : Slot) (v : vec2) (moves : s.present ≡ true → v ≡ s.character.vel) where
-  abbrev Left : ℕ → HookPull → Type 0
+  abbrev Left : ℕ → Option HookPull → Type 0
   Left held k = Speeded s (pulled_slot s k held) (pulled_vel k v)
 
   pulled_slot_lem : (p : vec2) (own held : ℕ) (present : Bool) (q u : vec2) (t : Tuning) → Left held (pull_at p own held present q u t)
   unfolding pull_at pull_on pulled_slot pulled_vel
   pulled_slot_lem p own held present q u t = either (Left held) (eqb held own) nobody (either (Left held) present (either (Left held) (drags (vdistance p q) t) one nobody) nobody)
     where
-      nobody : Left held Nobody
+      nobody : Left held None
       nobody = record { there = refl; stands = refl; moves = moves }
 
-      one : Left held (Of (id_of held) (pulled p q u (vdistance p q) t))
+      one : Left held (Some (record { cid = id_of held; vel = pulled p q u (vdistance p q) t }))
       one = rw (eq-eqb held held refl) (record { there = refl; stands = refl; moves = λ e. refl })
 
 -- a pull that is told from the bodies is the one that is told from the slot
@@ -67,7 +68,7 @@ pub pull-told : (s : Slot) (here : Bool) (q u p : vec2) (own held : ℕ) (t : Tu
 unfolding pull_at
 pull-told s here q u p own held t h = rw h.placed.there (go s.present refl)
   where
-    go : (d : Bool) → s.present ≡ d → cond (eqb held own) Nobody (cond d (pull_on p (id_of held) q u t) Nobody) ≡ cond (eqb held own) Nobody (cond d (pull_on p (id_of held) s.character.pos s.character.vel t) Nobody)
+    go : (d : Bool) → s.present ≡ d → cond (eqb held own) None (cond d (pull_on p (id_of held) q u t) None) ≡ cond (eqb held own) None (cond d (pull_on p (id_of held) s.character.pos s.character.vel t) None)
     go true e = rw (h.placed.stands e, h.moves e) refl
     go false e = refl
 

@@ -13,7 +13,8 @@ use Rattle.base_rows.proofs.Puts.{length-put}
 use Rattle.base_turns.specs.Turns.{Turn, more, stop}
 use Rattle.base_turns.proofs.Loop.{Left, turn_on, turn_off, turn_end}
 use Rattle.game_records.specs.Numbers.{number_at}
-use Rattle.game_refusals.specs.Refusals.{too_far}
+use Rattle.game_refusals.specs.Refusals.{number_of}
+use Rattle.character.proofs.Refused.{tick_refused}
 use Rattle.game_tuning.specs.Tuning.{tuning_count}
 use Rattle.game_tuning.specs.declared.Tuning.{Tuning}
 use Rattle.map_tiles.specs.declared.tiles.Sides.{Sides}
@@ -29,8 +30,6 @@ use Rattle.character.specs.declared.Character.{Character}
 use Rattle.character.specs.declared.Slot.{Slot}
 use Rattle.character.specs.declared.tick.AfterTick.{AfterTick}
 use Rattle.character.specs.declared.tick.OwnTick.{OwnTick}
-use Rattle.character.specs.declared.tick.OwnTick.TheVariants as own
-use Rattle.character.specs.declared.tick.TickedAt.TheVariants.{To}
 use Rattle.character_laws.proofs.Others.{Then, tick_pos, pulled_others, pulled-length}
 use Rattle.world.proofs.Numbers.{tick-short}
 use Rattle.game_tuning.specs.Tuning.{hold_of}
@@ -45,6 +44,9 @@ use Rattle.world_inplace.specs.Bodies.{Bodies, Sized, BodiesOf, left_at, speeds_
 use Rattle.world_inplace.specs.Ticks.{with_speed, TicksOf, TicksWent, TicksDone, TickOf}
 use Rattle.world_inplace.proofs.Rows.{row_for, row_whole, row_else, blank_long, blank_row}
 use Rattle.world_inplace.proofs.Speeds.{with_speed_at, speed_set, pulled_bodies}
+use Rattle.std.specs.Prelude.{Option, Result, Ok, Err}
+use Rattle.game_refusals.specs.declared.Refusal.{Refusal}
+use Rattle.game_refusals.specs.declared.Refusal.TheVariants.{TooFar}
 
 -- the places of bodies
 pub places_in : (n : ℕ) (ss : List Slot) (b : Bodies) → BodiesOf n ss b → PlacesOf n ss b.present b.xs b.ys
@@ -85,21 +87,29 @@ module _ (l : List ℤ) (s : Sides) (ts : List ℕ) (t : Tuning) (j : ℕ) (m : 
   seat_now : slot_at ss j ≡ with_speed seat (place_at b.vxs b.vys j)
   seat_now = h.waits j (omega arith) m ∙ ap (with_speed seat) (sym ((h.bodies j m).moves here))
 
-  module _ (k : OwnTick) (e : with_pull seats ss j t k ≡ tick_at seats (with_vel seat.character (place_at b.vxs b.vys j)) j ss s ts seat.input t) where
+  module _ (k : Result OwnTick Refusal) (e : with_pull seats ss j t k ≡ tick_at seats (with_vel seat.character (place_at b.vxs b.vys j)) j ss s ts seat.input t) where
     answer : with_pull seats ss j t k ≡ tick_at seats (slot_at ss j).character j ss s ts (slot_at ss j).input t
     answer = rw seat_now e
 
-    pub refuses : k ≡ own.TooFar → tick_turn seats s ts t j ss ≡ stop too_far
-    refuses z = let f = sym (rw z at answer) in simp (here, f)
+    pub refuses : (r : Refusal) → k ≡ Err r → tick_turn seats s ts t j ss ≡ stop (number_of r)
+    refuses r z =
+        let f = sym (rw z at answer) in
+        rw (tick_refused seats (slot_at ss j).character j ss s ts (slot_at ss j).input t r f) (simp (here, f))
 
-    module _ (me : Character) (g : Bool) (z : k ≡ own.To me g) where
-      abbrev pull : HookPull
+    module _ (own : OwnTick) (z : k ≡ Ok own) where
+      abbrev me : Character
+      me = own.me
+
+      abbrev g : Bool
+      g = own.grounded
+
+      abbrev pull : Option HookPull
       pull = pull_of seats ss j me.pos me.hook t
 
       abbrev after : AfterTick
       after = record { me = me; pull = pull; grounded = g }
 
-      to : tick_at seats (slot_at ss j).character j ss s ts (slot_at ss j).input t ≡ To after
+      to : tick_at seats (slot_at ss j).character j ss s ts (slot_at ss j).input t ≡ Ok after
       to = sym (rw z at answer)
 
       -- the slots after the pull, then those after the tick
@@ -219,9 +229,9 @@ module _ (l : List ℤ) (s : Sides) (ts : List ℕ) (t : Tuning) (i : ℕ) (e : 
   present_there : i < seats → (q : Bool) → get_or b.present i false ≡ q → (slot_at h.slots i).present ≡ q
   present_there m q z = sym (h.stand.bodies i m).placed.there ∙ z
 
-  pub tick_on : i < seats → get_or b.present i false ≡ true → (r : Bool) → r ≡ true → (c : Bodies) (us : List ℤ) (ks : List Bool) → TickOf r l i s ts t b rows marks c us ks → Ticking l s ts t (i + 1) e c us ks
-  tick_on m z r q c us ks f =
-      let w : TicksWent l (i + 1) (tick_turn seats s ts t i h.slots) c us ks = subst (λ (r : Bool). TicksDone r l (i + 1) (tick_turn seats s ts t i h.slots) c us ks) q (f h.slots (present_there m true z) h.stand) in
+  pub tick_on : i < seats → get_or b.present i false ≡ true → (r : Result (Unit {0}) Refusal) (u : Unit {0}) → r ≡ Ok u → (c : Bodies) (us : List ℤ) (ks : List Bool) → TickOf r l i s ts t b rows marks c us ks → Ticking l s ts t (i + 1) e c us ks
+  tick_on m z r u q c us ks f =
+      let w : TicksWent l (i + 1) (tick_turn seats s ts t i h.slots) c us ks = subst (λ (r : Result (Unit {0}) Refusal). TicksDone r l (i + 1) (tick_turn seats s ts t i h.slots) c us ks) q (f h.slots (present_there m true z) h.stand) in
       record { slots = w.slots; goes = turn_on h.goes m w.went; stand = w.stand }
 
   pub tick_past : i < seats → get_or b.present i false ≡ false → Ticking l s ts t (i + 1) e b rows marks
@@ -236,8 +246,8 @@ module _ (l : List ℤ) (s : Sides) (ts : List ℕ) (t : Tuning) (i : ℕ) (e : 
       below : (j : ℕ) → j < i + 1 → (slot_at h.slots j).present ≡ true → j < i
       below j q w = less j q (λ f. true≢false (sym w ∙ ap (λ (n : ℕ). (slot_at h.slots n).present) f ∙ present_there m false z))
 
-  pub tick_off : i < seats → get_or b.present i false ≡ true → (r : Bool) → r ≡ false → (c : Bodies) (us : List ℤ) (ks : List Bool) → TickOf r l i s ts t b rows marks c us ks → e ≡ stop too_far
-  tick_off m z r q c us ks f = turn_off h.goes m (subst (λ (r : Bool). TicksDone r l (i + 1) (tick_turn seats s ts t i h.slots) c us ks) q (f h.slots (present_there m true z) h.stand))
+  pub tick_off : i < seats → get_or b.present i false ≡ true → (r : Result (Unit {0}) Refusal) (w : Refusal) → r ≡ Err w → (c : Bodies) (us : List ℤ) (ks : List Bool) → TickOf r l i s ts t b rows marks c us ks → e ≡ stop (number_of w)
+  tick_off m z r w q c us ks f = turn_off h.goes m (subst (λ (r : Result (Unit {0}) Refusal). TicksDone r l (i + 1) (tick_turn seats s ts t i h.slots) c us ks) q (f h.slots (present_there m true z) h.stand))
 
   pub tick_end : seats ≤ i → TicksWent l seats e b rows marks
   tick_end m =

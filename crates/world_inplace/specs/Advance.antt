@@ -1,7 +1,7 @@
 -- The ticks and moves of a step together. Definitions only.
-use Rattle.std.specs.Prelude.{ℕ, ◌<◌, Bool, false, List, ◌≡◌, Float, ℤ, length, get_or}
+use Rattle.std.specs.Prelude.{ℕ, ◌<◌, Bool, false, Result, List, ◌≡◌, Float, ℤ, length, get_or}
 use Rattle.base_turns.specs.Turns.{Turn, more, stop, next}
-use Rattle.game_refusals.specs.Refusals.{too_far}
+use Rattle.game_refusals.specs.declared.Refusal.{Refusal}
 use Rattle.game_tuning.specs.Tuning.{tuning_of}
 use Rattle.map_tiles.specs.declared.tiles.Sides.{Sides}
 use Rattle.character.specs.Places.{PlacesOf}
@@ -36,5 +36,5 @@ pub record Advanced (e : Turn Moving ℕ) (ps : List Bool) (xs ys : List Float) 
   pub marked : (j : ℕ) → j < seats → get_or marks j false ≡ (slot_at moving.slots j).grounded
 
 -- they end with e: in these arrays, or refused
-abbrev pub AdvanceDone : Bool → Turn Moving ℕ → List Bool → List Float → List Float → List ℤ → List Bool → Type 0
-AdvanceDone r e ps xs ys rows marks = Answered r (Advanced e ps xs ys rows marks) (e ≡ stop too_far)
+abbrev pub AdvanceDone : Result (Unit {0}) Refusal → Turn Moving ℕ → List Bool → List Float → List Float → List ℤ → List Bool → Type 0
+AdvanceDone r e ps xs ys rows marks = Answered r (Advanced e ps xs ys rows marks) (λ k. e ≡ stop k)

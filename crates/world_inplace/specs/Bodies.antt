@@ -7,7 +7,6 @@ use Rattle.num_vec2.specs.declared.vec2.{vec2}
 use Rattle.game_tuning.specs.declared.Tuning.{Tuning}
 use Rattle.character_hook.specs.Hook.{tick_of}
 use Rattle.character_meeting.specs.declared.meeting.HookPull.{HookPull}
-use Rattle.character_meeting.specs.declared.meeting.HookPull.TheVariants.{Nobody, Of}
 use Rattle.character.specs.Among.{held_seat, pull_at}
 use Rattle.character.specs.Places.{place_at, Placed}
 use Rattle.character.specs.Records.{core_of, most_tick}
@@ -16,6 +15,8 @@ use Rattle.character.specs.Walk.{moved_to}
 use Rattle.character.specs.declared.Character.{Character}
 use Rattle.character.specs.declared.Slot.{Slot}
 use Rattle.world_numbers.specs.Encoding.{record_count, records_count, record_numbers}
+use Rattle.std.specs.Prelude.{Option, None}
+use Rattle.std.specs.Prelude.{Some}
 
 -- of each seat whether somebody is there, the place and the velocity; those of an absent seat mean nothing
 pub record Bodies : Type 0 where
@@ -43,9 +44,9 @@ abbrev pub BodiesOf : ℕ → List Slot → Bodies → Type 0
 BodiesOf n ss b = (j : ℕ) → j < n → Embodied (slot_at ss j) (get_or b.present j false) (place_at b.xs b.ys j) (place_at b.vxs b.vys j)
 
 -- the velocity v after a pull
-unfoldable pub pulled_vel : HookPull → vec2 → vec2
-pulled_vel Nobody v = v
-pulled_vel (Of cid u) v = u
+unfoldable pub pulled_vel : Option HookPull → vec2 → vec2
+pulled_vel None v = v
+pulled_vel (Some p) v = p.vel
 
 -- the velocity that the hook of c, who has ticked, leaves whoever is at the held seat
 unfoldable pub left_at : Bodies → Character → ℕ → ℕ → Tuning → vec2

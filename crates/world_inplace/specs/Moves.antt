@@ -1,7 +1,7 @@
 -- The arrays of a step between its moves, against the slots that they stand for. Definitions only.
-use Rattle.std.specs.Prelude.{ℕ, ◌+◌, ◌<◌, ◌≤◌, Bool, true, false, List, ◌≡◌, ℤ, pos, length, get_or, replicate}
+use Rattle.std.specs.Prelude.{ℕ, ◌+◌, ◌<◌, ◌≤◌, Bool, true, false, Result, List, ◌≡◌, ℤ, pos, length, get_or, replicate}
 use Rattle.base_turns.specs.Turns.{Turn, more, stop}
-use Rattle.game_refusals.specs.Refusals.{too_far}
+use Rattle.game_refusals.specs.declared.Refusal.{Refusal}
 use Rattle.game_tuning.specs.declared.Tuning.{Tuning}
 use Rattle.map_tiles.specs.declared.tiles.Sides.{Sides}
 use Rattle.character.specs.Places.{place_at, PlacesOf}
@@ -42,13 +42,13 @@ pub record MovesWent (i : ℕ) (e : Turn Moving ℕ) (b : Bodies) (rows : List �
   pub stand : MovesOf i moving b rows marks
 
 -- the moves end with e: in these arrays, or refused
-abbrev pub MovesDone : Bool → ℕ → Turn Moving ℕ → Bodies → List ℤ → List Bool → Type 0
-MovesDone r i e b rows marks = Answered r (MovesWent i e b rows marks) (e ≡ stop too_far)
+abbrev pub MovesDone : Result (Unit {0}) Refusal → ℕ → Turn Moving ℕ → Bodies → List ℤ → List Bool → Type 0
+MovesDone r i e b rows marks = Answered r (MovesWent i e b rows marks) (λ k. e ≡ stop k)
 
 -- the move of the id i, who is there, from the first arrays to the second
-abbrev pub MoveOf : Bool → ℕ → Sides → List ℕ → Tuning → Bodies → List ℤ → Bodies → List ℤ → Type 0
+abbrev pub MoveOf : Result (Unit {0}) Refusal → ℕ → Sides → List ℕ → Tuning → Bodies → List ℤ → Bodies → List ℤ → Type 0
 MoveOf r i s ts t b rows b' rows' = (m : Moving) (marks : List Bool) → (slot_at m.slots i).present ≡ true → MovesOf i m b rows marks → MovesDone r (i + 1) (move_turn seats s ts t i m) b' rows' marks
 
 -- the moves of all, from any slots that have ticked and the first arrays to the second
-abbrev pub AllMoved : Bool → Sides → List ℕ → Tuning → Bodies → List ℤ → Bodies → List ℤ → Type 0
+abbrev pub AllMoved : Result (Unit {0}) Refusal → Sides → List ℕ → Tuning → Bodies → List ℤ → Bodies → List ℤ → Type 0
 AllMoved r s ts t b rows b' rows' = (ss : List Slot) (marks : List Bool) → Ready ss b rows marks → MovesDone r seats (move_all seats ss s ts t) b' rows' marks

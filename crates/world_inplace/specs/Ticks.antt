@@ -1,7 +1,8 @@
 -- The arrays of a step between its ticks, against the slots that they stand for. Definitions only.
-use Rattle.std.specs.Prelude.{ℕ, ◌+◌, ◌<◌, ◌≤◌, Bool, true, false, List, ◌≡◌, ℤ, pos, length, get_or, drop, replicate}
+use Rattle.std.specs.Prelude.{ℕ, ◌+◌, ◌<◌, ◌≤◌, Bool, true, false, Result, Ok, Err, List, ◌≡◌, ℤ, pos, length, get_or, drop, replicate}
 use Rattle.base_turns.specs.Turns.{Turn, more, stop}
-use Rattle.game_refusals.specs.Refusals.{too_far}
+use Rattle.game_refusals.specs.Refusals.{number_of}
+use Rattle.game_refusals.specs.declared.Refusal.{Refusal}
 use Rattle.game_tuning.specs.declared.Tuning.{Tuning}
 use Rattle.map_tiles.specs.declared.tiles.Sides.{Sides}
 use Rattle.num_vec2.specs.declared.vec2.{vec2}
@@ -18,10 +19,10 @@ use Rattle.world_inplace.specs.Bodies.{Bodies, Sized, BodiesOf, row_of, RowFor}
 abbrev pub with_speed : Slot → vec2 → Slot
 with_speed s v = with_character s (with_vel s.character v)
 
--- a half of a step answered: done and P, or refused and Q
-abbrev pub Answered : Bool → Type 0 → Type 0 → Type 0
-Answered true P Q = P
-Answered false P Q = Q
+-- a half of a step answered: done and P, or refused with a number of which Q says what it means
+abbrev pub Answered : Result (Unit {0}) Refusal → Type 0 → (ℕ → Type 0) → Type 0
+Answered (Ok u) P Q = P
+Answered (Err e) P Q = Q (number_of e)
 
 -- the ids below i of the world whose numbers are l have ticked, which left the slots ss
 pub record TicksOf (l : List ℤ) (i : ℕ) (ss : List Slot) (b : Bodies) (rows : List ℤ) (marks : List Bool) : Type 0 where
@@ -42,9 +43,9 @@ pub record TicksWent (l : List ℤ) (i : ℕ) (e : Turn (List Slot) ℕ) (b : Bo
   pub stand : TicksOf l i slots b rows marks
 
 -- the ticks end with e: in these arrays, or refused
-abbrev pub TicksDone : Bool → List ℤ → ℕ → Turn (List Slot) ℕ → Bodies → List ℤ → List Bool → Type 0
-TicksDone r l i e b rows marks = Answered r (TicksWent l i e b rows marks) (e ≡ stop too_far)
+abbrev pub TicksDone : Result (Unit {0}) Refusal → List ℤ → ℕ → Turn (List Slot) ℕ → Bodies → List ℤ → List Bool → Type 0
+TicksDone r l i e b rows marks = Answered r (TicksWent l i e b rows marks) (λ k. e ≡ stop k)
 
 -- the tick of the id i, who is there, from the first arrays to the second
-abbrev pub TickOf : Bool → List ℤ → ℕ → Sides → List ℕ → Tuning → Bodies → List ℤ → List Bool → Bodies → List ℤ → List Bool → Type 0
+abbrev pub TickOf : Result (Unit {0}) Refusal → List ℤ → ℕ → Sides → List ℕ → Tuning → Bodies → List ℤ → List Bool → Bodies → List ℤ → List Bool → Type 0
 TickOf r l i s ts t b rows marks b' rows' marks' = (ss : List Slot) → (slot_at ss i).present ≡ true → TicksOf l i ss b rows marks → TicksDone r l (i + 1) (tick_turn seats s ts t i ss) b' rows' marks'

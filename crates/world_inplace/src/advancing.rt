@@ -11,11 +11,12 @@ use crate::moving::move_seats;
 use crate::reading::read_bodies;
 use crate::ticking::tick_seats;
 use character::SEATS;
+use game_refusals::Refusal;
 use game_tuning::tuning_of;
 use map_tiles::Sides;
 use world_numbers::tunings_of;
 
-// All tick, then all move: who is then where, the records' rows and the floor marks. Answers false where one is too far.
+// All tick, then all move: who is then where, the records' rows and the floor marks. Refused where one is too far.
 pub fn advance(
     numbers: &[i32],
     sides: Sides,
@@ -25,7 +26,7 @@ pub fn advance(
     ys: &mut [f32; SEATS],
     rows: &mut [i32],
     marks: &mut [bool; SEATS],
-) -> bool
+) -> Result<(), Refusal>
     requires { T (is_map sides tiles.now) × (length numbers.now ≡ world_count) × Blank rows.old marks.old × Room present.old xs.old ys.old }
     ensures { AdvanceDone result (advanced (decoding seats numbers.now) sides tiles.now) present.new xs.new ys.new rows.new marks.new }
 {
@@ -33,10 +34,8 @@ pub fn advance(
     let mut vys = [0.0f32; SEATS];
     read_bodies(numbers, present, xs, ys, &mut vxs, &mut vys);
     let tuning = tuning_of(tunings_of(numbers));
-    if tick_seats(
+    tick_seats(
         numbers, present, xs, ys, &mut vxs, &mut vys, rows, marks, sides, tiles, tuning,
-    ) {
-        return move_seats(present, xs, ys, &vxs, &vys, rows, sides, tiles, tuning);
-    }
-    false
+    )?;
+    move_seats(present, xs, ys, &vxs, &vys, rows, sides, tiles, tuning)
 }

@@ -8,14 +8,15 @@ ghost use Rattle.world_inplace.specs.Moves.{MoveOf, AllMoved};
 
 use crate::reading::PLACE;
 use base_rows::copy;
-use character::{Character, MovedAt, SEATS};
+use character::{Character, SEATS};
+use game_refusals::Refusal;
 use game_tuning::Tuning;
 use map_tiles::Sides;
 use num_convert::{i32_to_f32, round_to_i32, to_256ths};
 use num_vec2::vec2;
 use world_numbers::RECORD;
 
-// By rising id each moves: the places and the rows of the records are then those after all moves. Answers false where one is too far.
+// By rising id each moves: the places and the rows of the records are then those after all moves. Refused where one is too far.
 pub fn move_seats(
     present: &[bool; SEATS],
     xs: &mut [f32; SEATS],
@@ -26,18 +27,16 @@ pub fn move_seats(
     sides: Sides,
     tiles: &[u8],
     tuning: Tuning,
-) -> bool
+) -> Result<(), Refusal>
     requires { T (is_map sides tiles.now) × (length rows.old ≡ records_count) }
     ensures { AllMoved result sides tiles.now tuning (record { present = present.entry.now; xs = xs.old; ys = ys.old; vxs = vxs.now; vys = vys.now }) rows.old (record { present = present.entry.now; xs = xs.new; ys = ys.new; vxs = vxs.now; vys = vys.now }) rows.new }
 {
     for id in 0..SEATS {
         if present[id] {
-            if move_seat(id, present, xs, ys, vxs, vys, rows, sides, tiles, tuning) {} else {
-                return false;
-            }
+            move_seat(id, present, xs, ys, vxs, vys, rows, sides, tiles, tuning)?;
         }
     }
-    true
+    Ok(())
 }
 
 fn move_seat(
@@ -51,22 +50,19 @@ fn move_seat(
     sides: Sides,
     tiles: &[u8],
     tuning: Tuning,
-) -> bool
+) -> Result<(), Refusal>
     requires { T (is_map sides tiles.now) × (length rows.old ≡ records_count) × (id < seats) }
     ensures { MoveOf result id sides tiles.now tuning (record { present = present.entry.now; xs = xs.old; ys = ys.old; vxs = vxs.now; vys = vys.now }) rows.old (record { present = present.entry.now; xs = xs.new; ys = ys.new; vxs = vxs.now; vys = vys.now }) rows.new }
 {
     let vel = vec2::new(vxs[id], vys[id]);
     let mut me = Character::spawn(vec2::new(xs[id], ys[id]));
     me.vel = vel;
-    let moved = me.move_among(id, present, xs, ys, sides, tiles, tuning);
-    let MovedAt::To(left) = moved else {
-        return false;
-    };
+    let left = me.move_among(id, present, xs, ys, sides, tiles, tuning)?;
     let row = body_numbers(left.pos, left.vel);
     copy(rows, RECORD * id + PLACE, &row);
     xs[id] = i32_to_f32(row[0]);
     ys[id] = i32_to_f32(row[1]);
-    true
+    Ok(())
 }
 
 // The four numbers of a record that a move may change.

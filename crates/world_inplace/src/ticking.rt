@@ -15,13 +15,14 @@ ghost use Rattle.world_inplace.specs.Ticks.{TickOf, TicksDone};
 use base_rows::copy;
 use character::{Character, OwnTick, SEATS, held_seat, pull_at};
 use character_meeting::HookPull;
+use game_refusals::Refusal;
 use game_tuning::Tuning;
 use map_tiles::Sides;
 use num_vec2::vec2;
 use world::Published;
 use world_numbers::{RECORD, net_core, record_numbers, seat_at};
 
-// Every present id by rising id ticks: the velocities, the rows of the records and the floor marks are then those after all ticks. Answers false where one is too far.
+// Every present id by rising id ticks: the velocities, the rows of the records and the floor marks are then those after all ticks. Refused where one is too far.
 pub fn tick_seats(
     numbers: &[i32],
     present: &[bool; SEATS],
@@ -34,20 +35,18 @@ pub fn tick_seats(
     sides: Sides,
     tiles: &[u8],
     tuning: Tuning,
-) -> bool
+) -> Result<(), Refusal>
     requires { T (is_map sides tiles.now) × (length numbers.now ≡ world_count) × Blank rows.old marks.old × Sized (record { present = present.now; xs = xs.now; ys = ys.now; vxs = vxs.old; vys = vys.old }) × BodiesOf seats (seats_of seats (drop tuning_count numbers.now)) (record { present = present.now; xs = xs.now; ys = ys.now; vxs = vxs.old; vys = vys.old }) }
     ensures { TicksDone result numbers.now seats (tick_all seats (seats_of seats (drop tuning_count numbers.now)) sides tiles.now tuning) (record { present = present.entry.now; xs = xs.now; ys = ys.now; vxs = vxs.new; vys = vys.new }) rows.new marks.new }
 {
     for id in 0..SEATS {
         if present[id] {
-            if tick_seat(
+            tick_seat(
                 numbers, id, present, xs, ys, vxs, vys, rows, marks, sides, tiles, tuning,
-            ) {} else {
-                return false;
-            }
+            )?;
         }
     }
-    true
+    Ok(())
 }
 
 fn tick_seat(
@@ -63,23 +62,21 @@ fn tick_seat(
     sides: Sides,
     tiles: &[u8],
     tuning: Tuning,
-) -> bool
+) -> Result<(), Refusal>
     requires { T (is_map sides tiles.now) × (length numbers.now ≡ world_count) × (length rows.old ≡ records_count) × (id < seats) }
     ensures { TickOf result numbers.now id sides tiles.now tuning (record { present = present.entry.now; xs = xs.now; ys = ys.now; vxs = vxs.old; vys = vys.old }) rows.old marks.old (record { present = present.entry.now; xs = xs.now; ys = ys.now; vxs = vxs.new; vys = vys.new }) rows.new marks.new }
 {
     let vel = vec2::new(vxs[id], vys[id]);
-    let own = own_tick(numbers, id, present, xs, ys, vel, sides, tiles, tuning);
-    let OwnTick::To(me, grounded) = own else {
-        return false;
-    };
+    let own = own_tick(numbers, id, present, xs, ys, vel, sides, tiles, tuning)?;
+    let me = own.me;
     write_speeds(me, id, present, xs, ys, vxs, vys, tuning);
     let row = record_numbers(Published {
         present: true,
         core: net_core(me.to_net()),
     });
     copy(rows, RECORD * id, &row);
-    marks[id] = grounded;
-    true
+    marks[id] = own.grounded;
+    Ok(())
 }
 
 // The tick of a seat's character, with the velocity that earlier ticks left it.
@@ -93,7 +90,7 @@ fn own_tick(
     sides: Sides,
     tiles: &[u8],
     tuning: Tuning,
-) -> OwnTick
+) -> Result<OwnTick, Refusal>
     requires { T (is_map sides tiles.now) × (length numbers.now ≡ world_count) × (id < seats) }
     ensures { Among seats present.now xs.now ys.now (λ ss. with_pull seats ss id tuning result ≡ tick_at seats (with_vel (seat_of (drop (seat_place id) numbers.now)).character vel) id ss sides tiles.now (seat_of (drop (seat_place id) numbers.now)).input tuning) }
 {
@@ -130,11 +127,11 @@ fn write_speeds(
     vys[id] = me.vel.y;
 }
 
-fn pulled_vel(pull: HookPull, vel: vec2) -> vec2
+fn pulled_vel(pull: Option<HookPull>, vel: vec2) -> vec2
     ensures { result ≡ pulled_vel pull vel }
 {
-    let HookPull::Of(_, left) = pull else {
-        return vel;
-    };
-    left
+    match pull {
+        Some(pull) => pull.vel,
+        None => vel,
+    }
 }

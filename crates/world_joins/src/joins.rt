@@ -2,16 +2,17 @@
 ghost use Rattle.std.specs.Prelude.{◌≡◌, T, ◌<◌};
 ghost use Rattle.map_tiles.specs.Map.{is_map};
 ghost use Rattle.character.specs.Tick.{seats};
+ghost use Rattle.world.specs.Answered.{answered};
 ghost use Rattle.world.specs.Calls.{is_in_reach, point_of, join_at, join};
 
-use crate::seats::{accepted, place_of, refused, with_slot};
+use crate::seats::{place_of, with_slot};
 use character::{SEATS, Slot};
 use game_constants::CHARACTER_SIZE;
-use game_refusals::{BAD_ID, BAD_MAP, NOT_CLEAR, OUT_OF_REACH, PRESENT};
+use game_refusals::Refusal;
 use map_tiles::{Sides, check_box, is_map};
 use num_convert::i32_to_f32;
 use num_vec2::vec2;
-use world::{Answer, World};
+use world::World;
 
 pub fn in_reach(z: i32) -> bool
     ensures { result ≡ is_in_reach z }
@@ -26,8 +27,15 @@ pub fn point_of(x: i32, y: i32) -> vec2
     vec2::new(i32_to_f32(x), i32_to_f32(y))
 }
 
-pub fn join(world: World, sides: Sides, tiles: &[u8], id: i32, x: i32, y: i32) -> Answer
-    ensures { result ≡ join seats world sides tiles.now id x y }
+pub fn join(
+    world: World,
+    sides: Sides,
+    tiles: &[u8],
+    id: i32,
+    x: i32,
+    y: i32,
+) -> Result<World, Refusal>
+    ensures { answered world result ≡ join seats world sides tiles.now id x y }
 {
     if is_map(sides, tiles) {
         let at = place_of(SEATS, id);
@@ -35,24 +43,24 @@ pub fn join(world: World, sides: Sides, tiles: &[u8], id: i32, x: i32, y: i32) -
             if in_reach(x) && in_reach(y) {
                 return join_at(world, sides, tiles, at, point_of(x, y));
             }
-            return refused(world, OUT_OF_REACH);
+            return Err(Refusal::OutOfReach);
         }
-        return refused(world, BAD_ID);
+        return Err(Refusal::BadId);
     }
-    refused(world, BAD_MAP)
+    Err(Refusal::BadMap)
 }
 
-fn join_at(world: World, sides: Sides, tiles: &[u8], at: usize, pos: vec2) -> Answer
+fn join_at(world: World, sides: Sides, tiles: &[u8], at: usize, pos: vec2) -> Result<World, Refusal>
     requires { T (is_map sides tiles.now) × (at < seats) }
-    ensures { result ≡ join_at world sides tiles.now at pos }
+    ensures { answered world result ≡ join_at world sides tiles.now at pos }
 {
     let box_ = vec2::new(CHARACTER_SIZE, CHARACTER_SIZE);
     if check_box(sides, tiles, pos, box_) {
-        return refused(world, NOT_CLEAR);
+        return Err(Refusal::NotClear);
     }
     let slot = world.slots[at];
     if slot.present {
-        return refused(world, PRESENT);
+        return Err(Refusal::Present);
     }
-    accepted(with_slot(world, at, Slot::joined(pos)))
+    Ok(with_slot(world, at, Slot::joined(pos)))
 }

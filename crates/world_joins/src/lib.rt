@@ -5,4 +5,4 @@ mod joins;
 mod seats;
 
 pub use joins::{in_reach, join, point_of};
-pub use seats::{accepted, fresh, place_of, refused, slot_at, with_slot};
+pub use seats::{fresh, place_of, slot_at, with_slot};

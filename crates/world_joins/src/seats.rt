@@ -1,12 +1,12 @@
-// A world's seats: which one a number names, one read and set; a fresh world; and the two forms of a call's answer.
+// A world's seats: which one a number names, one read and set; and a fresh world.
 ghost use Rattle.std.specs.Prelude.{◌≡◌, ◌<◌};
 ghost use Rattle.character.specs.Tick.{seats, slot_at};
 ghost use Rattle.world.specs.World.{fresh, with_slot};
-ghost use Rattle.world.specs.Calls.{refused, accepted, place_of};
+ghost use Rattle.world.specs.Calls.{place_of};
 
 use character::{SEATS, Slot};
 use game_tuning::fresh_tunings;
-use world::{Answer, World};
+use world::World;
 
 pub fn fresh() -> World
     ensures { result ≡ fresh seats }
@@ -42,16 +42,4 @@ pub fn with_slot(mut world: World, at: usize, slot: Slot) -> World
 {
     world.slots[at] = slot;
     world
-}
-
-pub fn refused(world: World, number: u32) -> Answer
-    ensures { result ≡ refused world number }
-{
-    Answer { number, world }
-}
-
-pub fn accepted(world: World) -> Answer
-    ensures { result ≡ accepted world }
-{
-    Answer { number: 0, world }
 }

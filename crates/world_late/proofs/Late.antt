@@ -17,7 +17,7 @@ use Rattle.world.specs.declared.call.Call.{Call}
 use Rattle.world.specs.declared.call.Call.TheVariants.{Input, Tune}
 use Rattle.world.specs.Calls.{place_of}
 use Rattle.world.specs.Run.{input_of, without_records, ran, after, Told, told_by, told}
-use Rattle.world.specs.declared.Stepped.{Stepped}
+use Rattle.world.specs.Answered.{Stepped}
 use Rattle.world.specs.declared.World.{World}
 use Rattle.world.proofs.Outcomes.{outcome_facts, input_outcome, input_number, tune_number}
 use Rattle.world.proofs.Seats.{present_within}

@@ -16,12 +16,7 @@ use Rattle.game_tuning.specs.declared.Tuning.{Tuning}
 use Rattle.map_tiles.specs.Map.{is_map}
 use Rattle.map_tiles.specs.declared.tiles.Sides.{Sides}
 use Rattle.map_tiles.specs.declared.point.Tile.TheVariants.{Normal, Unhookable}
-use Rattle.map_lines.specs.Line.{of_walk, walk_line, check_line}
-use Rattle.map_lines.specs.declared.lines.LineCheck.TheVariants as check
-use Rattle.map_lines.specs.declared.lines.LineHit.{LineHit}
-use Rattle.map_lines.specs.declared.lines.LineHit.TheVariants.{Nothing, At}
-use Rattle.map_lines.specs.declared.lines.LineWalk.{LineWalk}
-use Rattle.map_lines.specs.declared.lines.LineWalk.TheVariants as line
+use Rattle.map_lines.specs.Line.{walk_line, check_line}
 use Rattle.character_hook.specs.Flying.{flown}
 use Rattle.character_hook.specs.Hooking.{fly, strike, hold}
 use Rattle.character_hook.specs.declared.hooking.Flight.{Flight}
@@ -31,10 +26,13 @@ use Rattle.character_hook.specs.declared.hook.Hook.TheVariants.{Flying, Attached
 use Rattle.character.specs.Tick.{steer, caught, flight, hooked, tick_at, tick}
 use Rattle.character.specs.declared.Character.{Character}
 use Rattle.character.specs.declared.Slot.{Slot}
-use Rattle.character.specs.declared.tick.HookFlight.TheVariants.{To}
 use Rattle.character_cases.specs.Holding.{HookAfter}
 use Rattle.world_laws.specs.Flight.{flown_to, too_long, line_end, HooksEnd}
 use Rattle.world_laws.specs.Walks.{hook_fired}
+use Rattle.std.specs.Prelude.{Option, None, Result, Ok, Err}
+use Rattle.map_tiles.specs.declared.point.Tile.{Tile}
+use Rattle.game_refusals.specs.declared.Refusal.{Refusal}
+use Rattle.std.specs.Prelude.{Some}
 
 -- the end of the line
 fly_end : (p from dir : vec2) (t : Tuning) → (fly from dir p t).to ≡ line_end p from dir t
@@ -57,9 +55,9 @@ fly_hook p from dir t z = go (too_long p (flown_to from dir t) t) refl
     go true e = refl
     go false e = refl
 
-walked : (w : LineWalk) (hit : LineHit) → of_walk w ≡ check.Met hit → w ≡ line.Met hit
-walked line.TooFar hit e = let z : ◌≡◌ {A = ℕ} 0 1 = cc in absurd (omega arith)
-walked (line.Met h) hit e = let q : h ≡ hit = cc in ap line.Met q
+walked : (w : Result (Option (vec2 × Tile)) Refusal) (hit : Option (vec2 × Tile)) → w ≡ Ok hit → w ≡ Ok hit
+walked (Err why) hit e = let z : ◌≡◌ {A = ℕ} 0 1 = cc in absurd (omega arith)
+walked (Ok h) hit e = let q : h ≡ hit = cc in ap Ok q
 
 module _ (n : ℕ) (c : Character) (id : CharacterId) (ss : List Slot) (s : Sides) (ts : List ℕ) (i : PlayerInput) (tunings : List ℤ) (from dir : vec2) (m : is_map s ts ≡ true) (l : id.0 < n) (f : hook_fired c i ≡ Flying from dir) (off : ne (tuning_of tunings).player_hooking c0 ≡ false) where
   abbrev t : Tuning
@@ -68,15 +66,15 @@ module _ (n : ℕ) (c : Character) (id : CharacterId) (ss : List Slot) (s : Side
   abbrev end : vec2
   end = line_end c.pos from dir t
 
-  line_is : (hit : LineHit) → check_line s ts from end ≡ check.Met hit → walk_line s ts from (fly from dir c.pos t).to ≡ line.Met hit
+  line_is : (hit : Option (vec2 × Tile)) → check_line s ts from end ≡ Ok hit → walk_line s ts from (fly from dir c.pos t).to ≡ Ok hit
   unfolding check_line
   line_is hit e = rw (fly_end c.pos from dir t) (walked (walk_line s ts from end) hit (sym (rw m) ∙ e))
 
-  flight_is : (hit : LineHit) → check_line s ts from end ≡ check.Met hit → flight n (hook_fired c i) c.pos id.0 ss s ts t ≡ To (strike (fly from dir c.pos t).hook hit)
+  flight_is : (hit : Option (vec2 × Tile)) → check_line s ts from end ≡ Ok hit → flight n (hook_fired c i) c.pos id.0 ss s ts t ≡ Ok (strike (fly from dir c.pos t).hook hit)
   unfolding flown caught
   flight_is hit e = rw (f, line_is hit e, off)
 
-  tick_is : (hit : LineHit) (h : Hook) → check_line s ts from end ≡ check.Met hit → hold (strike (fly from dir c.pos t).hook hit) t.hook_hold ≡ h → HookAfter h (tick n c id ss s ts i tunings)
+  tick_is : (hit : Option (vec2 × Tile)) (h : Hook) → check_line s ts from end ≡ Ok hit → hold (strike (fly from dir c.pos t).hook hit) t.hook_hold ≡ h → HookAfter h (tick n c id ss s ts i tunings)
   unfolding tick tick_at steer hooked
   tick_is hit h e q = rw (m, lt-ltb id.0 n l, flight_is hit e) q
 
@@ -85,7 +83,7 @@ unfolding strike hold
 hooks_end_lem n c id ss s ts i tunings from dir m l f off =
     let on = tick_is n c id ss s ts i tunings from dir m l f off in
     record {
-      hits = λ q e. on (At q Normal) (Attached q) e refl;
-      bounces = λ q e. on (At q Unhookable) (Retracting0 q) e refl;
-      misses = λ e. on Nothing _ e (fly_hook c.pos from dir (tuning_of tunings) _);
+      hits = λ q e. on (Some (q, Normal)) (Attached q) e refl;
+      bounces = λ q e. on (Some (q, Unhookable)) (Retracting0 q) e refl;
+      misses = λ e. on None _ e (fly_hook c.pos from dir (tuning_of tunings) _);
     }

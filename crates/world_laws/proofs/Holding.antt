@@ -23,25 +23,25 @@ use Rattle.character_hook.specs.declared.hook.Hook.{Hook}
 use Rattle.character_hook.specs.declared.hook.Hook.TheVariants.{Retracted, Idle, Grabbed}
 use Rattle.character_hook.proofs.Hold.{held_past, held_on}
 use Rattle.character.specs.Records.{core_of}
-use Rattle.character.specs.declared.tick.HookFlight.TheVariants.{To}
 use Rattle.character.specs.Tick.{slot_at, steer, caught, flight, hooked, tick_at, ticked_slot}
 use Rattle.character.specs.declared.Character.{Character}
 use Rattle.character.specs.declared.Slot.{Slot}
-use Rattle.character.specs.declared.tick.TickedAt.{TickedAt}
-use Rattle.character.specs.declared.tick.TickedAt.TheVariants as ticked
 use Rattle.character_laws.proofs.Others.{Then, SameButVel}
 use Rattle.world.specs.Calls.{tune}
 use Rattle.world.specs.Demand3.{record_at}
 use Rattle.world.specs.Hold.{hold_in}
 use Rattle.world.specs.Step.{tick_all, step}
 use Rattle.world.specs.World.{with_tuning}
-use Rattle.world.specs.declared.Answer.{Answer}
+use Rattle.world.specs.Answered.{Answer}
 use Rattle.world.specs.declared.Published.{Published}
 use Rattle.world.specs.declared.World.{World}
 use Rattle.world.proofs.Hold.{hook_hold_is}
 use Rattle.world_laws.specs.Holding.{HookTold, HoldTold, Holder, StepHolds}
 use Rattle.world_laws.proofs.Left.{step-taken}
 use Rattle.world_laws.proofs.Ticks.{ticks_own}
+use Rattle.std.specs.Prelude.{Result, Ok, Err}
+use Rattle.character.specs.declared.tick.AfterTick.{AfterTick}
+use Rattle.game_refusals.specs.declared.Refusal.{Refusal}
 
 -- ---- the button
 held_down : (z : ℤ) → (z ≡ pos 0 → ⊥) → pressed z ≡ true
@@ -55,7 +55,7 @@ module _ (who : CharacterId) (k : ℕ) where
   abbrev kept : PlayerInput → Hook
   kept i = cond (hooks i) (Grabbed who k) Idle
 
-  flight-held : (n id : ℕ) (ss : List Slot) (s : Sides) (ts : List ℕ) (t : Tuning) (b : Bool) (p d : vec2) → flight n (fire (Grabbed who k) b p d) p id ss s ts t ≡ To (cond b (Grabbed who k) Idle)
+  flight-held : (n id : ℕ) (ss : List Slot) (s : Sides) (ts : List ℕ) (t : Tuning) (b : Bool) (p d : vec2) → flight n (fire (Grabbed who k) b p d) p id ss s ts t ≡ Ok (cond b (Grabbed who k) Idle)
   unfolding fire fired flown caught retract
   flight-held n id ss s ts t true p d = refl
   flight-held n id ss s ts t false p d = refl
@@ -75,9 +75,9 @@ module _ (who : CharacterId) (k : ℕ) where
       (λ x y e h. subst (Holding i) (sym e) (record { present = h.present; input = h.input; hook = h.hook })) (λ x y e h. subst (λ (z : Slot). z.character.hook ≡ hold (kept i) t.hook_hold) (sym e) h)
       (λ us h. own us (tick_at n (slot_at us j).character j us s ts (slot_at us j).input t) (rw h.input (tick-held n (slot_at us j).character j us s ts i t h.hook)))
     where
-      own : (us : List Slot) (r : TickedAt) → Then (λ a. a.me.hook ≡ hold (kept i) t.hook_hold) r → Then (λ a. (x : Slot) → SameButVel (slot_at us j) x → (ticked_slot x a).character.hook ≡ hold (kept i) t.hook_hold) r
-      own us ticked.TooFar e = tt
-      own us (ticked.To a) e = λ x q. e
+      own : (us : List Slot) (r : Result AfterTick Refusal) → Then (λ a. a.me.hook ≡ hold (kept i) t.hook_hold) r → Then (λ a. (x : Slot) → SameButVel (slot_at us j) x → (ticked_slot x a).character.hook ≡ hold (kept i) t.hook_hold) r
+      own us (Err why) e = tt
+      own us (Ok a) e = λ x q. e
 
 -- ---- the record
 told : (h : Hook) (c : Character) (p : Published) → c.hook ≡ h → p ≡ record { present = true; core = core_of c } → HookTold (net_state h) (net_hooked_player h) (pos (tick_of h)) p

@@ -21,25 +21,23 @@ use Rattle.character.specs.Tick.{slot_at, nowhere}
 use Rattle.character.specs.Walk.{moved_to}
 use Rattle.character.specs.declared.Character.{Character}
 use Rattle.character.specs.declared.Slot.{Slot}
-use Rattle.character.specs.declared.records.Net.{Net}
-use Rattle.character.specs.declared.records.Net.TheVariants as net
-use Rattle.character.specs.declared.walk.MovedAt.{MovedAt}
-use Rattle.character.specs.declared.walk.MovedAt.TheVariants as moved
 use Rattle.character_laws.proofs.Back.{record_of_lem}
 use Rattle.character_laws.proofs.Held.{Rests, move_rest}
 use Rattle.world.specs.Demand3.{left_in, left, record_at}
 use Rattle.world.specs.Step.{Moving, unpublished, tick_all, of_net, record_of, publish, move_in, move_turn, moving_from, move_all, step_answer, step_on, step}
 use Rattle.world.specs.declared.Published.{Published}
-use Rattle.world.specs.declared.Stepped.{Stepped}
+use Rattle.world.specs.Answered.{Stepped}
 use Rattle.world.specs.declared.World.{World}
 use Rattle.world.proofs.Moves.{left_from}
 use Rattle.world.proofs.Seats.{by_test, last_or_below, ticks_same, Same, Settling, moves-settle}
+use Rattle.std.specs.Prelude.{Result, Ok, Err}
+use Rattle.game_refusals.specs.declared.Refusal.{Refusal}
 
 module _ (n : ℕ) (s : Sides) (ts : List ℕ) (t : Tuning) (ss : List Slot) where
   -- p is the record of what the move left of k, where the moves begin with ss
   pub record TakenOf (k : ℕ) (p : Published) : Type 0 where
     pub made : Character
-    pub left : left_from n s ts t ss k ≡ moved.To made
+    pub left : left_from n s ts t ss k ≡ Ok made
     pub rest : made ≡ moved_to (slot_at ss k).character made.pos made.vel
     pub is : p ≡ record { present = true; core = core_of made }
 
@@ -62,7 +60,7 @@ module _ (n : ℕ) (s : Sides) (ts : List ℕ) (t : Tuning) (ss : List Slot) whe
       taken = λ k l b q. ⊎_elim (λ z. absurd (true≢false (sym q ∙ ap (λ (j : ℕ). (slot_at ss j).present) z ∙ sym (ap (λ (x : Slot). x.present) (h.waits i (omega arith))) ∙ p))) (λ c. h.taken k c b q) (last_or_below k i l);
     }
 
-    module _ (p : (slot_at m.slots i).present ≡ true) (c : Character) (q : move_in n s ts t m.slots i ≡ moved.To c) (core : CharacterCore) (r : core ≡ core_of c) where
+    module _ (p : (slot_at m.slots i).present ≡ true) (c : Character) (q : move_in n s ts t m.slots i ≡ Ok c) (core : CharacterCore) (r : core ≡ core_of c) where
       abbrev new : Moving
       new = record { slots = set m.slots i (with_character (slot_at m.slots i) (from_net core)); records = set m.records i (record { present = true; core = core }) }
 
@@ -89,13 +87,13 @@ module _ (n : ℕ) (s : Sides) (ts : List ℕ) (t : Tuning) (ss : List Slot) whe
     unfolding record_of
     turn = go (slot_at m.slots i).present refl refl
       where
-        nets : (slot_at m.slots i).present ≡ true → (c : Character) → move_in n s ts t m.slots i ≡ moved.To c → (o : Net) → to_net c ≡ o → move_turn n s ts t i m ≡ publish m i (of_net o) → Ends (Sofar (suc i)) (λ r. Unit {0}) (publish m i (of_net o))
-        nets p c q net.TickTooLarge w e = tt
-        nets p c q (net.Core core) w e = publishes p c q core (record_of_lem c core w).0 e
+        nets : (slot_at m.slots i).present ≡ true → (c : Character) → move_in n s ts t m.slots i ≡ Ok c → (o : Result CharacterCore Refusal) → to_net c ≡ o → move_turn n s ts t i m ≡ publish m i (of_net o) → Ends (Sofar (suc i)) (λ r. Unit {0}) (publish m i (of_net o))
+        nets p c q (Err why) w e = tt
+        nets p c q (Ok core) w e = publishes p c q core (record_of_lem c core w).0 e
 
-        moves : (slot_at m.slots i).present ≡ true → (o : MovedAt) → move_in n s ts t m.slots i ≡ o → move_turn n s ts t i m ≡ publish m i (record_of o) → Ends (Sofar (suc i)) (λ r. Unit {0}) (publish m i (record_of o))
-        moves p moved.TooFar q e = tt
-        moves p (moved.To c) q e = nets p c q (to_net c) refl e
+        moves : (slot_at m.slots i).present ≡ true → (o : Result Character Refusal) → move_in n s ts t m.slots i ≡ o → move_turn n s ts t i m ≡ publish m i (record_of o) → Ends (Sofar (suc i)) (λ r. Unit {0}) (publish m i (record_of o))
+        moves p (Err why) q e = tt
+        moves p (Ok c) q e = nets p c q (to_net c) refl e
 
         go : (b : Bool) → (slot_at m.slots i).present ≡ b → move_turn n s ts t i m ≡ cond b (publish m i (record_of (move_in n s ts t m.slots i))) (more m) → Ends (Sofar (suc i)) (λ r. Unit {0}) (cond b (publish m i (record_of (move_in n s ts t m.slots i))) (more m))
         go true p e = moves p (move_in n s ts t m.slots i) refl e

@@ -35,10 +35,6 @@ use Rattle.character.specs.Records.{net_jumped, core_of}
 use Rattle.character.specs.Tick.{slot_at, steer, flight, hooked, ticked, tick_at, ticked_slot}
 use Rattle.character.specs.declared.Character.{Character}
 use Rattle.character.specs.declared.Slot.{Slot}
-use Rattle.character.specs.declared.tick.HookFlight.{HookFlight}
-use Rattle.character.specs.declared.tick.HookFlight.TheVariants.{TooFar, To}
-use Rattle.character.specs.declared.tick.TickedAt.{TickedAt}
-use Rattle.character.specs.declared.tick.TickedAt.TheVariants as at
 use Rattle.character_laws.proofs.Back.{record_of_lem}
 use Rattle.character_laws.proofs.Others.{Then, SameButVel}
 use Rattle.world.specs.Calls.{place_of}
@@ -48,12 +44,15 @@ use Rattle.world.specs.Step.{tick_all, step}
 use Rattle.world.specs.declared.Published.{Published}
 use Rattle.world.specs.declared.World.{World}
 use Rattle.world.specs.declared.reading.Query.TheVariants as query
-use Rattle.world.specs.declared.reading.Reading.TheVariants as reading
+use Rattle.world.specs.ReadAnswer as reading
 use Rattle.world.proofs.Answers.{place_is}
 use Rattle.world.proofs.Readings.{record_read}
 use Rattle.world_laws.specs.Records.{direction_number, jump_number, HookNumbers, HookMadeOf, MadeOf, Points, TakenFrom, RecordsMade}
 use Rattle.world_laws.proofs.Left.{step-taken}
 use Rattle.world_laws.proofs.Ticks.{ticks_own}
+use Rattle.std.specs.Prelude.{Result, Ok, Err}
+use Rattle.character.specs.declared.tick.AfterTick.{AfterTick}
+use Rattle.game_refusals.specs.declared.Refusal.{Refusal}
 
 -- ---- the record of a character
 numbers : (c : Character) (h : Hook) → c.hook ≡ h → HookNumbers (core_of c) (net_state h) (net_hooked_player h) (pos (tick_of h)) (net_pos h) (net_dir h)
@@ -158,9 +157,9 @@ tick_steers n c id ss s ts i t = go (steer c g i t) refl refl (flight n (steer c
     g : Bool
     g = grounded s ts c.pos
 
-    go : (d : Character) → d.angle ≡ aim i → d.move_direction ≡ move_direction i → (f : HookFlight) → Then (λ a. (a.me.angle ≡ aim i) × (a.me.move_direction ≡ move_direction i)) (ticked n d g id ss t f)
-    go d a b TooFar = tt
-    go d a b (To h) = (a, b)
+    go : (d : Character) → d.angle ≡ aim i → d.move_direction ≡ move_direction i → (f : Result Hook Refusal) → Then (λ a. (a.me.angle ≡ aim i) × (a.me.move_direction ≡ move_direction i)) (ticked n d g id ss t f)
+    go d a b (Err e) = tt
+    go d a b (Ok h) = (a, b)
 
 module _ (i : PlayerInput) where
   record Waiting (x : Slot) : Type 0 where
@@ -175,9 +174,9 @@ module _ (i : PlayerInput) where
       (λ x y e h. subst Waiting (sym e) (record { present = h.present; input = h.input })) (λ x y e h. subst Steered (sym e) h)
       (λ us h. own us (tick_at n (slot_at us j).character j us s ts (slot_at us j).input t) (rw h.input (tick_steers n (slot_at us j).character j us s ts i t)))
     where
-      own : (us : List Slot) (r : TickedAt) → Then (λ a. (a.me.angle ≡ aim i) × (a.me.move_direction ≡ move_direction i)) r → Then (λ a. (x : Slot) → SameButVel (slot_at us j) x → Steered (ticked_slot x a)) r
-      own us at.TooFar e = tt
-      own us (at.To a) e = λ x q. e
+      own : (us : List Slot) (r : Result AfterTick Refusal) → Then (λ a. (a.me.angle ≡ aim i) × (a.me.move_direction ≡ move_direction i)) r → Then (λ a. (x : Slot) → SameButVel (slot_at us j) x → Steered (ticked_slot x a)) r
+      own us (Err why) e = tt
+      own us (Ok a) e = λ x q. e
 
 -- ---- the claims
 step_made : (n : ℕ) (s : Sides) (ts : List ℕ) (w : World) (j : ℕ) → (step n w s ts).number ≡ 0 → j < n → (slot_at w.slots j).present ≡ true → TakenFrom n w s ts j (record_at (step n w s ts).records j).core (slot_at w.slots j).input

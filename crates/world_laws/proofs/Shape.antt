@@ -32,8 +32,6 @@ use Rattle.character.specs.Records.{net_jumped, core_of}
 use Rattle.character.specs.Tick.{slot_at, nowhere, after_pull, tick_at, ticked_slot}
 use Rattle.character.specs.declared.Character.{Character}
 use Rattle.character.specs.declared.Slot.{Slot}
-use Rattle.character.specs.declared.tick.TickedAt.{TickedAt}
-use Rattle.character.specs.declared.tick.TickedAt.TheVariants as ticked
 use Rattle.character_laws.proofs.Back.{record_of_lem}
 use Rattle.character_laws.proofs.Held.{Only, tick-only}
 use Rattle.character_laws.proofs.Others.{Then, pulled_others, pulled-length}
@@ -50,7 +48,7 @@ use Rattle.world.specs.declared.World.{World}
 use Rattle.world.specs.declared.call.Call.{Call}
 use Rattle.world.specs.declared.call.Call.TheVariants.{Join, Leave, Input, Step, Tune}
 use Rattle.world.specs.declared.reading.Query.TheVariants as query
-use Rattle.world.specs.declared.reading.Reading.TheVariants as reading
+use Rattle.world.specs.ReadAnswer as reading
 use Rattle.world.proofs.Held.{held-present}
 use Rattle.world.proofs.Hold.{hook_hold_is}
 use Rattle.world.proofs.Present.{present_follows}
@@ -67,6 +65,9 @@ use Rattle.send_rule.proofs.Linked.{Linked, linked_first, linked_next}
 use Rattle.send_rule.proofs.Messages.{its_copy, has_message, message_of}
 use Rattle.world_laws.specs.Records.{Within, Shape, MessageShaped, RecordShapes}
 use Rattle.world_laws.proofs.Left.{step-taken}
+use Rattle.std.specs.Prelude.{Result, Ok, Err}
+use Rattle.character.specs.declared.tick.AfterTick.{AfterTick}
+use Rattle.game_refusals.specs.declared.Refusal.{Refusal}
 
 -- ---- whole numbers
 between : (k m : ℕ) → k ≤ m → Within (pos 0) (pos m) (pos k)
@@ -183,9 +184,9 @@ module _ (n : ℕ) (s : Sides) (ts : List ℕ) where
   tick-seated : (t : Tuning) (i : ℕ) (us : List Slot) → Seated us → Ends Seated (λ r. Unit {0}) (tick_turn n s ts t i us)
   tick-seated t i us h = let x = slot_at us i in by_test (Ends Seated (λ r. Unit {0})) x.present (λ p. ticks (tick_at n x.character i us s ts x.input t) (tick-only (λ k. k < n) us (λ k q. let l = present_within us k q in omega (arith, l, h.0)) n x.character i s ts x.input t (h.1 i))) (λ p. h)
     where
-      ticks : (r : TickedAt) → Then (λ a. Only (λ k. k < n) a.me.hook) r → Ends Seated (λ q. Unit {0}) (after_tick us i r)
-      ticks ticked.TooFar o = tt
-      ticks (ticked.To a) o =
+      ticks : (r : Result AfterTick Refusal) → Then (λ a. Only (λ k. k < n) a.me.hook) r → Ends Seated (λ q. Unit {0}) (after_tick us i r)
+      ticks (Err e) o = tt
+      ticks (Ok a) o =
           let vs = after_pull us a.pull in
           let kept : (k : ℕ) → Only (λ j. j < n) (slot_at vs k).character.hook = λ k. subst (λ (x : Slot). Only (λ j. j < n) x.character.hook) (sym (pulled_others us a.pull k)) (h.1 k) in
           (length-set vs i (ticked_slot (slot_at vs i) a) ∙ pulled-length us a.pull ∙ h.0, set_every (λ k x. Only (λ j. j < n) x.character.hook) vs i (ticked_slot (slot_at vs i) a) nowhere kept o)

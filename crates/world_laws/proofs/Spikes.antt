@@ -19,7 +19,6 @@ use Rattle.map_tiles.specs.declared.tiles.Sides.{Sides}
 use Rattle.map_tiles.specs.declared.point.Tile.{Tile}
 use Rattle.map_tiles.specs.declared.point.Tile.TheVariants.{Open, Normal, Deadly, Unhookable}
 use Rattle.map_lines.specs.Line.{or_hit, or_nothing, line_turn, line_hit, walk_line, check_line}
-use Rattle.map_lines.specs.declared.lines.LineHit.{LineHit}
 use Rattle.map_walks.specs.Move.{blocked, box_turn, box_turns_taken, walk_box, move_box}
 use Rattle.map_walks.specs.declared.moves.Body.{Body}
 use Rattle.game_refusals.specs.Refusals.{bad_map}
@@ -38,10 +37,11 @@ use Rattle.world.specs.Calls.{join_at, join}
 use Rattle.world.specs.Removal.{ids_of, dies, dying, ids_in}
 use Rattle.world.specs.Run.{without_records}
 use Rattle.world.specs.Step.{Moving, tick_all, moving_from, move_all, step_refused, step_answer, step_on, step}
-use Rattle.world.specs.declared.Stepped.{Stepped}
+use Rattle.world.specs.Answered.{Stepped}
 use Rattle.world.specs.declared.World.{World}
 use Rattle.world.proofs.Removal.{removed_every, listed_ids}
 use Rattle.world_laws.specs.Spikes.{without_spikes, SpikesStopNothing}
+use Rattle.std.specs.Prelude.{Option}
 
 -- ---- tiles
 -- a deadly tile as an open one
@@ -122,7 +122,7 @@ module _ (s : Sides) (ts : List ℕ) where
 
   line_hit_same : (from to : vec2) (dist : Float) (n : ℕ) → line_hit s us from to dist n ≡ line_hit s ts from to dist n
   unfolding line_hit
-  line_hit_same from to dist n = ap (λ (f : ℕ → Unit {0} → Turn (Unit {0}) LineHit). or_nothing (run f n 0 tt)) (fun_ext (λ i. fun_ext (line_turn_same from to dist i)))
+  line_hit_same from to dist n = ap (λ (f : ℕ → Unit {0} → Turn (Unit {0}) (vec2 × Tile)). or_nothing (run f n 0 tt)) (fun_ext (λ i. fun_ext (line_turn_same from to dist i)))
 
   line_same : (from to : vec2) → walk_line s us from to ≡ walk_line s ts from to
   unfolding walk_line

@@ -25,8 +25,8 @@ use Rattle.world.specs.Calls.{place_of, is_in_reach, point_of, join}
 use Rattle.world.specs.Readers.{of_seated, record_now, input_now, mark_now, seated}
 use Rattle.world.specs.World.{fresh, with_slot}
 use Rattle.world.specs.declared.World.{World}
-use Rattle.world.specs.declared.reading.Reading.{Reading}
-use Rattle.world.specs.declared.reading.Reading.TheVariants as reading
+use Rattle.world.specs.ReadAnswer.{ReadAnswer}
+use Rattle.world.specs.ReadAnswer as reading
 use Rattle.world.proofs.Outcomes.{Joins, join_outcome, outcome_facts, outcome_world}
 use Rattle.world.proofs.Present.{fresh_absent}
 use Rattle.world_laws.specs.Start.{FreshWorld, JoinedAt, JoinStarts, at_rest, TuningsByIndex}
@@ -82,7 +82,7 @@ module _ (n : ℕ) (s : Sides) (ts : List ℕ) (w : World) (id x y : ℤ) (full 
   at_seat_lem : slot_at (with_slot w k new).slots k ≡ new
   at_seat_lem = get_or-set_same w.slots k new nowhere (let l = facts.seat in omega (arith, l, full))
 
-  reads : (f : Slot → Reading) → of_seated f (seated n (with_slot w k new) id) ≡ f new
+  reads : (f : Slot → ReadAnswer) → of_seated f (seated n (with_slot w k new) id) ≡ f new
   unfolding seated
   reads f = rw (lt-ltb k n facts.seat, at_seat_lem)
 

@@ -16,16 +16,10 @@ use Rattle.map_tiles.specs.Map.{is_map}
 use Rattle.map_tiles.specs.declared.tiles.Sides.{Sides}
 use Rattle.character_hook.specs.Hook.{id_of}
 use Rattle.character.specs.Records.{to_net}
-use Rattle.character.specs.Tick.{slot_at, tick_at, ticked_of, tick, tick_number}
-use Rattle.character.specs.Walk.{move_at, moved_of, move, move_number}
+use Rattle.character.specs.Tick.{slot_at, tick_at, tick}
+use Rattle.character.specs.Walk.{move_at, move}
 use Rattle.character.specs.declared.Character.{Character}
 use Rattle.character.specs.declared.Slot.{Slot}
-use Rattle.character.specs.declared.records.Net.{Net}
-use Rattle.character.specs.declared.records.Net.TheVariants as net
-use Rattle.character.specs.declared.tick.TickedAt.{TickedAt}
-use Rattle.character.specs.declared.tick.TickedAt.TheVariants as ticked
-use Rattle.character.specs.declared.walk.MovedAt.{MovedAt}
-use Rattle.character.specs.declared.walk.MovedAt.TheVariants as moved
 use Rattle.world.specs.Step.{Moving, after_tick, tick_turn, tick_all, of_net, record_of, publish, move_in, move_turn, moving_from, move_all, step_refused, step_answer, step_on, step}
 use Rattle.world.specs.declared.World.{World}
 use Rattle.world.specs.Answers.{IsMap}
@@ -33,6 +27,14 @@ use Rattle.world.proofs.Answers.{map_is, is_no_map}
 use Rattle.world.proofs.Numbers.{step_number}
 use Rattle.world.proofs.Seats.{last_or_below}
 use Rattle.world_laws.specs.Walks.{TickTooFar, MoveTooFar, StepNumbers}
+use Rattle.std.specs.Prelude.{Result, Ok, Err}
+use Rattle.game_records.specs.declared.CharacterCore.{CharacterCore}
+use Rattle.character.specs.declared.tick.AfterTick.{AfterTick}
+use Rattle.game_refusals.specs.declared.Refusal.{Refusal}
+use Rattle.game_refusals.specs.Refusals.{number_of_answer}
+use Rattle.game_refusals.specs.declared.Refusal.TheVariants.{TooFar}
+use Rattle.game_refusals.specs.Refusals.{number_of}
+use Rattle.character.proofs.Refused.{tick_refused, move_refused}
 
 -- ---- the turn that stops a walk
 goes_on_lem : {S R : Type 0} {s : S} {r : R} → ◌≡◌ {A = Turn S R} (more s) (stop r) → ⊥
@@ -71,35 +73,35 @@ module _ (n : ℕ) (s : Sides) (ts : List ℕ) (tunings : List ℤ) (m : is_map 
   abbrev t : Tuning
   t = tuning_of tunings
 
-  tick_is : (c : Character) (ss : List Slot) (i : PlayerInput) → tick n c (id_of j) ss s ts i tunings ≡ ticked_of (tick_at n c j ss s ts i t)
+  tick_is : (c : Character) (ss : List Slot) (i : PlayerInput) → tick n c (id_of j) ss s ts i tunings ≡ (tick_at n c j ss s ts i t)
   unfolding tick
   tick_is c ss i = rw (m, lt-ltb j n l)
 
-  move_is : (c : Character) (ss : List Slot) → move n c (id_of j) ss s ts tunings ≡ moved_of (move_at n c j ss s ts t)
+  move_is : (c : Character) (ss : List Slot) → move n c (id_of j) ss s ts tunings ≡ (move_at n c j ss s ts t)
   unfolding move
   move_is c ss = rw (m, lt-ltb j n l)
 
   -- the turn of j stops with 9 just where j is there and its tick is refused with 9
-  tick_stops : (ss : List Slot) → (tick_turn n s ts t j ss ≡ stop 9) ↔ (((slot_at ss j).present ≡ true) × (tick_number (tick n (slot_at ss j).character (id_of j) ss s ts (slot_at ss j).input tunings) ≡ 9))
-  tick_stops ss = rw (tick_is (slot_at ss j).character ss (slot_at ss j).input) (go (slot_at ss j).present (tick_at n (slot_at ss j).character j ss s ts (slot_at ss j).input t))
+  tick_stops : (ss : List Slot) → (tick_turn n s ts t j ss ≡ stop 9) ↔ (((slot_at ss j).present ≡ true) × (number_of_answer (tick n (slot_at ss j).character (id_of j) ss s ts (slot_at ss j).input tunings) ≡ 9))
+  tick_stops ss = rw (tick_is (slot_at ss j).character ss (slot_at ss j).input) (go (slot_at ss j).present (tick_at n (slot_at ss j).character j ss s ts (slot_at ss j).input t) (tick_refused n (slot_at ss j).character j ss s ts (slot_at ss j).input t))
     where
-      go : (b : Bool) (k : TickedAt) → (cond b (after_tick ss j k) (more ss) ≡ stop 9) ↔ ((b ≡ true) × (tick_number (ticked_of k) ≡ 9))
-      go false k = (λ e. absurd (goes_on_lem e), λ h. absurd (true≢false (sym h.0)))
-      go true ticked.TooFar = (λ e. (refl, refl), λ h. refl)
-      go true (ticked.To a) = (λ e. absurd (goes_on_lem e), λ h. absurd (omega (arith, h.1)))
+      go : (b : Bool) (k : Result AfterTick Refusal) → ((r : Refusal) → k ≡ Err r → r ≡ TooFar) → (cond b (after_tick ss j k) (more ss) ≡ stop 9) ↔ ((b ≡ true) × (number_of_answer k ≡ 9))
+      go false k far = (λ e. absurd (goes_on_lem e), λ h. absurd (true≢false (sym h.0)))
+      go true (Err r) far = (λ e. (refl, ap number_of (far r refl)), λ h. refl)
+      go true (Ok a) far = (λ e. absurd (goes_on_lem e), λ h. absurd (omega (arith, h.1)))
 
-  move_stops : (v : Moving) → (move_turn n s ts t j v ≡ stop 9) ↔ (((slot_at v.slots j).present ≡ true) × (move_number (move n (slot_at v.slots j).character (id_of j) v.slots s ts tunings) ≡ 9))
+  move_stops : (v : Moving) → (move_turn n s ts t j v ≡ stop 9) ↔ (((slot_at v.slots j).present ≡ true) × (number_of_answer (move n (slot_at v.slots j).character (id_of j) v.slots s ts tunings) ≡ 9))
   unfolding record_of
-  move_stops v = rw (move_is (slot_at v.slots j).character v.slots) (go (slot_at v.slots j).present (move_in n s ts t v.slots j))
+  move_stops v = rw (move_is (slot_at v.slots j).character v.slots) (go (slot_at v.slots j).present (move_in n s ts t v.slots j) (move_refused n (slot_at v.slots j).character j v.slots s ts t))
     where
-      ten : (o : Net) → publish v j (of_net o) ≡ stop 9 → ⊥
-      ten net.TickTooLarge e = let z : ◌≡◌ {A = ℕ} 10 9 = same_stop e in omega (arith, z)
-      ten (net.Core core) e = goes_on_lem e
+      ten : (o : Result CharacterCore Refusal) → publish v j (of_net o) ≡ stop 9 → ⊥
+      ten (Err why) e = let z : ◌≡◌ {A = ℕ} 10 9 = same_stop e in omega (arith, z)
+      ten (Ok core) e = goes_on_lem e
 
-      go : (b : Bool) (k : MovedAt) → (cond b (publish v j (record_of k)) (more v) ≡ stop 9) ↔ ((b ≡ true) × (move_number (moved_of k) ≡ 9))
-      go false k = (λ e. absurd (goes_on_lem e), λ h. absurd (true≢false (sym h.0)))
-      go true moved.TooFar = (λ e. (refl, refl), λ h. refl)
-      go true (moved.To c) = (λ e. absurd (ten (to_net c) e), λ h. absurd (omega (arith, h.1)))
+      go : (b : Bool) (k : Result Character Refusal) → ((r : Refusal) → k ≡ Err r → r ≡ TooFar) → (cond b (publish v j (record_of k)) (more v) ≡ stop 9) ↔ ((b ≡ true) × (number_of_answer k ≡ 9))
+      go false k far = (λ e. absurd (goes_on_lem e), λ h. absurd (true≢false (sym h.0)))
+      go true (Err r) far = (λ e. (refl, ap number_of (far r refl)), λ h. refl)
+      go true (Ok c) far = (λ e. absurd (ten (to_net c) e), λ h. absurd (omega (arith, h.1)))
 
 -- ---- the step
 module _ (n : ℕ) (s : Sides) (ts : List ℕ) (w : World) (m : is_map s ts ≡ true) where

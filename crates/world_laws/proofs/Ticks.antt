@@ -14,11 +14,12 @@ use Rattle.game_tuning.specs.declared.Tuning.{Tuning}
 use Rattle.map_tiles.specs.declared.tiles.Sides.{Sides}
 use Rattle.character.specs.Tick.{slot_at, nowhere, after_pull, tick_at, ticked_slot}
 use Rattle.character.specs.declared.Slot.{Slot}
-use Rattle.character.specs.declared.tick.TickedAt.{TickedAt}
-use Rattle.character.specs.declared.tick.TickedAt.TheVariants as ticked
 use Rattle.character_laws.proofs.Others.{Then, SameButVel, pulled_others, pulled-length}
 use Rattle.world.specs.Step.{after_tick, tick_turn, tick_all}
 use Rattle.world.proofs.Seats.{by_test, present_within}
+use Rattle.std.specs.Prelude.{Result, Ok, Err}
+use Rattle.character.specs.declared.tick.AfterTick.{AfterTick}
+use Rattle.game_refusals.specs.declared.Refusal.{Refusal}
 
 -- j, its slot before its tick and after it; neither asks for the velocity
 module _ (n : ℕ) (s : Sides) (ts : List ℕ) (t : Tuning) (j : ℕ) (Before After : Slot → Type 0)
@@ -39,9 +40,9 @@ module _ (n : ℕ) (s : Sides) (ts : List ℕ) (t : Tuning) (j : ℕ) (Before Af
       go true e = absurd (d (eqb-true m j e))
       go false e = let q = eqb-false m j e in omega (arith, q)
 
-  mine : (us : List Slot) → Upto j us → (r : TickedAt) → Then (λ a. (x : Slot) → SameButVel (slot_at us j) x → After (ticked_slot x a)) r → Ends (Upto (suc j)) (λ q. Unit {0}) (after_tick us j r)
-  mine us h ticked.TooFar e = tt
-  mine us h (ticked.To a) e =
+  mine : (us : List Slot) → Upto j us → (r : Result AfterTick Refusal) → Then (λ a. (x : Slot) → SameButVel (slot_at us j) x → After (ticked_slot x a)) r → Ends (Upto (suc j)) (λ q. Unit {0}) (after_tick us j r)
+  mine us h (Err why) e = tt
+  mine us h (Ok a) e =
       let vs = after_pull us a.pull in
       let same : SameButVel (slot_at us j) (slot_at vs j) = pulled_others us a.pull j in
       let size : length vs ≡ length us = pulled-length us a.pull in
@@ -49,9 +50,9 @@ module _ (n : ℕ) (s : Sides) (ts : List ℕ) (t : Tuning) (j : ℕ) (Before Af
       let is : slot_at (set vs j (ticked_slot (slot_at vs j) a)) j ≡ ticked_slot (slot_at vs j) a = get_or-set_same vs j (ticked_slot (slot_at vs j) a) nowhere l in
       record { present = ap (λ (x : Slot). x.present) is ∙ ap (λ (x : Slot). x.present) same ∙ h.present; before = λ b. absurd (omega arith); after = λ b. subst After (sym is) (e (slot_at vs j) same) }
 
-  other : (m : ℕ) (us : List Slot) → Upto m us → (m ≡ j → ⊥) → (r : TickedAt) → Ends (Upto (suc m)) (λ q. Unit {0}) (after_tick us m r)
-  other m us h d ticked.TooFar = tt
-  other m us h d (ticked.To a) =
+  other : (m : ℕ) (us : List Slot) → Upto m us → (m ≡ j → ⊥) → (r : Result AfterTick Refusal) → Ends (Upto (suc m)) (λ q. Unit {0}) (after_tick us m r)
+  other m us h d (Err e) = tt
+  other m us h d (Ok a) =
       let vs = after_pull us a.pull in
       let same : SameButVel (slot_at us j) (slot_at vs j) = pulled_others us a.pull j in
       let is : slot_at vs j ≡ slot_at (set vs m (ticked_slot (slot_at vs m) a)) j = sym (get_or-set_other vs m j (ticked_slot (slot_at vs m) a) nowhere (λ e. d (sym e))) in
@@ -69,7 +70,7 @@ module _ (n : ℕ) (s : Sides) (ts : List ℕ) (t : Tuning) (j : ℕ) (Before Af
   turn : (m : ℕ) (us : List Slot) → Upto m us → Ends (Upto (suc m)) (λ q. Unit {0}) (tick_turn n s ts t m us)
   turn m us h = by_test (Ends (Upto (suc m)) (λ q. Unit {0})) (slot_at us m).present (λ p. go (eqb m j) refl) (nobody m us h)
     where
-      ticks : (x : ℕ) → TickedAt
+      ticks : (x : ℕ) → Result AfterTick Refusal
       ticks x = tick_at n (slot_at us x).character x us s ts (slot_at us x).input t
 
       go : (c : Bool) → eqb m j ≡ c → Ends (Upto (suc m)) (λ q. Unit {0}) (after_tick us m (ticks m))

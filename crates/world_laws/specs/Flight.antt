@@ -11,8 +11,6 @@ use Rattle.map_tiles.specs.Map.{is_map}
 use Rattle.map_tiles.specs.declared.tiles.Sides.{Sides}
 use Rattle.map_tiles.specs.declared.point.Tile.TheVariants.{Normal, Unhookable}
 use Rattle.map_lines.specs.Line.{check_line}
-use Rattle.map_lines.specs.declared.lines.LineCheck.TheVariants.{Met}
-use Rattle.map_lines.specs.declared.lines.LineHit.TheVariants.{Nothing, At}
 use Rattle.character_hook.specs.declared.hook.CharacterId.{CharacterId}
 use Rattle.character_hook.specs.declared.hook.Hook.TheVariants.{Flying, Attached, Retracting0}
 use Rattle.character.specs.Tick.{tick}
@@ -20,6 +18,8 @@ use Rattle.character.specs.declared.Character.{Character}
 use Rattle.character.specs.declared.Slot.{Slot}
 use Rattle.character_cases.specs.Holding.{HookAfter}
 use Rattle.world_laws.specs.Walks.{hook_fired}
+use Rattle.std.specs.Prelude.{None, Ok}
+use Rattle.std.specs.Prelude.{Some}
 
 -- one tick of flight from a place in a direction
 abbrev pub flown_to : vec2 → vec2 → Tuning → vec2
@@ -37,9 +37,9 @@ line_end p from dir t =
 
 -- a tick of a character whose hook flies from a place in a direction, with player hooking 0: what the line meets decides, also at the hook's length
 pub record FlightEnds (n : ℕ) (c : Character) (id : CharacterId) (ss : List Slot) (s : Sides) (ts : List ℕ) (i : PlayerInput) (tunings : List ℤ) (from dir : vec2) : Type 0 where
-  pub hits : (q : vec2) → check_line s ts from (line_end c.pos from dir (tuning_of tunings)) ≡ Met (At q Normal) → HookAfter (Attached q) (tick n c id ss s ts i tunings)
-  pub bounces : (q : vec2) → check_line s ts from (line_end c.pos from dir (tuning_of tunings)) ≡ Met (At q Unhookable) → HookAfter (Retracting0 q) (tick n c id ss s ts i tunings)
-  pub misses : check_line s ts from (line_end c.pos from dir (tuning_of tunings)) ≡ Met Nothing → let end = line_end c.pos from dir (tuning_of tunings) in HookAfter (cond (too_long c.pos (flown_to from dir (tuning_of tunings)) (tuning_of tunings)) (Retracting0 end) (Flying end dir)) (tick n c id ss s ts i tunings)
+  pub hits : (q : vec2) → check_line s ts from (line_end c.pos from dir (tuning_of tunings)) ≡ Ok (Some (q, Normal)) → HookAfter (Attached q) (tick n c id ss s ts i tunings)
+  pub bounces : (q : vec2) → check_line s ts from (line_end c.pos from dir (tuning_of tunings)) ≡ Ok (Some (q, Unhookable)) → HookAfter (Retracting0 q) (tick n c id ss s ts i tunings)
+  pub misses : check_line s ts from (line_end c.pos from dir (tuning_of tunings)) ≡ Ok None → let end = line_end c.pos from dir (tuning_of tunings) in HookAfter (cond (too_long c.pos (flown_to from dir (tuning_of tunings)) (tuning_of tunings)) (Retracting0 end) (Flying end dir)) (tick n c id ss s ts i tunings)
 
 -- on every map, among any others, with any tunings
 abbrev pub HooksEnd : Type 0

@@ -18,7 +18,6 @@ use Rattle.character_hook.specs.declared.hook.Hook.{Hook}
 use Rattle.character_hook.specs.declared.hook.Hook.TheVariants.{Retracted, Idle, Flying, Grabbed, Attached, Retracting0, Retracting1, Retracting2}
 use Rattle.character.specs.Tick.{slot_at}
 use Rattle.character.specs.declared.Character.{Character}
-use Rattle.character.specs.declared.walk.MovedAt.TheVariants as moved
 use Rattle.world.specs.Demand3.{left, record_at}
 use Rattle.world.specs.Hold.{hold_in}
 use Rattle.world.specs.Readers.{read_of}
@@ -28,9 +27,10 @@ use Rattle.world.specs.declared.World.{World}
 use Rattle.world.specs.declared.call.Call.{Call}
 use Rattle.world.specs.declared.call.Call.TheVariants.{Step}
 use Rattle.world.specs.declared.reading.Query.TheVariants as query
-use Rattle.world.specs.declared.reading.Reading.TheVariants as reading
+use Rattle.world.specs.ReadAnswer as reading
 use Rattle.send_rule.specs.Link.{Link, fresh_link, sent_on, EveryCall, messages}
 use Rattle.send_rule.specs.declared.Passed.TheVariants as passed
+use Rattle.std.specs.Prelude.{Ok}
 
 -- ---- the character that a record is made of
 
@@ -96,7 +96,7 @@ pub record Points (told input : ℤ) : Type 0 where
 -- the record of an accepted step is made of what the move left, and aims and points as the stored input says
 pub record TakenFrom (n : ℕ) (w : World) (s : Sides) (ts : List ℕ) (j : ℕ) (r : CharacterCore) (i : PlayerInput) : Type 0 where
   pub character : Character
-  pub left : left n w s ts j ≡ moved.To character
+  pub left : left n w s ts j ≡ Ok character
   pub made : MadeOf character r
   pub aimed : r.angle ≡ net_angle i.target_x i.target_y
   pub points : Points r.direction i.direction

@@ -15,7 +15,7 @@ use Rattle.world.specs.World.{fresh}
 use Rattle.world.specs.declared.World.{World}
 use Rattle.world.specs.declared.call.Call.TheVariants.{Join}
 use Rattle.world.specs.declared.reading.Query.TheVariants as query
-use Rattle.world.specs.declared.reading.Reading.TheVariants as reading
+use Rattle.world.specs.ReadAnswer as reading
 
 -- ---- a fresh world
 

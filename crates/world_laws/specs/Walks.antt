@@ -13,26 +13,27 @@ use Rattle.game_records.specs.declared.PlayerInput.{PlayerInput}
 use Rattle.game_tuning.specs.Tuning.{tuning_of}
 use Rattle.game_tuning.specs.declared.Tuning.{Tuning}
 use Rattle.map_tiles.specs.declared.tiles.Sides.{Sides}
-use Rattle.map_lines.specs.Line.{check_line, line_number}
-use Rattle.map_walks.specs.Move.{least_dist, move_box, box_number}
+use Rattle.map_lines.specs.Line.{check_line}
+use Rattle.map_walks.specs.Move.{least_dist, move_box}
 use Rattle.map_walks.specs.declared.moves.Body.{Body}
-use Rattle.map_walks.specs.declared.moves.BoxWalk.TheVariants as box
 use Rattle.character_hook.specs.Hook.{id_of}
 use Rattle.character_hook.specs.Hooking.{fire, fly}
 use Rattle.character_hook.specs.declared.hook.CharacterId.{CharacterId}
 use Rattle.character_hook.specs.declared.hook.Hook.{Hook}
 use Rattle.character_hook.specs.declared.hook.Hook.TheVariants.{Flying}
 use Rattle.character_walk.specs.Walking.{c50, ramped_move}
-use Rattle.character.specs.Tick.{slot_at, tick, tick_number}
-use Rattle.character.specs.Walk.{player_walk, move, move_number}
+use Rattle.character.specs.Tick.{slot_at, tick}
+use Rattle.character.specs.Walk.{player_walk, move}
 use Rattle.character.specs.declared.Character.{Character}
 use Rattle.character.specs.declared.Slot.{Slot}
-use Rattle.character.specs.declared.walk.PlayerWalk.TheVariants as among
 use Rattle.world.specs.Answers.{LowestFirst, IsMap}
 use Rattle.world.specs.Run.{ran}
 use Rattle.world.specs.Step.{Moving, tick_turn, tick_all, move_turn, moving_from}
 use Rattle.world.specs.declared.World.{World}
 use Rattle.world.specs.declared.call.Call.TheVariants.{Step}
+use Rattle.std.specs.Prelude.{Ok, Err}
+use Rattle.game_refusals.specs.declared.Refusal.TheVariants.{TooFar}
+use Rattle.game_refusals.specs.Refusals.{number_of_answer}
 
 -- ---- the counts of document 01, as whole numbers
 
@@ -100,17 +101,17 @@ pub data MoveFits (n : ℕ) (c : Character) (id : CharacterId) (s : Sides) (ts :
   no_map : k ≡ 1 → (IsMap s ts → ⊥) → MoveFits n c id s ts t k
   no_seat : k ≡ 2 → n ≤ id.0 → MoveFits n c id s ts t k
   box_too_far : k ≡ 9 → BoxTooFar (ramped_vel c.vel t) → MoveFits n c id s ts t k
-  walk_too_far : k ≡ 9 → (b : Body) → ramped_move s ts c.pos c.vel t ≡ box.To b → WalkTooFar c.pos b.pos t.player_collision → MoveFits n c id s ts t k
+  walk_too_far : k ≡ 9 → (b : Body) → ramped_move s ts c.pos c.vel t ≡ Ok b → WalkTooFar c.pos b.pos t.player_collision → MoveFits n c id s ts t k
 
 -- ---- the claims
 
 -- each walk, and the ticks and moves that they are part of: lowest fitting number first
 pub record WalksRefused : Type 0 where
-  pub line : (s : Sides) (ts : List ℕ) (from to : vec2) → LowestFirst (LineFits s ts from to) (line_number (check_line s ts from to))
-  pub box : (s : Sides) (ts : List ℕ) (at vel box : vec2) → LowestFirst (BoxFits s ts vel) (box_number (move_box s ts at vel box))
-  pub player : (n : ℕ) (ss : List Slot) (id : ℕ) (from to : vec2) (collision : Float) → (player_walk n ss id from to collision ≡ among.TooFar) ↔ WalkTooFar from to collision
-  pub tick : (n : ℕ) (c : Character) (id : CharacterId) (ss : List Slot) (s : Sides) (ts : List ℕ) (i : PlayerInput) (tunings : List ℤ) → LowestFirst (TickFits n c id s ts i (tuning_of tunings)) (tick_number (tick n c id ss s ts i tunings))
-  pub move : (n : ℕ) (c : Character) (id : CharacterId) (ss : List Slot) (s : Sides) (ts : List ℕ) (tunings : List ℤ) → LowestFirst (MoveFits n c id s ts (tuning_of tunings)) (move_number (move n c id ss s ts tunings))
+  pub line : (s : Sides) (ts : List ℕ) (from to : vec2) → LowestFirst (LineFits s ts from to) (number_of_answer (check_line s ts from to))
+  pub box : (s : Sides) (ts : List ℕ) (at vel box : vec2) → LowestFirst (BoxFits s ts vel) (number_of_answer (move_box s ts at vel box))
+  pub player : (n : ℕ) (ss : List Slot) (id : ℕ) (from to : vec2) (collision : Float) → (player_walk n ss id from to collision ≡ (Err TooFar)) ↔ WalkTooFar from to collision
+  pub tick : (n : ℕ) (c : Character) (id : CharacterId) (ss : List Slot) (s : Sides) (ts : List ℕ) (i : PlayerInput) (tunings : List ℤ) → LowestFirst (TickFits n c id s ts i (tuning_of tunings)) (number_of_answer (tick n c id ss s ts i tunings))
+  pub move : (n : ℕ) (c : Character) (id : CharacterId) (ss : List Slot) (s : Sides) (ts : List ℕ) (tunings : List ℤ) → LowestFirst (MoveFits n c id s ts (tuning_of tunings)) (number_of_answer (move n c id ss s ts tunings))
 
 -- in a step on w the tick of j is refused with 9, among the slots that the ticks of the ids below it left
 pub record TickTooFar (n : ℕ) (s : Sides) (ts : List ℕ) (w : World) : Type 0 where
@@ -119,7 +120,7 @@ pub record TickTooFar (n : ℕ) (s : Sides) (ts : List ℕ) (w : World) : Type 0
   pub slots : List Slot
   pub below : run (tick_turn n s ts (tuning_of w.tunings)) j 0 w.slots ≡ more slots
   pub present : (slot_at slots j).present ≡ true
-  pub refused : tick_number (tick n (slot_at slots j).character (id_of j) slots s ts (slot_at slots j).input w.tunings) ≡ 9
+  pub refused : number_of_answer (tick n (slot_at slots j).character (id_of j) slots s ts (slot_at slots j).input w.tunings) ≡ 9
 
 -- all have ticked, and the move of j is refused with 9, among the slots that the moves of the ids below it left
 pub record MoveTooFar (n : ℕ) (s : Sides) (ts : List ℕ) (w : World) : Type 0 where
@@ -130,7 +131,7 @@ pub record MoveTooFar (n : ℕ) (s : Sides) (ts : List ℕ) (w : World) : Type 0
   pub ticked : tick_all n w.slots s ts (tuning_of w.tunings) ≡ more slots
   pub below : run (move_turn n s ts (tuning_of w.tunings)) j 0 (moving_from n slots) ≡ more moving
   pub present : (slot_at moving.slots j).present ≡ true
-  pub refused : move_number (move n (slot_at moving.slots j).character (id_of j) moving.slots s ts w.tunings) ≡ 9
+  pub refused : number_of_answer (move n (slot_at moving.slots j).character (id_of j) moving.slots s ts w.tunings) ≡ 9
 
 -- a step answers 0, 1 or 9 and nothing else, and 9 if and only if a tick or a move in it is refused with 9
 pub record StepNumbers (n : ℕ) : Type 0 where

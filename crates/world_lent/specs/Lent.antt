@@ -1,12 +1,17 @@
 -- The step over lent slots. Definitions only.
-use Rattle.std.specs.Prelude.{ℕ, List, ◌≡◌, ℤ}
+use Rattle.std.specs.Prelude.{ℕ, List, [], ◌≡◌, ℤ, Result, Ok, Err, replicate}
 use Rattle.map_tiles.specs.declared.tiles.Sides.{Sides}
 use Rattle.character.specs.Tick.{seats}
 use Rattle.character.specs.declared.Slot.{Slot}
-use Rattle.world.specs.Step.{step}
-use Rattle.world.specs.declared.Stepped.{Stepped}
+use Rattle.world.specs.Step.{unpublished, step}
+use Rattle.world.specs.Answered.{Stepped}
 use Rattle.world.specs.declared.World.{World}
-use Rattle.world_lent.specs.declared.Told.{Told}
+use Rattle.world.specs.Removal.{listed}
+use Rattle.world.specs.declared.Published.{Published}
+use Rattle.world.specs.declared.Removed.{Removed}
+use Rattle.game_refusals.specs.Refusals.{number_of}
+use Rattle.game_refusals.specs.declared.Refusal.{Refusal}
+use Rattle.world_lent.specs.declared.Records.{Records}
 
 -- the world that a list of slots and the tunings make
 abbrev pub world_of : List Slot → List ℤ → World
@@ -17,6 +22,16 @@ abbrev pub lent_step : List Slot → List ℤ → Sides → List ℕ → Stepped
 lent_step ss ts s tiles = step seats (world_of ss ts) s tiles
 
 -- what is told of a step: all but the world
+pub record Told : Type 0 where
+  pub number : ℕ
+  pub records : List Published
+  pub removed : Removed
+
+-- the same of a step that tells its records or a refusal
+abbrev pub told : Result Records Refusal → Told
+told (Ok r) = record { number = 0; records = r.records; removed = r.removed }
+told (Err refusal) = record { number = number_of refusal; records = replicate seats unpublished; removed = listed seats [] }
+
 abbrev pub told_of : Stepped → Told
 told_of a = record { number = a.number; records = a.records; removed = a.removed }
 

@@ -18,8 +18,6 @@ use Rattle.character_hook.specs.Hook.{tick_of}
 use Rattle.character.specs.Records.{core_of, most_tick, to_net, from_net, quantize}
 use Rattle.character_laws.specs.Representable.{Representable}
 use Rattle.character_laws.proofs.Back.{from_core, to_core, representable_back}
-use Rattle.character.specs.declared.records.Net.{Net}
-use Rattle.character.specs.declared.records.Quantized.TheVariants as quantized
 use Rattle.world.specs.World.{fresh}
 use Rattle.game_tuning.specs.Tuning.{tuning_count}
 use Rattle.world.specs.Run.{after}
@@ -30,6 +28,10 @@ use Rattle.world_numbers.specs.Encoding.{seat_count, each, flag, net_core, recor
 use Rattle.world_numbers.specs.Decoding.{from_zero, is_set, readable, seat_of, seats_of, decoding, ComesBack}
 use Rattle.world_numbers.proofs.Rows.{seat_long}
 use Rattle.world_numbers.proofs.RowsIn.{rows_back}
+use Rattle.std.specs.Prelude.{Result, Err}
+use Rattle.game_records.specs.declared.CharacterCore.{CharacterCore}
+use Rattle.game_refusals.specs.declared.Refusal.{Refusal}
+use Rattle.game_refusals.specs.declared.Refusal.TheVariants.{TickTooLarge}
 
 -- what is asked of a seat
 pub record Kept (s : Slot) : Type 0 where
@@ -44,14 +46,14 @@ ticks_fit c r = go (leb (tick_of c.hook) most_tick) refl
     go : (b : Bool) → leb (tick_of c.hook) most_tick ≡ b → tick_of c.hook ≤ most_tick
     go true e = leb-true (tick_of c.hook) most_tick e
     go false e =
-        let q : quantize c ≡ quantized.TickTooLarge = rw e refl in
+        let q : quantize c ≡ (Err TickTooLarge) = rw e refl in
         let p = representable_back c r in
         let z : ◌≡◌ {A = ℕ} 0 1 = cc in
         omega arith
 
 record_back : (c : Character) → Representable c → from_net (readable (net_core (to_net c))) ≡ c
 unfolding readable from_zero core_of
-record_back c r = ap (λ (n : Net). from_net (readable (net_core n))) (to_core c (ticks_fit c r)) ∙ from_core c r
+record_back c r = ap (λ (n : Result CharacterCore Refusal). from_net (readable (net_core n))) (to_core c (ticks_fit c r)) ∙ from_core c r
 
 pub flag-back : (b : Bool) → is_set (flag b) ≡ b
 unfolding is_set

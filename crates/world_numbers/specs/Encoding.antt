@@ -5,12 +5,12 @@ use Rattle.game_records.specs.Numbers.{core_count, input_count, core_numbers, in
 use Rattle.character.specs.Tick.{seats}
 use Rattle.character.specs.declared.Slot.{Slot}
 use Rattle.character.specs.Records.{to_net}
-use Rattle.character.specs.declared.records.Net.{Net}
-use Rattle.character.specs.declared.records.Net.TheVariants as net
 use Rattle.game_tuning.specs.Tuning.{tuning_count}
 use Rattle.world.specs.Step.{no_core}
 use Rattle.world.specs.declared.Published.{Published}
 use Rattle.world.specs.declared.World.{World}
+use Rattle.std.specs.Prelude.{Result, Ok, Err}
+use Rattle.game_refusals.specs.declared.Refusal.{Refusal}
 
 -- ---- how many numbers there are
 
@@ -59,9 +59,9 @@ abbrev pub flag : Bool → ℤ
 flag b = cond b (pos 1) (pos 0)
 
 -- the record that `to_net` answers; an empty one where it refuses, which no world does that calls reach or numbers stand for (world_numbers/proofs/Any.antt)
-abbrev pub net_core : Net → CharacterCore
-net_core net.TickTooLarge = no_core
-net_core (net.Core core) = core
+abbrev pub net_core : Result CharacterCore Refusal → CharacterCore
+net_core (Err e) = no_core
+net_core (Ok core) = core
 
 -- a seat's presence and record
 unfoldable pub record_numbers : Published → List ℤ

@@ -5,8 +5,9 @@ ghost use Rattle.character.specs.Tick.{seats};
 ghost use Rattle.world_numbers.specs.Encoding.{seat_place, world_count, records_count, flag, net_core, record_numbers, present_numbers, seat_numbers, encoding, records_encoding};
 
 use base_rows::copy;
-use character::{Net, SEATS, Slot};
+use character::{SEATS, Slot};
 use game_records::{CORE, CharacterCore, INPUT, core_numbers, input_numbers};
+use game_refusals::Refusal;
 use game_tuning::TUNINGS;
 use world::{Published, World};
 use world_step::unpublished;
@@ -42,15 +43,12 @@ pub fn flag(set: bool) -> i32
     if set { 1 } else { 0 }
 }
 
-pub fn net_core(net: Net) -> CharacterCore
+pub fn net_core(net: Result<CharacterCore, Refusal>) -> CharacterCore
     ensures { result ≡ net_core net }
 {
     match net {
-        Net::TickTooLarge => {
-            let none = unpublished();
-            none.core
-        }
-        Net::Core(core) => core,
+        Err(_) => unpublished().core,
+        Ok(core) => core,
     }
 }
 

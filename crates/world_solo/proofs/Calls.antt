@@ -21,8 +21,7 @@ use Rattle.world.specs.Calls.{refused, accepted, place_of, point_of, join, relea
 use Rattle.world.specs.World.{with_tuning}
 use Rattle.world.specs.Run.{input_of, ran}
 use Rattle.world.specs.Settled.{Settled}
-use Rattle.world.specs.declared.Answer.{Answer}
-use Rattle.world.specs.declared.Stepped.{Stepped}
+use Rattle.world.specs.Answered.{Answer, Stepped}
 use Rattle.world.specs.declared.World.{World}
 use Rattle.world.proofs.NextSlot.{join_slot, leave_slot, input_slot, tune_slot}
 use Rattle.world.proofs.Outcomes.{outcome_kept, join_outcome, leave_outcome, input_outcome, join_number, leave_number, input_number}

@@ -13,18 +13,12 @@ use Rattle.game_records.specs.declared.CharacterCore.{CharacterCore}
 use Rattle.game_tuning.specs.declared.Tuning.{Tuning}
 use Rattle.character_hook.specs.Hook.{tick_of}
 use Rattle.character_meeting.specs.declared.meeting.HookPull.{HookPull}
-use Rattle.character_meeting.specs.declared.meeting.HookPull.TheVariants.{Nobody}
 use Rattle.character.specs.Records.{most_tick, to_net, from_net}
 use Rattle.character.specs.Slot.{with_character}
 use Rattle.character.specs.Tick.{slot_at, nowhere, after_pull, tick_at, ticked_slot}
 use Rattle.character.specs.Walk.{move_at}
 use Rattle.character.specs.declared.Slot.{Slot}
-use Rattle.character.specs.declared.records.Net.{Net}
 use Rattle.character.specs.declared.tick.AfterTick.{AfterTick}
-use Rattle.character.specs.declared.tick.TickedAt.{TickedAt}
-use Rattle.character.specs.declared.tick.TickedAt.TheVariants as ticked
-use Rattle.character.specs.declared.walk.MovedAt.{MovedAt}
-use Rattle.character.specs.declared.walk.MovedAt.TheVariants as moved
 use Rattle.character_laws.proofs.Alone.{tick-alone, tick_pulls_nobody}
 use Rattle.character_laws.proofs.Held.{record_only, Rests, move_hook}
 use Rattle.character_laws.proofs.Moved.{move-alone}
@@ -32,24 +26,25 @@ use Rattle.character_laws.proofs.Others.{Then}
 use Rattle.world.specs.Step.{Moving, unpublished, after_tick, tick_turn, tick_all, of_net, record_of, publish, move_in, move_turn, moving_from, move_all}
 use Rattle.world.specs.Demand3.{record_at}
 use Rattle.world.specs.declared.Published.{Published}
-use Rattle.world.specs.declared.Recorded.{Recorded}
-use Rattle.world.specs.declared.Recorded.TheVariants.{Refused, Core}
 use Rattle.world.proofs.Seats.{by_test, present_within}
 use Rattle.world_solo.specs.Solo.{Seen}
 use Rattle.world_solo.proofs.Free.{FreeHook, Free, tick_free}
 use Rattle.base_turns.proofs.Own.{On, on_map_lem, run_own}
+use Rattle.std.specs.Prelude.{Option, None, Result, Ok, Err}
+use Rattle.character.specs.declared.Character.{Character}
+use Rattle.game_refusals.specs.declared.Refusal.{Refusal}
 
 -- ---- a seat alone
 
 -- the slot x after its tick; as it was where the tick is refused
-abbrev ticked_to : Slot → TickedAt → Slot
-ticked_to x ticked.TooFar = x
-ticked_to x (ticked.To a) = ticked_slot x a
+abbrev ticked_to : Slot → Result AfterTick Refusal → Slot
+ticked_to x (Err e) = x
+ticked_to x (Ok a) = ticked_slot x a
 
 -- the record and the slot after a move
-abbrev moved_to : Seen → Recorded → Seen
-moved_to y (Refused r) = y
-moved_to y (Core core) = record { taken = record { present = true; core = core }; slot = with_character y.slot (from_net core) }
+abbrev moved_to : Seen → Result CharacterCore Refusal → Seen
+moved_to y (Err r) = y
+moved_to y (Ok core) = record { taken = record { present = true; core = core }; slot = with_character y.slot (from_net core) }
 
 -- what is seen of k so far
 abbrev pub seen_at : ℕ → Moving → Seen
@@ -68,24 +63,24 @@ module _ (n : ℕ) (s : Sides) (ts : List ℕ) (t : Tuning) (k : ℕ) where
   pub ticked_free : (x : Slot) → Free x → Free (ticked_seat x)
   ticked_free x f = by_test Free x.present (λ p. go (tick_at n x.character k [] s ts x.input t) (tick_free n x.character k s ts x.input t f)) (λ p. f)
     where
-      go : (a : TickedAt) → Then (λ a. FreeHook a.me.hook) a → Free (ticked_to x a)
-      go ticked.TooFar h = f
-      go (ticked.To a) h = h
+      go : (a : Result AfterTick Refusal) → Then (λ a. FreeHook a.me.hook) a → Free (ticked_to x a)
+      go (Err e) h = f
+      go (Ok a) h = h
 
   pub moved_free : (y : Seen) → Free y.slot → Free (moved_seat y).slot
   unfolding record_of to_net
   moved_free y f = by_test (λ (z : Seen). Free z.slot) y.slot.present (λ p. go (move_at n y.slot.character k [] s ts t) (move_hook n y.slot.character k [] s ts t)) (λ p. f)
     where
-      go : (d : MovedAt) → Rests (λ d. d.hook ≡ y.slot.character.hook) d → Free (moved_to y (record_of d)).slot
-      go moved.TooFar h = f
-      go (moved.To c) h = by_test (λ (o : Net). Free (moved_to y (of_net o)).slot) (leb (tick_of c.hook) most_tick) (λ e. record_only (λ j. ⊥) c (subst FreeHook (sym h) f)) (λ e. f)
+      go : (d : Result Character Refusal) → Rests (λ d. d.hook ≡ y.slot.character.hook) d → Free (moved_to y (record_of d)).slot
+      go (Err e) h = f
+      go (Ok c) h = by_test (λ (o : Result CharacterCore Refusal). Free (moved_to y (of_net o)).slot) (leb (tick_of c.hook) most_tick) (λ e. record_only (λ j. ⊥) c (subst FreeHook (sym h) f)) (λ e. f)
 
 module _ (n : ℕ) (s : Sides) (ts : List ℕ) (t : Tuning) (collision : ne t.player_collision c0 ≡ false) (hooking : ne t.player_hooking c0 ≡ false) (k : ℕ) (l : k < n) where
   -- ---- the ticks
-  abbrev tick_in : ℕ → List Slot → TickedAt
+  abbrev tick_in : ℕ → List Slot → Result AfterTick Refusal
   tick_in j us = tick_at n (slot_at us j).character j us s ts (slot_at us j).input t
 
-  pulls_nobody : (j : ℕ) (us : List Slot) → Then (λ a. a.pull ≡ Nobody) (tick_in j us)
+  pulls_nobody : (j : ℕ) (us : List Slot) → Then (λ a. a.pull ≡ None) (tick_in j us)
   pulls_nobody j us = tick_pulls_nobody t collision hooking n (slot_at us j).character j us s ts (slot_at us j).input
 
   abbrev Same : List Slot → List Slot → Type 0
@@ -95,9 +90,9 @@ module _ (n : ℕ) (s : Sides) (ts : List ℕ) (t : Tuning) (collision : ne t.pl
   unfolding after_pull
   tick_other j us u d = by_test (On (Same us)) (slot_at us j).present (λ p. go (tick_in j us) (pulls_nobody j us)) (λ p. (tt, refl))
     where
-      go : (a : TickedAt) → Then (λ a. a.pull ≡ Nobody) a → On (Same us) (after_tick us j a)
-      go ticked.TooFar e = tt
-      go (ticked.To a) e = (tt, get_or-set_other (after_pull us a.pull) j k _ nowhere d ∙ ap (λ (p : HookPull). slot_at (after_pull us p) k) e)
+      go : (a : Result AfterTick Refusal) → Then (λ a. a.pull ≡ None) a → On (Same us) (after_tick us j a)
+      go (Err why) e = tt
+      go (Ok a) e = (tt, get_or-set_other (after_pull us a.pull) j k _ nowhere d ∙ ap (λ (p : Option HookPull). slot_at (after_pull us p) k) e)
 
   abbrev Ticks : List Slot → List Slot → Type 0
   Ticks us vs = Unit {0} × (slot_at vs k ≡ ticked_seat n s ts t k (slot_at us k))
@@ -109,18 +104,18 @@ module _ (n : ℕ) (s : Sides) (ts : List ℕ) (t : Tuning) (collision : ne t.pl
       x : Slot
       x = slot_at us k
 
-      own : TickedAt
+      own : Result AfterTick Refusal
       own = tick_at n x.character k [] s ts x.input t
 
       there : {b : Bool} → x.present ≡ b → ticked_seat n s ts t k x ≡ cond b (ticked_to x own) x
       there p = ap (λ (b : Bool). cond b (ticked_to x own) x) p
 
-      set_own : x.present ≡ true → (a : AfterTick) (q : HookPull) → Nobody ≡ q → let vs = after_pull us q in slot_at (set vs k (ticked_slot (slot_at vs k) a)) k ≡ ticked_slot x a
-      set_own p a q e = subst (λ (r : HookPull). let vs = after_pull us r in slot_at (set vs k (ticked_slot (slot_at vs k) a)) k ≡ ticked_slot x a) e (get_or-set_same us k (ticked_slot x a) nowhere (present_within us k p))
+      set_own : x.present ≡ true → (a : AfterTick) (q : Option HookPull) → None ≡ q → let vs = after_pull us q in slot_at (set vs k (ticked_slot (slot_at vs k) a)) k ≡ ticked_slot x a
+      set_own p a q e = subst (λ (r : Option HookPull). let vs = after_pull us r in slot_at (set vs k (ticked_slot (slot_at vs k) a)) k ≡ ticked_slot x a) e (get_or-set_same us k (ticked_slot x a) nowhere (present_within us k p))
 
-      go : x.present ≡ true → (a : TickedAt) → Then (λ a. a.pull ≡ Nobody) a → a ≡ own → On (Ticks us) (after_tick us k a)
-      go p ticked.TooFar e q = tt
-      go p (ticked.To a) e q = (tt, set_own p a a.pull (sym e) ∙ ap (ticked_to x) q ∙ sym (there p))
+      go : x.present ≡ true → (a : Result AfterTick Refusal) → Then (λ a. a.pull ≡ None) a → a ≡ own → On (Ticks us) (after_tick us k a)
+      go p (Err why) e q = tt
+      go p (Ok a) e q = (tt, set_own p a a.pull (sym e) ∙ ap (ticked_to x) q ∙ sym (there p))
 
   pub ticks_seat : (us : List Slot) → On (λ vs. slot_at vs k ≡ ticked_seat n s ts t k (slot_at us k)) (tick_all n us s ts t)
   unfolding tick_all
@@ -143,9 +138,9 @@ module _ (n : ℕ) (s : Sides) (ts : List ℕ) (t : Tuning) (collision : ne t.pl
   move_other : (j : ℕ) (m : Moving) → Room m → (k ≡ j → ⊥) → On (SameSeen m) (move_turn n s ts t j m)
   move_other j m r d = by_test (On (SameSeen m)) (slot_at m.slots j).present (λ p. put (record_of (move_in n s ts t m.slots j))) (λ p. (r, refl))
     where
-      put : (o : Recorded) → On (SameSeen m) (publish m j o)
-      put (Refused q) = tt
-      put (Core core) = (room m j _ r, λ i. record { taken = get_or-set_other m.records j k (record { present = true; core = core }) unpublished d i; slot = get_or-set_other m.slots j k (with_character (slot_at m.slots j) (from_net core)) nowhere d i })
+      put : (o : Result CharacterCore Refusal) → On (SameSeen m) (publish m j o)
+      put (Err q) = tt
+      put (Ok core) = (room m j _ r, λ i. record { taken = get_or-set_other m.records j k (record { present = true; core = core }) unpublished d i; slot = get_or-set_other m.slots j k (with_character (slot_at m.slots j) (from_net core)) nowhere d i })
 
   abbrev MovesSeen : Moving → Moving → Type 0
   MovesSeen m u = Room u × (seen_at k u ≡ moved_seat n s ts t k (seen_at k m))
@@ -162,12 +157,12 @@ module _ (n : ℕ) (s : Sides) (ts : List ℕ) (t : Tuning) (collision : ne t.pl
       there : {b : Bool} → x.present ≡ b → moved_seat n s ts t k (seen_at k m) ≡ cond b own (seen_at k m)
       there p = ap (λ (b : Bool). cond b own (seen_at k m)) p
 
-      both : x.present ≡ true → (core : CharacterCore) → seen_at k (record { slots = set m.slots k (with_character x (from_net core)); records = set m.records k (record { present = true; core = core }) }) ≡ moved_to (seen_at k m) (Core core)
+      both : x.present ≡ true → (core : CharacterCore) → seen_at k (record { slots = set m.slots k (with_character x (from_net core)); records = set m.records k (record { present = true; core = core }) }) ≡ moved_to (seen_at k m) (Ok core)
       both p core = λ i. record { taken = get_or-set_same m.records k (record { present = true; core = core }) unpublished r i; slot = get_or-set_same m.slots k (with_character x (from_net core)) nowhere (present_within m.slots k p) i }
 
-      put : x.present ≡ true → (o : Recorded) → o ≡ record_of (move_at n x.character k [] s ts t) → On (MovesSeen m) (publish m k o)
-      put p (Refused q) e = tt
-      put p (Core core) e = (room m k _ r, both p core ∙ ap (moved_to (seen_at k m)) e ∙ sym (there p))
+      put : x.present ≡ true → (o : Result CharacterCore Refusal) → o ≡ record_of (move_at n x.character k [] s ts t) → On (MovesSeen m) (publish m k o)
+      put p (Err q) e = tt
+      put p (Ok core) e = (room m k _ r, both p core ∙ ap (moved_to (seen_at k m)) e ∙ sym (there p))
 
   pub moves_seat : (us : List Slot) → On (λ m. seen_at k m ≡ moved_seat n s ts t k (record { taken = unpublished; slot = slot_at us k })) (move_all n us s ts t)
   unfolding move_all

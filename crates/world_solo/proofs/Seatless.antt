@@ -19,14 +19,15 @@ use Rattle.world.specs.Step.{Moving, unpublished, tick_all, record_of, publish, 
 use Rattle.world.specs.Run.{ran}
 use Rattle.world.specs.Settled.{Settled}
 use Rattle.world.specs.declared.Published.{Published}
-use Rattle.world.specs.declared.Recorded.{Recorded}
-use Rattle.world.specs.declared.Recorded.TheVariants.{Refused, Core}
-use Rattle.world.specs.declared.Stepped.{Stepped}
+use Rattle.world.specs.Answered.{Stepped}
 use Rattle.world.specs.declared.World.{World}
 use Rattle.world.proofs.Seats.{by_test}
 use Rattle.world.proofs.Settled.{answer-settled}
 use Rattle.world_solo.specs.Solo.{for_other, without_other, Seen, seen_by, seen}
 use Rattle.base_turns.proofs.Own.{On}
+use Rattle.std.specs.Prelude.{Result, Ok, Err}
+use Rattle.game_records.specs.declared.CharacterCore.{CharacterCore}
+use Rattle.game_refusals.specs.declared.Refusal.{Refusal}
 
 -- ---- a step has one record for each slot
 module _ (n : ℕ) (s : Sides) (ts : List ℕ) (w : World) where
@@ -39,9 +40,9 @@ module _ (n : ℕ) (s : Sides) (ts : List ℕ) (w : World) where
   move_turn_lem : (j : ℕ) (m : Moving) → Sized m → On Sized (move_turn n s ts t j m)
   move_turn_lem j m h = by_test (On Sized) (slot_at m.slots j).present (λ p. go (record_of (move_in n s ts t m.slots j))) (λ p. h)
     where
-      go : (o : Recorded) → On Sized (publish m j o)
-      go (Refused r) = tt
-      go (Core core) = length-set m.records j (record { present = true; core = core }) ∙ h
+      go : (o : Result CharacterCore Refusal) → On Sized (publish m j o)
+      go (Err r) = tt
+      go (Ok core) = length-set m.records j (record { present = true; core = core }) ∙ h
 
   moves_sized : (us : List Slot) → On Sized (move_all n us s ts t)
   unfolding move_all

@@ -24,7 +24,7 @@ use Rattle.world.specs.Calls.{vacate}
 use Rattle.world.specs.Removal.{dies, dying, remove_all, is_in}
 use Rattle.world.specs.Step.{Moving, unpublished, tick_all, move_all, step_answer, step_on, step}
 use Rattle.world.specs.Demand3.{record_at}
-use Rattle.world.specs.declared.Stepped.{Stepped}
+use Rattle.world.specs.Answered.{Stepped}
 use Rattle.world.specs.declared.World.{World}
 use Rattle.world.proofs.Removal.{dying_are, removed_kept}
 use Rattle.world.proofs.Seats.{by_test, Same, Settling, ticks_same, moves-settle}

@@ -12,7 +12,7 @@ use Rattle.world.specs.Step.{step}
 use Rattle.world.specs.Run.{ran}
 use Rattle.world.specs.Demand3.{record_at}
 use Rattle.world.specs.declared.Published.{Published}
-use Rattle.world.specs.declared.Stepped.{Stepped}
+use Rattle.world.specs.Answered.{Stepped}
 use Rattle.world.specs.declared.World.{World}
 
 -- ---- the calls for other ids struck out

@@ -1,22 +1,25 @@
 // What a call does to a world.
-ghost use Rattle.std.specs.Prelude.{◌≡◌};
+ghost use Rattle.std.specs.Prelude.{[], ◌≡◌, replicate};
 ghost use Rattle.character.specs.Tick.{seats};
-ghost use Rattle.world.specs.Run.{without_records, ran};
+ghost use Rattle.world.specs.Removal.{listed};
+ghost use Rattle.world.specs.Run.{ran};
+ghost use Rattle.world.specs.Step.{unpublished, stepped};
 
 use crate::removing::nobody;
 use crate::steps::{no_records, step};
 use game_records::PlayerInput;
+use game_refusals::Refusal;
 use map_tiles::Sides;
-use world::{Answer, Call, Stepped, World};
+use world::{AfterStep, Call, World};
 use world_calls::{input, leave, tune};
 use world_joins::join;
 
-pub fn run_call(world: World, sides: Sides, tiles: &[u8], call: Call) -> Stepped
-    ensures { result ≡ ran seats sides tiles.now world call }
+pub fn run_call(world: World, sides: Sides, tiles: &[u8], call: Call) -> Result<AfterStep, Refusal>
+    ensures { stepped seats world result ≡ ran seats sides tiles.now world call }
 {
     match call {
-        Call::Join { id, x, y } => without_records(join(world, sides, tiles, id, x, y)),
-        Call::Leave { id } => without_records(leave(world, id)),
+        Call::Join { id, x, y } => Ok(without_records(join(world, sides, tiles, id, x, y)?)),
+        Call::Leave { id } => Ok(without_records(leave(world, id)?)),
         Call::Input {
             id,
             direction,
@@ -32,21 +35,30 @@ pub fn run_call(world: World, sides: Sides, tiles: &[u8], call: Call) -> Stepped
                 jump,
                 hook,
             };
-            without_records(input(world, id, values))
+            Ok(without_records(input(world, id, values)?))
         }
         Call::Step => step(world, sides, tiles),
-        Call::Tune { index, value } => without_records(tune(world, index, value)),
+        Call::Tune { index, value } => Ok(without_records(tune(world, index, value)?)),
     }
 }
 
-fn without_records(answer: Answer) -> Stepped
-    ensures { result ≡ without_records seats answer }
+// Nothing is recorded and nobody removed.
+fn without_records(world: World) -> AfterStep
+    ensures { result ≡ record { world = world; records = replicate seats unpublished; removed = listed seats [] } }
 {
-    let world = answer.world;
-    Stepped {
-        number: answer.number,
+    AfterStep {
         world,
         records: no_records(),
         removed: nobody(),
+    }
+}
+
+// The world after a call: as it was where that was refused.
+pub fn world_after(world: World, answer: Result<AfterStep, Refusal>) -> World
+    ensures { result ≡ (stepped seats world answer).world }
+{
+    match answer {
+        Ok(after) => after.world,
+        Err(_) => world,
     }
 }

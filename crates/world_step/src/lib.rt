@@ -6,6 +6,6 @@ mod moving;
 mod removing;
 mod steps;
 
-pub use calling::run_call;
-pub use moving::{record_of, unpublished};
-pub use steps::{refused, step};
+pub use calling::{run_call, world_after};
+pub use moving::unpublished;
+pub use steps::step;

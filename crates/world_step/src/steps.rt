@@ -2,35 +2,26 @@
 ghost use Rattle.std.specs.Prelude.{◌≡◌, T, replicate};
 ghost use Rattle.map_tiles.specs.Map.{is_map};
 ghost use Rattle.character.specs.Tick.{seats};
-ghost use Rattle.world.specs.Step.{unpublished, step_refused, step_on, step};
+ghost use Rattle.world.specs.Step.{unpublished, tick_all, move_all, turned, stepped, step_on, step};
+ghost use Rattle.base_turns.specs.Turns.{next};
+ghost use Rattle.world_step.specs.Moves.{moving_of};
 
-use crate::moving::{move_all, unpublished};
-use crate::removing::{nobody, remove_dying};
-use character::SEATS;
-use game_refusals::BAD_MAP;
-use game_tuning::tuning_of;
+use crate::moving::{Moves, move_all, unpublished};
+use crate::removing::remove_dying;
+use character::{SEATS, Slot};
+use game_refusals::Refusal;
+use game_tuning::{Tuning, tuning_of};
 use map_tiles::{Sides, is_map};
-use world::{Published, Stepped, World};
+use world::{AfterStep, Published, World};
 use world_ticks::tick_all;
 
-pub fn step(world: World, sides: Sides, tiles: &[u8]) -> Stepped
-    ensures { result ≡ step seats world sides tiles.now }
+pub fn step(world: World, sides: Sides, tiles: &[u8]) -> Result<AfterStep, Refusal>
+    ensures { stepped seats world result ≡ step seats world sides tiles.now }
 {
     if is_map(sides, tiles) {
         return step_on(world, sides, tiles);
     }
-    refused(world, BAD_MAP)
-}
-
-pub fn refused(world: World, number: u32) -> Stepped
-    ensures { result ≡ step_refused seats world number }
-{
-    Stepped {
-        number,
-        world,
-        records: no_records(),
-        removed: nobody(),
-    }
+    Err(Refusal::BadMap)
 }
 
 pub fn no_records() -> [Published; SEATS]
@@ -40,31 +31,35 @@ pub fn no_records() -> [Published; SEATS]
 }
 
 // The same for a map that is one.
-fn step_on(world: World, sides: Sides, tiles: &[u8]) -> Stepped
+fn step_on(world: World, sides: Sides, tiles: &[u8]) -> Result<AfterStep, Refusal>
     requires { T (is_map sides tiles.now) }
-    ensures { result ≡ step_on seats world sides tiles.now }
+    ensures { stepped seats world result ≡ step_on seats world sides tiles.now }
 {
     let tunings = world.tunings;
     let before = world.slots;
-    let tuning = tuning_of(tunings);
-    let ticked = tick_all(before, sides, tiles, tuning);
-    if ticked.done {
-        let between = ticked.slots;
-        let moved = move_all(between, sides, tiles, tuning);
-        if moved.done {
-            let slots = moved.slots;
-            let records = moved.records;
-            let left = remove_dying(World { slots, tunings }, sides, tiles);
-            let next = left.world;
-            let removed = left.removed;
-            return Stepped {
-                number: 0,
-                world: next,
-                records,
-                removed,
-            };
-        }
-        return refused(world, moved.number);
-    }
-    refused(world, ticked.number)
+    let moved = move_ticked(before, sides, tiles, tuning_of(tunings))?;
+    let slots = moved.slots;
+    let records = moved.records;
+    let left = remove_dying(World { slots, tunings }, sides, tiles);
+    let next = left.world;
+    let removed = left.removed;
+    Ok(AfterStep {
+        world: next,
+        records,
+        removed,
+    })
+}
+
+// All tick, then all move.
+fn move_ticked(
+    slots: [Slot; SEATS],
+    sides: Sides,
+    tiles: &[u8],
+    tuning: Tuning,
+) -> Result<Moves, Refusal>
+    requires { T (is_map sides tiles.now) }
+    ensures { next (λ ss. move_all seats ss sides tiles.now tuning) (tick_all seats slots sides tiles.now tuning) ≡ turned moving_of result }
+{
+    let ticked = tick_all(slots, sides, tiles, tuning)?;
+    move_all(ticked, sides, tiles, tuning)
 }

@@ -3,4 +3,4 @@
 
 mod ticking;
 
-pub use ticking::{Ticks, tick_all};
+pub use ticking::tick_all;

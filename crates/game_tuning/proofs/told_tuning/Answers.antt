@@ -18,8 +18,8 @@ overflow_cast-result c = record { sfits = small _ _ c.hold_of.ensures }
 
 pub returns-then-index-eq-HOOK_HOLD : goal.returns-then-index-eq-HOOK_HOLD
 unfolding told_tuning
-returns-then-index-eq-HOOK_HOLD c = rw c.before.if-index-eq-HOOK_HOLD.true (to_z_pos w32 (small _ _ c.hold_of.ensures) ∙ ap pos (c.hold_of.ensures ∙ ap hold_of (to_z-of_z c.before.before.ranges.value)))
+returns-then-index-eq-HOOK_HOLD c = rw c.if-index-eq-HOOK_HOLD.true (to_z_pos w32 (small _ _ c.hold_of.ensures) ∙ ap pos (c.hold_of.ensures ∙ ap hold_of (to_z-of_z c.ranges.value)))
 
-pub returns : goal.returns
+pub returns-else-index-eq-HOOK_HOLD : goal.returns-else-index-eq-HOOK_HOLD
 unfolding told_tuning
-returns c = rw (ne_eqb _ _ c.if-index-eq-HOOK_HOLD.false) (to_z-of_z c.before.ranges.value)
+returns-else-index-eq-HOOK_HOLD c = rw (ne_eqb _ _ c.if-index-eq-HOOK_HOLD.false) (to_z-of_z c.ranges.value)

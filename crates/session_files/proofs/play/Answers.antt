@@ -1,5 +1,5 @@
 -- A turn more, what the last turn wrote, and that the turns are enough.
-use Rattle.std.proofs.Common.{rules, ℕ, ◌+◌, ◌-◌, ◌*◌, ◌≤◌, List, [], ◌++◌, ◌≡◌, false, length, take, refl, sym, ap, ◌∙◌, subst, append_assoc, append-nil, add-one, arith}
+use Rattle.std.proofs.Common.{rules, ℕ, ◌+◌, ◌*◌, ◌≤◌, List, [], ◌++◌, ◌≡◌, false, length, take, refl, sym, ap, ◌∙◌, subst, append_assoc, append-nil, add-one, arith}
 use Rattle.std.specs.Io.KnownBytes.{Appends}
 use Rattle.std.proofs.KnownBytes.{Appends-nil, Appends-trans}
 use Rattle.std.proofs.Math.Seq.{take-append-add}
@@ -34,15 +34,14 @@ loop-init g c = record {
   all = sym (append-nil _);
 }
 
-pub returns-then-session-clause-played : goal.returns-then-session-clause-played
-returns-then-session-clause-played g c =
+pub returns-then-turned-clause-played : goal.returns-then-turned-clause-played
+returns-then-turned-clause-played g c =
     let i = c.loop.invariant in
     let now = take c.loop.turned.next c.loop.buf in
-    let whole : c.loop.turned.next - 0 ≡ c.loop.turned.next = omega arith in
     let contents = g.W.Write.contents in
-    let wrote : Appends (contents c.loop.output) (contents c.write_full.new.output) now = subst (λ (k : ℕ). Appends (contents c.loop.output) (contents c.write_full.new.output) (take k c.loop.buf)) whole c.in_ok-write_full.ensures.bytes in
+    let wrote : Appends (contents c.loop.output) (contents c.write_full.new.output) now = c.in_ok-write_full.ensures.bytes in
     let so_far = Appends-trans (contents c.args.output.now) (contents c.loop.output) (contents c.write_full.new.output) i.written now i.appended wrote in
-    (record { turns = c.loop.counter; out = i.out; played = i.played; done = c.if-session.true }, subst (Appends (contents c.args.output.now) (contents c.write_full.new.output)) i.all so_far)
+    (record { turns = c.loop.counter; out = i.out; played = i.played; done = c.if-turned.true }, subst (Appends (contents c.args.output.now) (contents c.write_full.new.output)) i.all so_far)
 
 pub loop-preserved : goal.loop-preserved
 loop-preserved g c =
@@ -50,14 +49,13 @@ loop-preserved g c =
     let r = c.run_lines-turned in
     let now = take c.loop.turned.next c.loop.buf in
     let next = take r.result.next r.new.buf in
-    let whole : c.loop.turned.next - 0 ≡ c.loop.turned.next = omega arith in
     let contents = g.W.Write.contents in
-    let wrote : Appends (contents c.loop.output) (contents c.write_full.new.output) now = subst (λ (k : ℕ). Appends (contents c.loop.output) (contents c.write_full.new.output) (take k c.loop.buf)) whole c.in_ok-write_full.ensures.bytes in
+    let wrote : Appends (contents c.loop.output) (contents c.write_full.new.output) now = c.in_ok-write_full.ensures.bytes in
     record {
       same_length = search rules;
       next_within = lines_within r.ensures.lines_ran (omega arith);
       out = i.out ++ next;
-      played = played_on c.loop.counter i.played c.if-session.false (omega (arith, i.same_length)) r.ensures.lines_ran r.ensures.buf_value;
+      played = played_on c.loop.counter i.played c.if-turned.false (omega (arith, i.same_length)) r.ensures.lines_ran r.ensures.buf_value;
       written = i.written ++ now;
       appended = Appends-trans (contents c.args.output.now) (contents c.loop.output) (contents c.write_full.new.output) i.written now i.appended wrote;
       all = joined i.written now (take c.args.first.next c.args.buf.now) i.out next i.all;
@@ -69,9 +67,8 @@ returns-in_err-write_full-clause-err g c =
     let i = c.loop.invariant in
     let (n, within, some) = c.in_err-write_full.ensures.err in
     let now = take c.loop.turned.next c.loop.buf in
-    let whole : c.loop.turned.next - 0 ≡ c.loop.turned.next = omega arith in
     let contents = g.W.Write.contents in
-    let wrote : Appends (contents c.loop.output) (contents c.write_full.new.output) (take n now) = subst (λ (k : ℕ). Appends (contents c.loop.output) (contents c.write_full.new.output) (take n (take k c.loop.buf))) whole some in
+    let wrote : Appends (contents c.loop.output) (contents c.write_full.new.output) (take n now) = some in
     let so_far = Appends-trans (contents c.args.output.now) (contents c.loop.output) (contents c.write_full.new.output) i.written (take n now) i.appended wrote in
     let front = sym (take-append-add i.written now n) ∙ ap (take (length i.written + n)) i.all in
     let left : (turns : ℕ) × (f : Session) × (out : List ℕ) × Played seats c.args.text.now c.args.sides c.args.tiles.now c.args.first.session turns f out × (k : ℕ) × Appends (contents c.args.output.now) (contents c.write_full.new.output) (take k (take c.args.first.next c.args.buf.now ++ out)) = (c.loop.counter, c.loop.turned.session, i.out, i.played, length i.written + n, subst (Appends (contents c.args.output.now) (contents c.write_full.new.output)) front so_far) in

@@ -1,5 +1,5 @@
 -- The row is as long as the most that is read, so what does not fill it is the whole input.
-use Rattle.std.proofs.Common.{◌≡◌, ◌<◌, length, take, refl, sym, ◌∙◌, subst}
+use Rattle.std.proofs.Common.{◌≡◌, ◌<◌, length, take, refl, sym, subst}
 use Rattle.std.proofs.lemmas.List.{length-take-le}
 use Rattle.session_run.specs.Start.{most_read}
 use Rattle.session_files.proofs.play_file.Goals as goal

@@ -1,5 +1,6 @@
 -- What `begin` leaves is played on, and what it wrote is written first.
-use Rattle.std.proofs.Common.{rules, ℕ, ◌-◌, List, ◌≡◌, take, refl, ap, arith}
+use Rattle.std.proofs.Common.{rules, ℕ, List, take, refl, sym}
+use Rattle.std.proofs.lemmas.List.{length-take-le}
 use Rattle.std.proofs.lemmas.Result.{IfOk-weaker, IfErr-weaker}
 use Rattle.session_run.specs.Start.{Began}
 use Rattle.session_run.specs.declared.start.Begun.{Begun}
@@ -9,11 +10,14 @@ use Rattle.session_laws.proofs.Within.{count_within}
 use Rattle.session_files.proofs.play_text.Goals as goal
 
 -- what `begin` leaves, with the part of the tiles that is lent on
-begun_started : {n : ℕ} {text ts d : List ℕ} {r : Begun} {e : List ℕ} → Began n text ts d r e → Started n text r.sides (take (r.count - 0) ts) r.first e
-begun_started {ts = ts} {r = r} b = let all : r.count ≡ r.count - 0 = omega arith in record { tiles = _; buffer = _; begun = r; began = b; on_sides = refl; on_tiles = ap (λ (k : ℕ). take k ts) all; is_first = refl }
+begun_started : {n : ℕ} {text ts d : List ℕ} {r : Begun} {e : List ℕ} → Began n text ts d r e → Started n text r.sides (take r.count ts) r.first e
+begun_started {r = r} b = record { tiles = _; buffer = _; begun = r; began = b; on_sides = refl; on_tiles = refl; is_first = refl }
+
+pub slice_bounds-tiles-end : goal.slice_bounds-tiles-end
+slice_bounds-tiles-end g c = count_within c.begin-begun.ensures
 
 pub slice_bounds-play-end : goal.slice_bounds-play-end
-slice_bounds-play-end g c = count_within c.begin-begun.ensures
+slice_bounds-play-end g c = sym (length-take-le _ _ (count_within c.begin-begun.ensures))
 
 pub play-requires : goal.play-requires
 play-requires g c = (begun_started c.begin-begun.ensures, search rules)

@@ -4,7 +4,3 @@ use Rattle.world_lent.proofs.load.Given as goal
 
 abbrev pub invariant-loop-from : goal.invariant-loop-from
 invariant-loop-from l = (l.from ≤ seats) × (length l.world.slots ≡ seats) × (l.world.tunings ≡ l.fn.tunings) × (take l.from l.world.slots ≡ take l.from l.slots)
-
--- proposed from the loop's first test
-abbrev pub decreases-loop-from : goal.decreases-loop-from
-decreases-loop-from l = 64 - l.from

@@ -4,7 +4,3 @@ use Rattle.world_lent.proofs.store.Given as goal
 
 abbrev pub invariant-loop-at : goal.invariant-loop-at
 invariant-loop-at l = (length l.slots ≡ seats) × (l.at ≤ seats) × (take l.at l.slots ≡ take l.at l.world.slots)
-
--- proposed from the loop's first test
-abbrev pub decreases-loop-at : goal.decreases-loop-at
-decreases-loop-at l = 64 - l.at

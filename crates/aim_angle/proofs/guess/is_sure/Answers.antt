@@ -44,12 +44,12 @@ overflow_sub-result c =
     let d = c.before.before.before.before.doubt-doubt in
     away _ _ (held a.ranges.x a.ranges.y a.requires.0) d.result (sfits_of d.type_inv) d.ensures
 
-pub returns : goal.returns
-returns c e =
+pub returns-else-n-eq804 : goal.returns-else-n-eq804
+returns-else-n-eq804 c e =
     let a = c.before.before.before.before.before in
     let d = c.before.before.before.before.doubt-doubt in
     let s = c.before.before.before.near_side in
-    let u = c.near_side-2 in
+    let u = c.near_side-else-n-eq804 in
     let t = held a.ranges.x a.ranges.y a.requires.0 in
     angle_end _ _ a.args.n t a.requires.1
     (fits _ _ t d.result (sfits_of d.type_inv) d.ensures a.args.n s.result (sfits_of s.type_inv) s.ensures c.before.before.if-near_side-doubt.false)

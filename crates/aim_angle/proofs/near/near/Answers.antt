@@ -1,5 +1,4 @@
-use Rattle.std.proofs.Common.{◌≡◌, ◌*◌, ◌/◌, ◌%◌, ◌^◌, ◌≤◌, ℤ, nat_abs, sym, ◌∙◌, subst, arith, to_z-of_z, w64, SFits, to_z, of_z}
-use borrow.Author.Rules.{sfits_of}
+use Rattle.std.proofs.Common.{◌≡◌, ◌*◌, ◌/◌, ◌%◌, ◌^◌, ◌≤◌, ℤ, nat_abs, sym, ◌∙◌, subst, arith, to_z-of_z, w64, SFits, to_z, of_z, rules}
 use Rattle.aim_tables.specs.Rules.{cos_at, sin_at, apart}
 use Rattle.aim_tables.proofs.Rules.{small}
 use Rattle.aim_angle.specs.declared.near.Point.{Point}
@@ -19,24 +18,17 @@ turned_same p q r u = cc
 
 pub turned-requires : goal.turned-requires
 turned-requires c =
-    let b = c.before in
-    let s = b.before in
-    let k = s.before in
-    let n = k.before.args.n in
+    let n = c.args.n in
     let a = small (32 * (n / 32)) (omega arith) in
-    let d = small (n % 32) (omega arith) in (
-      entry (sfits_of k.cos_32.type_inv) k.cos_32.ensures a.0,
-      entry (sfits_of s.sin_32.type_inv) s.sin_32.ensures a.1,
-      entry (sfits_of b.cos_1.type_inv) b.cos_1.ensures d.0,
-      entry (sfits_of c.sin_1.type_inv) c.sin_1.ensures d.1,
-    )
+    let d = small (n % 32) (omega arith) in
+    let p = c.coarse-c.ensures in
+    let q = c.fine-d.ensures in
+    (entry (search rules) p.0 a.0, entry (search rules) p.1 a.1, entry (search rules) q.0 d.0, entry (search rules) q.1 d.1)
 
 pub returns : goal.returns
 returns c =
-    let b = c.before in
-    let s = b.before in
-    let k = s.before in
-    let j = k.before in
-    let n = j.before.args.n in
-    let e = c.turned.ensures ∙ turned_same (same (sfits_of j.cos_32.type_inv) j.cos_32.ensures) (same (sfits_of k.sin_32.type_inv) k.sin_32.ensures) (same (sfits_of s.cos_1.type_inv) s.cos_1.ensures) (same (sfits_of b.sin_1.type_inv) b.sin_1.ensures) in
-    subst (λ (p : Point). (apart p.c (cos_at n) ≤ 2) × (apart p.s (sin_at n) ≤ 2)) (sym e) (close n j.before.requires)
+    let n = c.args.n in
+    let p = c.coarse-c.ensures in
+    let q = c.fine-d.ensures in
+    let e = c.turned.ensures ∙ turned_same (same (search rules) p.0) (same (search rules) p.1) (same (search rules) q.0) (same (search rules) q.1) in
+    subst (λ (p : Point). (apart p.c (cos_at n) ≤ 2) × (apart p.s (sin_at n) ≤ 2)) (sym e) (close n c.requires)

@@ -32,34 +32,31 @@ module _ (l t : List ℤ) (n : ℕ) (e : l ≡ t) (h : nat_abs (get_or t n (pos 
   product z k = sfits_abs (z *ℤ get_or t n (pos 0)) (lt_of_le_of_lt (mul_abs z (get_or t n (pos 0)) k h) (lit< tt))
 
 pub overflow_cast-result : goal.overflow_cast-result
-overflow_cast-result c = let a = c.before in cast a.args.sin.now sin_t a.args.n a.requires.3 (small a.args.n (omega arith)).1
+overflow_cast-result c = cast c.sines-sin.result.now sin_t c.args.n c.sines-sin.ensures (small c.args.n (omega arith)).1
 
 pub overflow_mul-result : goal.overflow_mul-result
 overflow_mul-result c =
-    let a = c.before in
-    let z = (small a.args.n (omega arith)).1 in
-    rw (to_z-of_z a.ranges.x, read a.args.sin.now sin_t a.args.n a.requires.3 z) (product a.args.sin.now sin_t a.args.n a.requires.3 z a.args.x a.requires.0.x_small)
+    let z = (small c.args.n (omega arith)).1 in
+    rw (to_z-of_z c.ranges.x, read c.sines-sin.result.now sin_t c.args.n c.sines-sin.ensures z) (product c.sines-sin.result.now sin_t c.args.n c.sines-sin.ensures z c.args.x c.requires.0.x_small)
 
 pub overflow_cast-result-2 : goal.overflow_cast-result-2
-overflow_cast-result-2 c = let a = c.before.before in cast a.args.cos.now cos_t a.args.n a.requires.2 (small a.args.n (omega arith)).0
+overflow_cast-result-2 c = cast c.cosines-cos.result.now cos_t c.args.n c.cosines-cos.ensures (small c.args.n (omega arith)).0
 
 pub overflow_mul-result-2 : goal.overflow_mul-result-2
 overflow_mul-result-2 c =
-    let a = c.before.before in
-    let z = (small a.args.n (omega arith)).0 in
-    rw (to_z-of_z a.ranges.y, read a.args.cos.now cos_t a.args.n a.requires.2 z) (product a.args.cos.now cos_t a.args.n a.requires.2 z a.args.y a.requires.0.y_small)
+    let z = (small c.args.n (omega arith)).0 in
+    rw (to_z-of_z c.ranges.y, read c.cosines-cos.result.now cos_t c.args.n c.cosines-cos.ensures z) (product c.cosines-cos.result.now cos_t c.args.n c.cosines-cos.ensures z c.args.y c.requires.0.y_small)
 
 pub returns : goal.returns
 unfolding side
 returns c =
-    let a = c.before.before in
-    let z = small a.args.n (omega arith) in
+    let z = small c.args.n (omega arith) in
     rw (
-      to_z-of_z a.ranges.x,
-      to_z-of_z a.ranges.y,
-      read a.args.sin.now sin_t a.args.n a.requires.3 z.1,
-      read a.args.cos.now cos_t a.args.n a.requires.2 z.0,
-      to_z-of_z (product a.args.sin.now sin_t a.args.n a.requires.3 z.1 a.args.x a.requires.0.x_small),
-      to_z-of_z (product a.args.cos.now cos_t a.args.n a.requires.2 z.0 a.args.y a.requires.0.y_small),
+      to_z-of_z c.ranges.x,
+      to_z-of_z c.ranges.y,
+      read c.sines-sin.result.now sin_t c.args.n c.sines-sin.ensures z.1,
+      read c.cosines-cos.result.now cos_t c.args.n c.cosines-cos.ensures z.0,
+      to_z-of_z (product c.sines-sin.result.now sin_t c.args.n c.sines-sin.ensures z.1 c.args.x c.requires.0.x_small),
+      to_z-of_z (product c.cosines-cos.result.now cos_t c.args.n c.cosines-cos.ensures z.0 c.args.y c.requires.0.y_small),
     )
-    (le_difference (a.args.y *ℤ cos_at a.args.n) (a.args.x *ℤ sin_at a.args.n))
+    (le_difference (c.args.y *ℤ cos_at c.args.n) (c.args.x *ℤ sin_at c.args.n))

@@ -46,7 +46,7 @@ pub loop-n-init : goal.loop-n-init
 loop-n-init c = record { within = le_refl c.args.from; same = refl; count = omega arith }
 
 pub fits-requires : goal.fits-requires
-fits-requires c = let s = c.before in let l = c.loop-n.invariant.within in let f = s.requires.1 in (held s.ranges.x s.ranges.y s.requires.0, omega (arith, l, f), s.requires.2, s.requires.3)
+fits-requires c = let s = c.before in let l = c.loop-n.invariant.within in let f = s.requires.1 in (held s.ranges.x s.ranges.y s.requires.0, omega (arith, l, f))
 
 pub overflow_sub-n : goal.overflow_sub-n
 overflow_sub-n c = lower c

@@ -20,7 +20,7 @@ tested c = let a = c.before.before.before.before in c.fits.ensures ∙ ap₂ (λ
 pub fits-requires : goal.fits-requires
 fits-requires c =
     let a = c.before.before.before in
-    (held a.ranges.x a.ranges.y a.requires.0, next_within a.args.x a.args.n _ (first_is c.before.before) c.before.if-n-first.true, a.requires.2, a.requires.3)
+    (held a.ranges.x a.ranges.y a.requires.0, next_within a.args.x a.args.n _ (first_is c.before.before) c.before.if-n-first.true)
 
 pub returns-then-fits : goal.returns-then-fits
 returns-then-fits c =
@@ -34,14 +34,5 @@ returns-then-first-n c =
     let a = b.before in
     from_guess a.args.x a.args.y a.requires.0 a.args.n b.first_entry-first.result (first_is b) c.before.before.before.if-n-first.true (sym (tested c.before) ∙ c.if-fits.false)
 
-pub returns-else-first-n : goal.returns-else-first-n
-returns-else-first-n c =
-    let b = c.before.before in
-    let a = b.before in
-    from_first a.args.x a.args.y a.requires.0 b.first_entry-first.result (first_is b)
-
-pub returns-else-n-first : goal.returns-else-n-first
-returns-else-n-first c =
-    let b = c.before in
-    let a = b.before in
-    from_first a.args.x a.args.y a.requires.0 b.first_entry-first.result (first_is b)
+pub returns : goal.returns
+returns c = from_first c.args.x c.args.y c.requires.0 c.first_entry-first.result (c.first_entry-first.ensures ∙ ap first_entry (to_z-of_z c.ranges.x))

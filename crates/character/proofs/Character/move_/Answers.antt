@@ -1,20 +1,15 @@
 use mathlib.Core.Path.{sym, ◌∙◌, subst}
 use lib.Dec.{T}
 use borrow.Author.Tests.{lt-ltb, le-ltb}
-use borrow.Author.Rules.{rules}
 use Rattle.character.specs.Walk.{move}
 use Rattle.character.proofs.Character.move_.Goals as goal
 
 pub move_among-requires : goal.move_among-requires
 move_among-requires c = subst T (sym c.if-is_map.true ∙ c.is_map.ensures) tt
 
-pub returns-in-TooFar : goal.returns-in-TooFar
+pub returns-then-at-lt-SEATS : goal.returns-then-at-lt-SEATS
 unfolding move
-returns-in-TooFar c = let e = c.move_among.ensures c.args.slots c.places_of-places.ensures in simp (← c.is_map.ensures, c.if-is_map.true, lt-ltb _ _ c.if-at-lt-SEATS.true, ← c.tuning_of-tuning.ensures, ← e, c.in-TooFar.is)
-
-pub returns-in-To : goal.returns-in-To
-unfolding move
-returns-in-To c = let e = c.move_among.ensures c.args.slots c.places_of-places.ensures in simp (← c.is_map.ensures, c.if-is_map.true, lt-ltb _ _ c.if-at-lt-SEATS.true, ← c.tuning_of-tuning.ensures, ← e, c.in-To.is)
+returns-then-at-lt-SEATS c = let e = c.move_among.ensures c.args.slots c.places_of-places.ensures in simp (← c.is_map.ensures, c.if-is_map.true, lt-ltb _ _ c.if-at-lt-SEATS.true, ← c.tuning_of-tuning.ensures, ← e)
 
 pub returns-then-is_map : goal.returns-then-is_map
 unfolding move

@@ -1,15 +1,19 @@
-use borrow.Author.Rules.{rules}
+use Rattle.std.proofs.lemmas.Result.{err_from_is_err_and}
 use Rattle.character.specs.Walk.{move_at}
 use Rattle.character.proofs.Character.move_among.Goals as goal
 
-pub returns-in_default : goal.returns-in_default
+pub returns-in_err-body : goal.returns-in_err-body
 unfolding move_at
-returns-in_default c = λ ss places. simp (← c.ramped_move-moved.ensures, c.in_default.is)
+returns-in_err-body c = λ ss places.
+    let p = err_from_is_err_and c.from_residual.result c.from_residual.ensures.1 in
+    rw (p.1, p.2) (simp (← c.ramped_move.ensures, c.in_err-body.was))
 
-pub returns-in_default-walked : goal.returns-in_default-walked
+pub returns-in_err-self : goal.returns-in_err-self
 unfolding move_at
-returns-in_default-walked c = λ ss places. simp (← c.ramped_move-moved.ensures, c.in-To.is, ← c.player_walk-walked.ensures ss places, c.in_default-walked.is)
+returns-in_err-self c = λ ss places.
+    let p = err_from_is_err_and c.from_residual-in_err-self.result c.from_residual-in_err-self.ensures.1 in
+    rw (p.1, p.2) (simp (← c.ramped_move.ensures, c.in_ok-body.was, ← c.player_walk.ensures ss places, c.in_err-self.was))
 
 pub returns : goal.returns
 unfolding move_at
-returns c = λ ss places. simp (← c.ramped_move-moved.ensures, c.in-To.is, ← c.player_walk-walked.ensures ss places, c.in-At.is)
+returns c = λ ss places. simp (← c.ramped_move.ensures, c.in_ok-body.was, ← c.player_walk.ensures ss places, c.in_ok-self.was)

@@ -1,11 +1,13 @@
-use borrow.Author.Rules.{rules}
+use Rattle.std.proofs.lemmas.Result.{err_from_is_err_and}
 use Rattle.character.specs.Records.{quantize}
 use Rattle.character.proofs.Character.quantize.Goals as goal
 
-pub returns-in-TickTooLarge : goal.returns-in-TickTooLarge
+pub returns-in_err-to_net : goal.returns-in_err-to_net
 unfolding quantize
-returns-in-TickTooLarge c = (simp (← c.to_net-net.ensures, c.in-TickTooLarge.is), simp (← c.to_net-net.ensures, c.in-TickTooLarge.is))
+returns-in_err-to_net c =
+    let p = err_from_is_err_and c.from_residual.result c.from_residual.ensures.1 in
+    (rw (p.1, p.2) (simp (← c.to_net.ensures, c.in_err-to_net.was)), rw (p.1, p.2) (simp (← c.to_net.ensures, c.in_err-to_net.was)))
 
-pub returns-in-Core : goal.returns-in-Core
+pub returns : goal.returns
 unfolding quantize
-returns-in-Core c = (simp (← c.to_net-net.ensures, c.in-Core.is, ← c.from_net.ensures), simp (← c.to_net-net.ensures, c.in-Core.is))
+returns c = (simp (← c.to_net.ensures, c.in_ok-to_net.was, ← c.from_net.ensures), simp (← c.to_net.ensures, c.in_ok-to_net.was))

@@ -1,20 +1,15 @@
 use mathlib.Core.Path.{sym, ◌∙◌, subst}
 use lib.Dec.{T}
 use borrow.Author.Tests.{lt-ltb, le-ltb}
-use borrow.Author.Rules.{rules}
 use Rattle.character.specs.Tick.{tick}
 use Rattle.character.proofs.Character.tick.Goals as goal
 
 pub tick_at-requires : goal.tick_at-requires
 tick_at-requires c = (subst T (sym c.if-is_map.true ∙ c.is_map.ensures) tt, c.if-at-lt-SEATS.true)
 
-pub returns-in-TooFar : goal.returns-in-TooFar
+pub returns-then-at-lt-SEATS : goal.returns-then-at-lt-SEATS
 unfolding tick
-returns-in-TooFar c = simp (← c.is_map.ensures, c.if-is_map.true, lt-ltb _ _ c.if-at-lt-SEATS.true, ← c.tuning_of.ensures, ← c.tick_at.ensures, c.in-TooFar.is)
-
-pub returns-in-To : goal.returns-in-To
-unfolding tick
-returns-in-To c = simp (← c.is_map.ensures, c.if-is_map.true, lt-ltb _ _ c.if-at-lt-SEATS.true, ← c.tuning_of.ensures, ← c.tick_at.ensures, c.in-To.is)
+returns-then-at-lt-SEATS c = simp (← c.is_map.ensures, c.if-is_map.true, lt-ltb _ _ c.if-at-lt-SEATS.true, ← c.tuning_of.ensures, ← c.tick_at.ensures)
 
 pub returns-then-is_map : goal.returns-then-is_map
 unfolding tick

@@ -1,16 +1,16 @@
 use mathlib.Core.Path.{◌≡◌, sym, ◌∙◌}
 use Prim.Native.Nat.{◌<◌}
 use native.Mathlib.Omega.{arith}
-use borrow.Author.Rules.{rules}
+use Rattle.std.proofs.lemmas.Result.{err_from_is_err_and}
 use Rattle.character.specs.Tick.{seats, pull_of}
 use Rattle.character.proofs.Held.{held_below, pull-held}
 use Rattle.character.proofs.Character.tick_at.Goals.{After-held_seat-held}
 use Rattle.character.proofs.Character.tick_at.Goals as goal
 
-pub returns-in_default : goal.returns-in_default
-returns-in_default c =
-    let b = c in
-    rw c.in_default.is at (c.tick_among-own.ensures b.args.slots b.places_of-places.ensures)
+pub returns-in_err-own : goal.returns-in_err-own
+returns-in_err-own c =
+    let p = err_from_is_err_and c.from_residual.result c.from_residual.ensures.1 in
+    rw (p.1, p.2) (rw c.in_err-own.was at (c.tick_among.ensures c.args.slots c.places_of-places.ensures))
 
 -- it holds somebody at a seat
 below : (c : After-held_seat-held) → c.held_seat-held.result < seats
@@ -32,6 +32,6 @@ returns c =
     let b = c in
     let d = b in
     let a = d.args in
-    let me = b.in-To.me in
+    let me = b.in_ok-own.own.me in
     let pulls : c.pull_by-pull.result ≡ pull_of seats a.slots a.id me.pos me.hook a.tuning = c.pull_by-pull.ensures ∙ rw c.held_seat-held.ensures (sym (pull-held seats a.id a.slots me.pos me.hook a.tuning)) in
-    rw pulls (rw b.in-To.is at (b.tick_among-own.ensures a.slots d.places_of-places.ensures))
+    rw pulls (rw b.in_ok-own.was at (b.tick_among.ensures a.slots d.places_of-places.ensures))

@@ -7,10 +7,10 @@ pub returns-in_default : goal.returns-in_default
 unfolding pulled_slot
 returns-in_default c = simp c.in_default.is
 
-pub returns-then-cid-seat : goal.returns-then-cid-seat
+pub returns-then-pull-seat : goal.returns-then-pull-seat
 unfolding pulled_slot
-returns-then-cid-seat c = simp (c.in-Of.is, ne_eqb _ _ c.if-cid-seat.true)
+returns-then-pull-seat c = simp (c.in-Some.is, ne_eqb _ _ c.if-pull-seat.true)
 
 pub returns : goal.returns
 unfolding pulled_slot
-returns c = simp (c.in-Of.is, eq-eqb _ _ c.if-cid-seat.false, ← c.with_character.ensures)
+returns c = simp (c.in-Some.is, eq-eqb _ _ c.if-pull-seat.false, ← c.with_character.ensures)

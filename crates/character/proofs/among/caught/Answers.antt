@@ -1,14 +1,9 @@
-use borrow.Author.Rules.{rules}
 use Rattle.character.specs.Tick.{caught}
 use Rattle.character.proofs.among.caught.Goals as goal
 
 pub returns-then-player_hooking : goal.returns-then-player_hooking
 unfolding caught
 returns-then-player_hooking c = λ ss places. simp (c.in-Along.is, c.if-player_hooking.true, ← c.nearest.ensures ss places, ← c.grab.ensures)
-
-pub returns-in-TooFar : goal.returns-in-TooFar
-unfolding caught
-returns-in-TooFar c = λ ss places. simp c.in-TooFar.is
 
 pub returns-in-Still : goal.returns-in-Still
 unfolding caught

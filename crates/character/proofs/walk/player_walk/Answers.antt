@@ -20,8 +20,8 @@ returns-then-count-eq0 c = λ ss places.
     let e = simp (← c.distance-distance.ensures, ← c.player_turns-turns.ensures) at alone in
     simp (c.if-player_collision.true, ← c.distance-distance.ensures, ← c.player_turns-turns.ensures, le-leb _ _ c.if-turns-gt-MOST_TURNS.false, e)
 
-pub walk_near-rest-requires : goal.walk_near-rest-requires
-walk_near-rest-requires c =
+pub walk_near-requires : goal.walk_near-requires
+walk_near-requires c =
     let g = c.gather-count.ensures in
     (search rules, search rules, search rules, omega (arith, g.0, g.1), omega (arith, g.0, g.2))
 
@@ -31,7 +31,7 @@ returns-then-player_collision c = λ ss places.
     let a = c.args in
     let g = c.gather-count in
     let asked = rw (c.add-end.ensures, c.sub.ensures) at (g.ensures.3 ss places) in
-    let e = simp (← c.distance-distance.ensures, ← c.player_turns-turns.ensures, ← c.walk_near-rest.ensures) at (walk_gathered seats ss a.id a.from a.to g.result _ _ asked) in
+    let e = simp (← c.distance-distance.ensures, ← c.player_turns-turns.ensures, ← c.walk_near.ensures) at (walk_gathered seats ss a.id a.from a.to g.result _ _ asked) in
     simp (c.if-player_collision.true, ← c.distance-distance.ensures, ← c.player_turns-turns.ensures, le-leb _ _ c.if-turns-gt-MOST_TURNS.false, e)
 
 pub returns : goal.returns

@@ -1,15 +1,14 @@
-use borrow.Author.Rules.{rules}
 use Rattle.character_hook.specs.Hooking.{closer}
 use Rattle.character_hook.proofs.hooking.closer.Goals as goal
 
-pub returns-then-distance-min_distance : goal.returns-then-distance-min_distance
+pub returns-then-not-distance-nearest : goal.returns-then-not-distance-nearest
 unfolding closer
-returns-then-distance-min_distance c = simp (c.in-At.is, c.if-distance-min_distance.true)
+returns-then-not-distance-nearest c = simp (c.in-Some.is, c.if-not-distance-nearest.true)
 
-pub returns-in-At : goal.returns-in-At
+pub returns-else-not-distance-nearest : goal.returns-else-not-distance-nearest
 unfolding closer
-returns-in-At c = simp (c.in-At.is, c.if-distance-min_distance.false)
+returns-else-not-distance-nearest c = simp (c.in-Some.is, c.if-not-distance-nearest.false)
 
-pub returns : goal.returns
+pub returns-in_default : goal.returns-in_default
 unfolding closer
-returns c = simp c.in_default.is
+returns-in_default c = simp c.in_default.is

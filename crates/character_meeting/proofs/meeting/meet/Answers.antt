@@ -1,4 +1,3 @@
-use borrow.Author.Tests.{eq-eqb, ne_eqb}
 use borrow.Author.Rules.{rules}
 use Rattle.character_hook.proofs.Variants.{not_grabbed}
 use Rattle.character_meeting.specs.Meeting.{meet}
@@ -9,10 +8,10 @@ pub returns-in_default : goal.returns-in_default
 unfolding meet
 returns-in_default c = rw (not_grabbed _ _ _ (opened c.in_default.in_default-own.keys2), ← c.collide-pushed.ensures)
 
-pub returns-then-hooked-cid : goal.returns-then-hooked-cid
+pub returns-then-eq : goal.returns-then-eq
 unfolding meet
-returns-then-hooked-cid c = simp (← c.collide-pushed.ensures, c.in-Grabbed.is, eq-eqb _ _ c.if-hooked-cid.true, ← c.held.ensures)
+returns-then-eq c = simp (← c.collide-pushed.ensures, c.in-Grabbed.is, ← c.eq.ensures, c.if-eq.true, ← c.held.ensures)
 
 pub returns : goal.returns
 unfolding meet
-returns c = simp (← c.collide-pushed.ensures, c.in-Grabbed.is, ne_eqb _ _ c.if-hooked-cid.false)
+returns c = simp (← c.collide-pushed.ensures, c.in-Grabbed.is, ← c.eq.ensures, c.if-eq.false)

@@ -4,7 +4,7 @@ use Rattle.character_meeting.proofs.meeting.pull_on.Goals as goal
 
 pub returns-then-drags : goal.returns-then-drags
 unfolding pull_on
-returns-then-drags c = simp (← c.distance-distance.ensures, ← c.drags.ensures, c.if-drags.true, ← c.pulled.ensures)
+returns-then-drags c = simp (← c.distance-distance.ensures, ← c.drags.ensures, c.if-drags.true, ← c.pulled-vel.ensures)
 
 pub returns : goal.returns
 unfolding pull_on

@@ -1,142 +1,64 @@
-use Prim.Native.Nat.{ℕ, ◌+◌, ◌-◌, ◌*◌, ◌^◌, ◌≤◌, ◌<◌}
+use Prim.Native.Nat.{ℕ, ◌+◌, ◌-◌, ◌*◌, ◌%◌, ◌<◌}
 use mathlib.Core.Bool.{Bool, false}
 use mathlib.Core.List.{List, ◌∷◌}
-use mathlib.Core.Path.{◌≡◌, refl, sym, ap, ◌∙◌, subst}
+use mathlib.Core.Path.{◌≡◌, sym, ap, ap₂, ◌∙◌, subst}
 use native.Mathlib.Numerals.{add-one}
 use native.Mathlib.Omega.{arith}
 use lib.IntN.{ℤ}
 use lib.ListN.{length, get_or, drop, drop_of_length-le}
 use lib.Seq.{drop-cons}
+use Rattle.std.specs.Prelude.{Ok}
 use Rattle.num_convert.proofs.Signed.{held}
-use Rattle.game_packed.specs.Unpacked.{is_wrong, later_read}
-use Rattle.game_packed.specs.declared.number.IntRead.{IntRead}
-use Rattle.game_packed.specs.declared.number.IntRead.TheVariants as int
-use Rattle.game_packed.proofs.Later.{later_ends, later_wrong, later_last, value_fits, not_fifth, scale_small, goes_on_lem}
+use Rattle.game_packed.specs.Unpacked.{IntRead, is_wrong, later_read}
+use Rattle.game_packed.proofs.Later.{later_ends, later_wrong, later_last, scale_of, not_fifth, goes_on_lem}
 use Rattle.game_packed.proofs.number.read_later.Goals as goal
 
--- at the end of the bytes, and at a byte
-module _ (bytes : List ℕ) (negative : Bool) (left next value scale : ℕ) {e : IntRead} (h : later_read negative left (drop next bytes) next value scale ≡ e) where
-  at_end : length bytes ≤ next → int.Ends ≡ e
-  at_end l = sym (later_ends negative left next value scale) ∙ ap (λ (s : List ℕ). later_read negative left s next value scale) (sym (drop_of_length-le bytes l)) ∙ h
-
-  there : next < length bytes → later_read negative left (get_or bytes next 0 ∷ drop (next + 1) bytes) next value scale ≡ e
-  there l = ap (λ (s : List ℕ). later_read negative left s next value scale) (sym (drop-cons bytes next 0 l ∙ ap (λ (n : ℕ). get_or bytes next 0 ∷ drop n bytes) (sym (add-one next)))) ∙ h
-
-pub loop-next-init : goal.loop-next-init
-loop-next-init c = let first = c.before.before.requires in (refl, omega arith, refl, omega arith)
-
-pub returns-then-bytes-next : goal.returns-then-bytes-next
-returns-then-bytes-next c = let l = c.before.before.loop-next in at_end c.before.before.before.before.args.bytes.now c.before.before.before.before.args.negative l.left l.next l.value l.scale l.invariant.0 c.if-bytes-next.true
-
-pub overflow_cast-b : goal.overflow_cast-b
-overflow_cast-b c = omega (arith, c.shared_slice_known-in-loop-next-1.given c.before.before.before.loop-next.next)
+-- at a byte
+there : (later : List ℕ) (negative : Bool) (left i place value scale : ℕ) {e : IntRead} → later_read negative left (drop i later) place value scale ≡ e → i < length later → later_read negative left (get_or later i 0 ∷ drop (i + 1) later) place value scale ≡ e
+there later negative left i place value scale h l = ap (λ (s : List ℕ). later_read negative left s place value scale) (sym (drop-cons later i 0 l ∙ ap (λ (n : ℕ). get_or later i 0 ∷ drop n later) (sym (add-one i)))) ∙ h
 
 pub returns-then-is_wrong : goal.returns-then-is_wrong
 returns-then-is_wrong c =
-    let l = c.before.before.before.before.before.loop-next in
-    sym (later_wrong c.before.before.before.before.before.before.before.args.negative _ l.next l.value l.scale l.left _ (sym c.before.before.is_wrong.ensures ∙ c.if-is_wrong.true)) ∙ there c.before.before.before.before.before.before.before.args.bytes.now c.before.before.before.before.before.before.before.args.negative l.left l.next l.value l.scale l.invariant.0 c.before.before.before.before.if-bytes-next.false
-
-pub overflow_mul-b : goal.overflow_mul-b
-overflow_mul-b c =
-    let l = c.before.before.before.before.before.before.loop-next in
-    let i = l.invariant in
-    let bytes = c.before.before.before.before.before.before.before.before.args.bytes.now in
-    let b = get_or bytes l.next 0 in
-    let right : is_wrong l.left b ≡ false = sym c.before.before.before.is_wrong.ensures ∙ c.before.before.if-is_wrong.false in
-    let f : l.value + b * l.scale < 2 ^ 31 = subst (λ (x : ℕ). l.value + b * x < 2 ^ 31) (sym i.2) (value_fits l.left b l.value i.3 right c.if-b-lt128.true) in
-    record { fits = omega arith }
-
-pub overflow_add-value : goal.overflow_add-value
-overflow_add-value c =
-    let l = c.before.before.before.before.before.before.loop-next in
-    let i = l.invariant in
-    let bytes = c.before.before.before.before.before.before.before.before.args.bytes.now in
-    let b = get_or bytes l.next 0 in
-    let right : is_wrong l.left b ≡ false = sym c.before.before.before.is_wrong.ensures ∙ c.before.before.if-is_wrong.false in
-    let f : l.value + b * l.scale < 2 ^ 31 = subst (λ (x : ℕ). l.value + b * x < 2 ^ 31) (sym i.2) (value_fits l.left b l.value i.3 right c.if-b-lt128.true) in
-    record { fits = omega arith }
-
-pub signed-requires : goal.signed-requires
-signed-requires c =
-    let l = c.before.before.before.before.before.before.loop-next in
-    let i = l.invariant in
-    let bytes = c.before.before.before.before.before.before.before.before.args.bytes.now in
-    let b = get_or bytes l.next 0 in
-    let right : is_wrong l.left b ≡ false = sym c.before.before.before.is_wrong.ensures ∙ c.before.before.if-is_wrong.false in
-    let f : l.value + b * l.scale < 2 ^ 31 = subst (λ (x : ℕ). l.value + b * x < 2 ^ 31) (sym i.2) (value_fits l.left b l.value i.3 right c.if-b-lt128.true) in
-    f
+    let l = c.loop-i in
+    let negative = c.args.negative in
+    let later = c.args.later.now in
+    let byte = ap (λ (b : ℕ). is_wrong (3 - l.i) b) (sym c.from-b.ensures) ∙ sym c.is_wrong.ensures ∙ c.if-is_wrong.true in
+    sym (later_wrong negative _ (c.args.at + l.i) l.value l.scale (3 - l.i) (get_or later l.i 0) byte) ∙ there later negative (3 - l.i) l.i (c.args.at + l.i) l.value l.scale l.invariant.read c.loop-i-test.true
 
 pub returns-then-b-lt128 : goal.returns-then-b-lt128
 returns-then-b-lt128 c =
-    let l = c.before.before.before.before.before.before.before.loop-next in
-    let i = l.invariant in
-    let bytes = c.before.before.before.before.before.before.before.before.before.args.bytes.now in
-    let b = get_or bytes l.next 0 in
-    let right : is_wrong l.left b ≡ false = sym c.before.before.before.before.is_wrong.ensures ∙ c.before.before.before.if-is_wrong.false in
-    ap (λ (z : ℤ). int.Read z (l.next + 1)) (held c.signed.result c.signed.type_inv c.signed.ensures) ∙ sym (later_last c.before.before.before.before.before.before.before.before.before.args.negative _ l.next l.value l.scale l.left b right c.before.before.if-b-lt128.true) ∙ there bytes c.before.before.before.before.before.before.before.before.before.args.negative l.left l.next l.value l.scale i.0 c.before.before.before.before.before.before.if-bytes-next.false
+    let l = c.loop-i in
+    let negative = c.args.negative in
+    let later = c.args.later.now in
+    let place = c.args.at + l.i in
+    let b = c.from-b.result in
+    let right : is_wrong (3 - l.i) b ≡ false = sym c.is_wrong.ensures ∙ c.if-is_wrong.false in
+    let here = ap (λ (x : ℕ). later_read negative (3 - l.i) (x ∷ drop (l.i + 1) later) place l.value l.scale) c.from-b.ensures ∙ there later negative (3 - l.i) l.i place l.value l.scale l.invariant.read c.loop-i-test.true in
+    ap (λ (z : ℤ). Ok (z, place + 1)) (held c.signed.result c.signed.type_inv c.signed.ensures) ∙ sym (later_last negative _ place l.value l.scale (3 - l.i) b right c.if-b-lt128.true) ∙ here
 
-pub overflow_mul-value : goal.overflow_mul-value
-overflow_mul-value c =
-    let l = c.before.before.before.before.before.before.loop-next in
-    let i = l.invariant in
-    let bytes = c.before.before.before.before.before.before.before.before.args.bytes.now in
-    let b = get_or bytes l.next 0 in
-    let right : is_wrong l.left b ≡ false = sym c.before.before.before.is_wrong.ensures ∙ c.before.before.if-is_wrong.false in
-    let negative = c.before.before.before.before.before.before.before.before.args.negative in
-    let g = goes_on_lem negative (drop (l.next + 1) bytes) l.next l.value l.scale l.left b right c.if-b-lt128.false i.1 i.2 i.3 (there bytes negative l.left l.next l.value l.scale i.0 c.before.before.before.before.before.if-bytes-next.false) in
-    let small = scale_small (l.left - 1) in
-    let n = g.3 in record { fits = omega arith }
+pub loop-i-preserved : goal.loop-i-preserved
+loop-i-preserved c =
+    let l = c.loop-i in
+    let negative = c.args.negative in
+    let later = c.args.later.now in
+    let place = c.args.at + l.i in
+    let b = c.from-b.result in
+    let right : is_wrong (3 - l.i) b ≡ false = sym c.is_wrong.ensures ∙ c.if-is_wrong.false in
+    let here = ap (λ (x : ℕ). later_read negative (3 - l.i) (x ∷ drop (l.i + 1) later) place l.value l.scale) c.from-b.ensures ∙ there later negative (3 - l.i) l.i place l.value l.scale l.invariant.read c.loop-i-test.true in
+    let less = not_fifth (3 - l.i) b right c.if-b-lt128.false in
+    let g = goes_on_lem negative (drop (l.i + 1) later) place l.value l.scale (3 - l.i) b right c.if-b-lt128.false (omega arith) l.invariant.scaled l.invariant.small here in
+    let left : 3 - l.i - 1 ≡ 3 - (l.i + 1) = omega arith in
+    let next : place + 1 ≡ c.args.at + (l.i + 1) = omega arith in
+    record {
+      read = ap₂ (λ (k n : ℕ). later_read negative k (drop (l.i + 1) later) n (l.value + b % 128 * l.scale) (l.scale * 128)) (sym left) (sym next) ∙ g.0;
+      most = omega arith;
+      scaled = g.2 ∙ ap scale_of left;
+      small = subst (λ (k : ℕ). l.value + b % 128 * l.scale < scale_of k) left g.3;
+    }
 
-pub overflow_add-value-in-loop-next : goal.overflow_add-value-in-loop-next
-overflow_add-value-in-loop-next c =
-    let l = c.before.before.before.before.before.before.loop-next in
-    let i = l.invariant in
-    let bytes = c.before.before.before.before.before.before.before.before.args.bytes.now in
-    let b = get_or bytes l.next 0 in
-    let right : is_wrong l.left b ≡ false = sym c.before.before.before.is_wrong.ensures ∙ c.before.before.if-is_wrong.false in
-    let negative = c.before.before.before.before.before.before.before.before.args.negative in
-    let g = goes_on_lem negative (drop (l.next + 1) bytes) l.next l.value l.scale l.left b right c.if-b-lt128.false i.1 i.2 i.3 (there bytes negative l.left l.next l.value l.scale i.0 c.before.before.before.before.before.if-bytes-next.false) in
-    let small = scale_small (l.left - 1) in
-    let n = g.3 in record { fits = omega arith }
-
-pub overflow_mul-scale : goal.overflow_mul-scale
-overflow_mul-scale c =
-    let l = c.before.before.before.before.before.before.loop-next in
-    let i = l.invariant in
-    let bytes = c.before.before.before.before.before.before.before.before.args.bytes.now in
-    let b = get_or bytes l.next 0 in
-    let right : is_wrong l.left b ≡ false = sym c.before.before.before.is_wrong.ensures ∙ c.before.before.if-is_wrong.false in
-    let negative = c.before.before.before.before.before.before.before.before.args.negative in
-    let g = goes_on_lem negative (drop (l.next + 1) bytes) l.next l.value l.scale l.left b right c.if-b-lt128.false i.1 i.2 i.3 (there bytes negative l.left l.next l.value l.scale i.0 c.before.before.before.before.before.if-bytes-next.false) in
-    let small = scale_small (l.left - 1) in
-    let n = g.2 in record { fits = omega arith }
-
-pub overflow_sub-left-in-loop-next : goal.overflow_sub-left-in-loop-next
-overflow_sub-left-in-loop-next c =
-    let l = c.before.before.before.before.before.before.loop-next in
-    let i = l.invariant in
-    let bytes = c.before.before.before.before.before.before.before.before.args.bytes.now in
-    let b = get_or bytes l.next 0 in
-    let right : is_wrong l.left b ≡ false = sym c.before.before.before.is_wrong.ensures ∙ c.before.before.if-is_wrong.false in
-    let p = not_fifth l.left b right c.if-b-lt128.false in omega arith
-
-pub loop-next-smaller : goal.loop-next-smaller
-loop-next-smaller c =
-    let l = c.before.before.before.before.before.before.loop-next in
-    let i = l.invariant in
-    let bytes = c.before.before.before.before.before.before.before.before.args.bytes.now in
-    let b = get_or bytes l.next 0 in
-    let right : is_wrong l.left b ≡ false = sym c.before.before.before.is_wrong.ensures ∙ c.before.before.if-is_wrong.false in
-    let p = not_fifth l.left b right c.if-b-lt128.false in omega arith
-
-pub loop-next-preserved : goal.loop-next-preserved
-loop-next-preserved c =
-    let l = c.before.before.before.before.before.before.loop-next in
-    let i = l.invariant in
-    let bytes = c.before.before.before.before.before.before.before.before.args.bytes.now in
-    let b = get_or bytes l.next 0 in
-    let right : is_wrong l.left b ≡ false = sym c.before.before.before.is_wrong.ensures ∙ c.before.before.if-is_wrong.false in
-    let negative = c.before.before.before.before.before.before.before.before.args.negative in
-    let g = goes_on_lem negative (drop (l.next + 1) bytes) l.next l.value l.scale l.left b right c.if-b-lt128.false i.1 i.2 i.3 (there bytes negative l.left l.next l.value l.scale i.0 c.before.before.before.before.before.if-bytes-next.false) in
-    let small = scale_small (l.left - 1) in
-    g
+pub returns : goal.returns
+returns c =
+    let l = c.loop-i in
+    let negative = c.args.negative in
+    let later = c.args.later.now in
+    sym (later_ends negative (3 - l.i) (c.args.at + l.i) l.value l.scale) ∙ ap (λ (s : List ℕ). later_read negative (3 - l.i) s (c.args.at + l.i) l.value l.scale) (sym (drop_of_length-le later c.loop-i-test.false)) ∙ l.invariant.read

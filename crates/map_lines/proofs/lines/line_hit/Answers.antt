@@ -1,48 +1,43 @@
-use mathlib.Core.Logic.{⊎_elim}
-use mathlib.Core.Path.{sym, ap}
-use Prim.Native.Nat.{◌-◌, ◌^◌}
-use native.Mathlib.Omega.{arith}
-use lib.Dec.{le→leb}
-use lib.Ieee.{in_float}
-use borrow.Author.Rules.{rules}
+use mathlib.Core.Path.{◌≡◌, refl, sym, ap}
+use mathlib.Core.Bool.{true, false}
 use Rattle.num_convert.specs.Convert.{i32_to_f32}
-use Rattle.base_turns.specs.Turns.{run}
-use Rattle.base_turns.proofs.Loop.{Left, turn_on, turn_off, turn_end}
+use Rattle.num_vec2.specs.declared.vec2.{vec2}
+use Rattle.base_turns.specs.Turns.{more, stop}
+use Rattle.base_turns.proofs.Loop.{turn_on, turn_off, turn_end}
+use Rattle.map_tiles.specs.Map.{solid}
+use Rattle.map_tiles.specs.declared.point.Tile.{Tile}
+use Rattle.map_tiles.specs.declared.point.Tile.TheVariants.{Open, Normal, Deadly, Unhookable}
 use Rattle.map_lines.proofs.Intervals.{passed}
-use Rattle.map_lines.specs.Line.{line_turn, or_nothing, line_hit}
-use Rattle.map_lines.proofs.lines.line_hit.Goals.{in-Open, in-Deadly}
+use Rattle.map_lines.specs.Line.{or_hit, line_turn, or_nothing, line_hit}
 use Rattle.map_lines.proofs.lines.line_hit.Goals as goal
+
+or_hit_solid : (p : vec2) (t : Tile) → solid t ≡ true → or_hit p t ≡ stop (p, t)
+or_hit_solid p Open h = cc
+or_hit_solid p Normal h = refl
+or_hit_solid p Deadly h = cc
+or_hit_solid p Unhookable h = refl
+
+or_hit_open : (p : vec2) (t : Tile) → solid t ≡ false → or_hit p t ≡ more tt
+or_hit_open p Open h = refl
+or_hit_open p Normal h = cc
+or_hit_open p Deadly h = refl
+or_hit_open p Unhookable h = cc
 
 pub loop-i-init : goal.loop-i-init
 loop-i-init c = passed _ _ _ _ _ _ _ c.open_turns-i.ensures.within c.open_turns-i.ensures.each_open
 
-pub int_to_float-i : goal.int_to_float-i
-unfolding in_float
-int_to_float-i c = le→leb c.loop-i.i (2 ^ 24) (omega arith)
-
-pub check_point-tile-requires : goal.check_point-tile-requires
-check_point-tile-requires c = c.requires.0
-
-pub overflow_add-i : goal.overflow_add-i
-overflow_add-i c = omega arith
-
-pub loop-i-smaller : goal.loop-i-smaller
-loop-i-smaller c = omega arith
-
 pub loop-i-preserved : goal.loop-i-preserved
 unfolding line_turn i32_to_f32
 loop-i-preserved c =
-    turn_on c.loop-i.invariant c.if-i-turns.false
-    (elim c.match-tile.branch [ in-Open w ↦ simp (← c.mix-point.ensures, ← c.check_point-tile.ensures, w.in-Open.is) | in-Deadly w ↦ simp (← c.mix-point.ensures, ← c.check_point-tile.ensures, w.in-Deadly.is) ])
+    turn_on c.loop-i.invariant c.loop-i-test.true
+    (simp (← c.mix-point.ensures, ← c.check_point-tile.ensures) (or_hit_open _ _ (simp (← c.is_solid.ensures, c.if-is_solid.false))))
 
-pub returns-then-i-turns : goal.returns-then-i-turns
+pub returns-then-is_solid : goal.returns-then-is_solid
+unfolding line_hit line_turn i32_to_f32
+returns-then-is_solid c =
+    sym (ap or_nothing (turn_off c.loop-i.invariant c.loop-i-test.true
+    (simp (← c.mix-point.ensures, ← c.check_point-tile.ensures) (or_hit_solid _ _ (simp (← c.is_solid.ensures, c.if-is_solid.true))))))
+
+pub returns : goal.returns
 unfolding line_hit
-returns-then-i-turns c = sym (ap or_nothing (turn_end c.loop-i.invariant c.if-i-turns.true))
-
-pub returns-in-Normal : goal.returns-in-Normal
-unfolding line_hit line_turn i32_to_f32
-returns-in-Normal c = sym (ap or_nothing (turn_off c.loop-i.invariant c.if-i-turns.false (simp (← c.mix-point.ensures, ← c.check_point-tile.ensures, c.in-Normal.is))))
-
-pub returns-in-Unhookable : goal.returns-in-Unhookable
-unfolding line_hit line_turn i32_to_f32
-returns-in-Unhookable c = sym (ap or_nothing (turn_off c.loop-i.invariant c.if-i-turns.false (simp (← c.mix-point.ensures, ← c.check_point-tile.ensures, c.in-Unhookable.is))))
+returns c = sym (ap or_nothing (turn_end c.loop-i.invariant c.loop-i-test.false))

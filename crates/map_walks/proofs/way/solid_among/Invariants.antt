@@ -8,7 +8,4 @@ use Rattle.map_walks.proofs.Ways.{scan_end, scan_on, scan_yes}
 use Rattle.map_walks.proofs.way.solid_among.Given as goal
 
 abbrev pub invariant-loop-row : goal.invariant-loop-row
-invariant-loop-row l = any (solid_in_row l.sides l.tiles l.columns) (l.rows.last + 1 - l.row) l.row ≡ any_in (solid_in_row l.sides l.tiles l.columns) l.rows
-
-abbrev pub decreases-loop-row : goal.decreases-loop-row
-decreases-loop-row l = l.rows.last + 1 - l.row
+invariant-loop-row l = any (solid_in_row l.sides l.tiles l.columns) (l.fn.rows.last + 1 - l.row) l.row ≡ any_in (solid_in_row l.sides l.tiles l.columns) l.fn.rows

@@ -8,22 +8,13 @@ use Rattle.map_walks.specs.Way.{any, any_in, solid_in_row}
 use Rattle.map_walks.proofs.Ways.{scan_end, scan_on, scan_yes}
 use Rattle.map_walks.proofs.way.solid_in_row.Goals as goal
 
-pub loop-column-init : goal.loop-column-init
-loop-column-init c = refl
-
 pub returns-then-is_solid_at : goal.returns-then-is_solid_at
 unfolding solid_in_row
-returns-then-is_solid_at c = sym (sym c.loop-column.invariant ∙ scan_yes _ _ _ c.loop-column-test.true (sym c.is_solid_at.ensures ∙ c.if-is_solid_at.true))
-
-pub overflow_add-column : goal.overflow_add-column
-overflow_add-column c = omega (arith, (is_map_lem _ _ c.requires.0).narrow)
-
-pub loop-column-smaller : goal.loop-column-smaller
-loop-column-smaller c = omega arith
+returns-then-is_solid_at c = sym (sym c.loop-column.invariant ∙ scan_yes _ _ _ (omega arith) (sym c.is_solid_at.ensures ∙ c.if-is_solid_at.true))
 
 pub loop-column-preserved : goal.loop-column-preserved
-loop-column-preserved c = sym (scan_on _ _ _ c.loop-column-test.true (sym c.is_solid_at.ensures ∙ c.if-is_solid_at.false)) ∙ c.loop-column.invariant
+loop-column-preserved c = sym (scan_on _ _ _ (omega arith) (sym c.is_solid_at.ensures ∙ c.if-is_solid_at.false)) ∙ c.loop-column.invariant
 
 pub returns : goal.returns
 unfolding solid_in_row
-returns c = sym (sym c.loop-column.invariant ∙ scan_end _ _ _ c.loop-column-test.false)
+returns c = sym (sym c.loop-column.invariant ∙ scan_end _ _ _ (omega arith))

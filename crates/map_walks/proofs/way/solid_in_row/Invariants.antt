@@ -9,7 +9,4 @@ use Rattle.map_walks.proofs.Ways.{scan_end, scan_on, scan_yes}
 use Rattle.map_walks.proofs.way.solid_in_row.Given as goal
 
 abbrev pub invariant-loop-column : goal.invariant-loop-column
-invariant-loop-column l = any (λ k. solid (tile_in l.sides l.tiles k l.row)) (l.columns.last + 1 - l.column) l.column ≡ any_in (λ k. solid (tile_in l.sides l.tiles k l.row)) l.columns
-
-abbrev pub decreases-loop-column : goal.decreases-loop-column
-decreases-loop-column l = l.columns.last + 1 - l.column
+invariant-loop-column l = any (λ k. solid (tile_in l.sides l.tiles k l.row)) (l.fn.columns.last + 1 - l.column) l.column ≡ any_in (λ k. solid (tile_in l.sides l.tiles k l.row)) l.fn.columns

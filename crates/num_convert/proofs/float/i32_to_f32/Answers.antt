@@ -1,4 +1,4 @@
-use Rattle.std.proofs.Common.{◌≡◌, ◌^◌, ◌≤◌, true, T, ℤ, pos, negsuc, sym, ap, ◌∙◌, subst, arith, to_z-of_z, rules, lt-ltb, leb-true}
+use Rattle.std.proofs.Common.{◌≡◌, ◌^◌, ◌≤◌, true, T, ℤ, pos, negsuc, sym, ap, ◌∙◌, subst, arith, to_z-of_z, lt-ltb, leb-true}
 use lib.Ieee.{binary32, of_int, in_float}
 use lib.Signed.{le_z}
 use Rattle.num_convert.specs.Convert.{i32_to_f32}

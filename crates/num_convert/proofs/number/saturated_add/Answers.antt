@@ -1,4 +1,3 @@
-use Rattle.std.proofs.Common.{⊎_elim, rules}
 use Rattle.num_convert.specs.Number.{saturated_add}
 use Rattle.num_convert.proofs.number.saturated_add.Goals as goal
 use Rattle.num_convert.proofs.number.saturated_add.Goals.{then-modifier+else-value-min, else-modifier+else-value-max}

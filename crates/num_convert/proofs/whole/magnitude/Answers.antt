@@ -1,4 +1,4 @@
-use Rattle.std.proofs.Common.{◌≡◌, ℕ, ◌+◌, ◌-◌, ◌*◌, ◌/◌, ◌%◌, ◌^◌, ◌<◌, ◌≤◌, false, sym, ap, ◌∙◌, subst, lt_of_lt_of_le, mod-eq_of_lt, div-le_self, arith, lit≤, rules}
+use Rattle.std.proofs.Common.{◌≡◌, ℕ, ◌+◌, ◌-◌, ◌*◌, ◌/◌, ◌%◌, ◌^◌, ◌<◌, false, sym, ap, ◌∙◌, subst, lt_of_lt_of_le, mod-eq_of_lt, div-le_self, arith, lit≤}
 use lib.Ieee.{binary32, of_bits}
 use lib.Ieee.Exact.{HasValue}
 use Rattle.num_convert.specs.Whole.{cut}

@@ -1,4 +1,4 @@
-use Rattle.std.proofs.Common.{◌≡◌, ℕ, ◌^◌, ◌<◌, Bool, cond, T, ℤ, pos, ◌-ℤ◌, neg_ℤ, sym, ap, ◌∙◌, subst, to_z-of_z, w32, SFits, to_z, of_z, rules, le-leb}
+use Rattle.std.proofs.Common.{◌≡◌, ℕ, ◌^◌, ◌<◌, Bool, cond, T, ℤ, pos, ◌-ℤ◌, neg_ℤ, sym, ap, ◌∙◌, subst, to_z-of_z, w32, SFits, to_z, of_z, le-leb}
 use borrow.Author.Tests.{lt-leb}
 use lib.Ieee.{binary32, fits}
 use mir.Facts.{to_z_pos}

@@ -1,37 +1,24 @@
-use Rattle.std.proofs.Common.{◌≡◌, false, not, T, sym, refl, subst, rules}
+use Rattle.std.proofs.Common.{◌≡◌, true, sym, refl, ◌∙◌, true≢false}
 use lib.Ieee.{Float, nan, inf, fin, is_nan}
-use Rattle.base_binary32.proofs.Nans.{equal_no_nan, unequal_nan}
-use Rattle.num_ramp.specs.Power.{parts, squares, roots, powf}
+use Rattle.num_ramp.specs.Power.{powf}
 use Rattle.num_ramp.proofs.power.powf.Goals as goal
 
-at_nan : (c e : Float) → e ≡ nan → e ≡ powf c e
+at_nan : (c e : Float) → is_nan e ≡ true → e ≡ powf c e
 unfolding powf is_nan
-at_nan c e h = subst (λ (x : Float). x ≡ powf c x) (sym h) refl
+at_nan c nan h = refl
+at_nan c (inf s) h = absurd (true≢false (sym h))
+at_nan c (fin s m x) h = absurd (true≢false (sym h))
 
-no_nan : (e : Float) → T (not (is_nan e)) → is_nan e ≡ false
-unfolding is_nan
-no_nan nan h = absurd h
-no_nan (inf s) h = refl
-no_nan (fin s m x) h = refl
-
-pub returns-then-e : goal.returns-then-e
-returns-then-e c = at_nan c.before.args.c c.before.args.e (unequal_nan c.before.args.e c.if-e.true)
+pub returns-then-is_nan : goal.returns-then-is_nan
+returns-then-is_nan c = at_nan c.args.c c.args.e (sym c.is_nan.ensures.value ∙ c.if-is_nan.true)
 
 pub parts-k-requires : goal.parts-k-requires
-parts-k-requires c = equal_no_nan c.before.args.e c.if-e.false
+parts-k-requires c = rw (sym c.is_nan.ensures.value ∙ c.if-is_nan.false) tt
 
-pub returns-then-e-2 : goal.returns-then-e-2
+pub returns-then-e : goal.returns-then-e
 unfolding powf
-returns-then-e-2 c =
-    let s = c.before.before in
-    let k = s.before in
-    let e = k.before.before.args.e in
-    simp (no_nan e (equal_no_nan e k.before.if-e.false), c.if-e-2.true, ← k.parts-k.ensures, ← s.squares.ensures, ← c.before.roots-p.ensures)
+returns-then-e c = simp (sym c.is_nan.ensures.value ∙ c.if-is_nan.false, c.if-e.true, ← c.parts-k.ensures, ← c.squares.ensures, ← c.roots-p.ensures)
 
-pub returns : goal.returns
+pub returns-else-e : goal.returns-else-e
 unfolding powf
-returns c =
-    let s = c.before.before in
-    let k = s.before in
-    let e = k.before.before.args.e in
-    simp (no_nan e (equal_no_nan e k.before.if-e.false), c.if-e-2.false, ← k.parts-k.ensures, ← s.squares.ensures, ← c.before.roots-p.ensures)
+returns-else-e c = simp (sym c.is_nan.ensures.value ∙ c.if-is_nan.false, c.if-e.false, ← c.parts-k.ensures, ← c.squares.ensures, ← c.roots-p.ensures)

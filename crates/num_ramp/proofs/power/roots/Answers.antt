@@ -1,8 +1,8 @@
-use Rattle.std.proofs.Common.{◌≡◌, ◌-◌, cond, sym, ap, ◌∙◌, ⊎_elim, arith}
+use Rattle.std.proofs.Common.{◌≡◌, ◌-◌, cond, sym, ap, ◌∙◌, arith}
 use lib.Ieee.{Float, binary32, mul}
-use Rattle.base_turns.specs.Turns.{more, fold}
-use Rattle.base_turns.proofs.Loop.{Left, always, fold_first, fold_end, turn_on}
-use Rattle.num_ramp.specs.Power.{bit, root_turn, roots}
+use Rattle.base_turns.specs.Turns.{more}
+use Rattle.base_turns.proofs.Loop.{fold_first, fold_end, turn_on}
+use Rattle.num_ramp.specs.Power.{bit, roots}
 use Rattle.num_ramp.proofs.Bits.{set, clear}
 use Rattle.num_ramp.proofs.power.roots.Goals.{else-k-i-eq1, then-k-i-eq1}
 use Rattle.num_ramp.proofs.power.roots.Goals as goal

@@ -1,9 +1,8 @@
-use Rattle.std.proofs.Common.{◌≡◌, ◌+◌, ◌-◌, cond, sym, ap, ◌∙◌, ⊎_elim, arith}
+use Rattle.std.proofs.Common.{◌≡◌, ◌+◌, cond, sym, ap, ◌∙◌, arith}
 use lib.Ieee.{Float, binary32, mul}
-use Rattle.num_convert.specs.Number.{c1}
-use Rattle.base_turns.specs.Turns.{more, fold}
-use Rattle.base_turns.proofs.Loop.{Left, always, fold_first, fold_end, turn_on}
-use Rattle.num_ramp.specs.Power.{bit, square_turn, squares}
+use Rattle.base_turns.specs.Turns.{more}
+use Rattle.base_turns.proofs.Loop.{fold_first, fold_end, turn_on}
+use Rattle.num_ramp.specs.Power.{bit, squares}
 use Rattle.num_ramp.proofs.Bits.{set, clear}
 use Rattle.num_ramp.proofs.power.squares.Goals.{else-k-i-eq1, then-k-i-eq1}
 use Rattle.num_ramp.proofs.power.squares.Goals as goal

@@ -1,10 +1,8 @@
-use Rattle.std.proofs.Common.{◌≡◌, ◌+◌, ◌-◌, cond, sym, ap, ◌∙◌, ⊎_elim, arith}
-use lib.Ieee.{Float, binary32, mul}
+use Rattle.std.proofs.Common.{◌-◌}
 use Rattle.num_convert.specs.Number.{c1}
 use Rattle.base_turns.specs.Turns.{more, fold}
-use Rattle.base_turns.proofs.Loop.{Left, always, fold_first, fold_end, turn_on}
-use Rattle.num_ramp.specs.Power.{bit, square_turn, squares}
-use Rattle.num_ramp.proofs.Bits.{set, clear}
+use Rattle.base_turns.proofs.Loop.{Left, always}
+use Rattle.num_ramp.specs.Power.{square_turn}
 use Rattle.num_ramp.proofs.power.squares.Given as goal
 
 abbrev pub invariant-loop-i : goal.invariant-loop-i

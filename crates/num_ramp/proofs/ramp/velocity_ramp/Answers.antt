@@ -1,4 +1,3 @@
-use Rattle.std.proofs.Common.{rules}
 use Rattle.num_ramp.specs.Ramp.{velocity_ramp}
 use Rattle.num_ramp.proofs.ramp.velocity_ramp.Goals as goal
 

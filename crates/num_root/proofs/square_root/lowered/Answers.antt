@@ -1,4 +1,3 @@
-use Prim.Native.Nat.{◌^◌, ◌<◌}
 use native.Mathlib.Omega.{arith}
 use Rattle.num_root.proofs.Squares.{sq_pos, sq_fits}
 use Rattle.num_root.proofs.square_root.lowered.Goals as goal

@@ -1,6 +1,4 @@
 use Prim.Native.Nat.{◌^◌, ◌<◌}
-use native.Mathlib.Omega.{arith}
-use Rattle.num_root.proofs.Squares.{sq_pos, sq_fits}
 use Rattle.num_root.proofs.square_root.lowered.Given as goal
 
 abbrev pub invariant-loop-r : goal.invariant-loop-r

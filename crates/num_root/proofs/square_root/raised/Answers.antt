@@ -1,6 +1,5 @@
-use Prim.Native.Nat.{◌+◌, ◌-◌, ◌*◌, ◌^◌, ◌≤◌, ◌<◌}
+use Prim.Native.Nat.{◌+◌, ◌^◌, ◌<◌}
 use native.Mathlib.Omega.{arith}
-use borrow.Author.Rules.{rules}
 use Rattle.num_root.proofs.Squares.{small, sq_fits}
 use Rattle.num_root.proofs.square_root.raised.Goals.{At-loop-r}
 use Rattle.num_root.proofs.square_root.raised.Goals as goal

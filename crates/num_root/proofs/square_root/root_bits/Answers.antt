@@ -1,10 +1,8 @@
 use mathlib.Core.Path.{◌≡◌, refl, sym, ap, ◌∙◌, subst}
 use mathlib.Core.Bool.{false}
-use mathlib.Core.Logic.{⊎_elim}
 use Prim.Native.Nat.{ℕ, zero, suc, ◌+◌, ◌-◌, ◌*◌, ◌/◌, ◌%◌, ◌^◌, ◌≤◌, ◌<◌}
 use native.Mathlib.Nat.{mul-one, mod-eq_of_lt, lt_of_lt_of_le}
 use native.Mathlib.Omega.{arith}
-use borrow.Author.Rules.{rules}
 use lib.Dec.{lit≤}
 use lib.Ieee.{binary32, of_bits}
 use lib.Ieee.Bits.{of_bits-fits}
@@ -50,11 +48,11 @@ high b h e = record { lo = omega arith; hi = omega arith; least = omega arith; m
     go zero n = absurd (n refl)
     go (suc x) n = let m = b % 8388608 + 8388608 in moved m x 0 (omega arith) ∙ ap (λ (k : ℕ). k * 2 ^ (x + 149)) (mul-one m) ∙ ap (λ (k : ℕ). m * 2 ^ k) (omega arith)
 
-parts : (c : Joined-e-eq0) → Parts c.before.args.b c.if-e-eq0.w c.if-e-eq0.t
+parts : (c : Joined-e-eq0) → Parts c.before.args.b c.if-e-eq0.w.0 c.if-e-eq0.w.1
 parts c =
     let b = c.before.args.b in
     let p = c.before.requires in
-    elim c.if-e-eq0.branch [ then-e-eq0 w ↦ rw (w.w-is, w.t-is) (low b p.0 p.1 w.if-e-eq0.true) | else-e-eq0 w ↦ rw (w.w-is, w.t-is) (high b p.1 w.if-e-eq0.false) ]
+    elim c.if-e-eq0.branch [ then-e-eq0 w ↦ rw w.w-is (low b p.0 p.1 w.if-e-eq0.true) | else-e-eq0 w ↦ rw w.w-is (high b p.1 w.if-e-eq0.false) ]
 
 pub overflow_sub-z : goal.overflow_sub-z
 overflow_sub-z c = omega (arith, (digits c.before.args.b c.before.requires.0 c.if-e-eq0.true).least)
@@ -62,8 +60,8 @@ overflow_sub-z c = omega (arith, (digits c.before.args.b c.before.requires.0 c.i
 pub overflow_shl-w : goal.overflow_shl-w
 overflow_shl-w c = omega (arith, (digits c.before.args.b c.before.requires.0 c.if-e-eq0.true).most)
 
-pub overflow_sub-t : goal.overflow_sub-t
-overflow_sub-t c = omega (arith, (digits c.before.args.b c.before.requires.0 c.if-e-eq0.true).most)
+pub overflow_sub-w : goal.overflow_sub-w
+overflow_sub-w c = omega (arith, (digits c.before.args.b c.before.requires.0 c.if-e-eq0.true).most)
 
 pub root_parts-requires : goal.root_parts-requires
 root_parts-requires c = let p = parts c in (p.lo, p.hi, p.least, p.most)

@@ -2,7 +2,6 @@ use mathlib.Core.Path.{sym, subst}
 use Prim.Native.Nat.{ℕ, suc, ◌*◌, ◌%◌, ◌^◌, ◌≤◌, ◌<◌}
 use native.Mathlib.Numerals.{add-one}
 use native.Mathlib.Omega.{arith}
-use borrow.Author.Rules.{rules}
 use Rattle.num_root.proofs.Squares.{small}
 use Rattle.num_root.proofs.Floors.{Floor}
 use Rattle.num_root.proofs.Rooted.{wide, Shifted, shifted, root_pattern}

@@ -1,6 +1,5 @@
 use Rattle.num_vec2.specs.Vec2.{vnormalize}
 use Rattle.num_vec2.specs.Vec2.{closest_point_on_line}
-use borrow.Author.Rules.{rules}
 use Rattle.num_vec2.proofs.vec2.closest_point_on_line.Goals as goal
 
 pub returns : goal.returns

@@ -1,5 +1,4 @@
 use Rattle.num_vec2.specs.Vec2.{vmix}
-use borrow.Author.Rules.{rules}
 use Rattle.num_vec2.proofs.vec2.mix.Goals as goal
 
 pub returns : goal.returns

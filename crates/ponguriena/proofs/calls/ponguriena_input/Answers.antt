@@ -5,15 +5,18 @@ use Rattle.world.specs.declared.call.Call.TheVariants as call
 use Rattle.role_rule.specs.Roles.{may_ask}
 use Rattle.role_rule.specs.declared.Ask.TheVariants as ask
 use borrow.Author.Rules.{rules}
-use Rattle.ponguriena.proofs.calls.ponguriena_input.Goals.{After-may_ask}
 use Rattle.ponguriena.proofs.calls.ponguriena_input.Goals as goal
 
--- whether the role may
-may : (c : After-may_ask) → let a = c.args in c.may_ask.result ≡ may_ask a.role (ask.Call (call.Input a.id a.direction a.target_x a.target_y a.jump a.hook))
-may c = let f = c.ranges in rw (to_z-of_z f.role, to_z-of_z f.id, to_z-of_z f.direction, to_z-of_z f.target_x, to_z-of_z f.target_y, to_z-of_z f.jump, to_z-of_z f.hook) at c.may_ask.ensures
-
 pub returns-then-not-may_ask : goal.returns-then-not-may_ask
-returns-then-not-may_ask c = rw (← may c.before, c.if-not-may_ask.true) refl
+returns-then-not-may_ask c =
+    let a = c.args in
+    let f = c.ranges in
+    let may : c.may_ask.result ≡ may_ask a.role (ask.Call (call.Input a.id a.direction a.target_x a.target_y a.jump a.hook)) = rw (to_z-of_z f.role, to_z-of_z f.id, to_z-of_z f.direction, to_z-of_z f.target_x, to_z-of_z f.target_y, to_z-of_z f.jump, to_z-of_z f.hook) at c.may_ask.ensures in
+    rw (← may, c.if-not-may_ask.true, c.into.ensures) refl
 
 pub returns : goal.returns
-returns c = let f = c.ranges in rw (← may c.before.before.before.before, c.if-not-may_ask.false) (rw (to_z-of_z f.id, to_z-of_z f.direction, to_z-of_z f.target_x, to_z-of_z f.target_y, to_z-of_z f.jump, to_z-of_z f.hook) at c.input_in.ensures)
+returns c =
+    let a = c.args in
+    let f = c.ranges in
+    let may : c.may_ask.result ≡ may_ask a.role (ask.Call (call.Input a.id a.direction a.target_x a.target_y a.jump a.hook)) = rw (to_z-of_z f.role, to_z-of_z f.id, to_z-of_z f.direction, to_z-of_z f.target_x, to_z-of_z f.target_y, to_z-of_z f.jump, to_z-of_z f.hook) at c.may_ask.ensures in
+    rw (← may, c.if-not-may_ask.false, c.number_of_answer.ensures) (rw (to_z-of_z f.id, to_z-of_z f.direction, to_z-of_z f.target_x, to_z-of_z f.target_y, to_z-of_z f.jump, to_z-of_z f.hook) at c.input_in.ensures)

@@ -5,15 +5,18 @@ use Rattle.world.specs.declared.call.Call.TheVariants as call
 use Rattle.role_rule.specs.Roles.{may_ask}
 use Rattle.role_rule.specs.declared.Ask.TheVariants as ask
 use borrow.Author.Rules.{rules}
-use Rattle.ponguriena.proofs.searching.ponguriena_search.Goals.{After-may_ask}
 use Rattle.ponguriena.proofs.searching.ponguriena_search.Goals as goal
 
--- whether the role may
-may : (c : After-may_ask) → let a = c.args in c.may_ask.result ≡ may_ask a.role (ask.Call call.Step)
-may c = let f = c.ranges in rw (to_z-of_z f.role) at c.may_ask.ensures
-
 pub returns-then-not-may_ask : goal.returns-then-not-may_ask
-returns-then-not-may_ask c = rw (← may (record { before = c.before.before; type_inv = record { tiles = c.type_inv.tiles } }), c.if-not-may_ask.true) refl
+returns-then-not-may_ask c =
+    let a = c.args in
+    let f = c.ranges in
+    let may : c.may_ask.result ≡ may_ask a.role (ask.Call call.Step) = rw (to_z-of_z f.role) at c.may_ask.ensures in
+    rw (← may, c.if-not-may_ask.true, c.into.ensures) refl
 
 pub returns : goal.returns
-returns c = let f = c.ranges in rw (← may (record { before = c.before.before.before.before.before; type_inv = record { tiles = c.type_inv.tiles } }), c.if-not-may_ask.false) (rw (to_z-of_z f.id, to_z-of_z f.x, to_z-of_z f.y) at c.search_in.ensures)
+returns c =
+    let a = c.args in
+    let f = c.ranges in
+    let may : c.may_ask.result ≡ may_ask a.role (ask.Call call.Step) = rw (to_z-of_z f.role) at c.may_ask.ensures in
+    rw (← may, c.if-not-may_ask.false, c.number_of_answer.ensures) (rw (to_z-of_z f.id, to_z-of_z f.x, to_z-of_z f.y) at c.search_in.ensures)

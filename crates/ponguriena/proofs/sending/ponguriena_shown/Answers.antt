@@ -8,4 +8,4 @@ pub shape_of-record : goal.shape_of-record
 shape_of-record c = c.shown_in.auto.record
 
 pub returns : goal.returns
-returns c = let f = c.ranges in rw (to_z-of_z f.id) at c.shown_in.ensures
+returns c = let f = c.ranges in rw c.number_of_answer.ensures (rw (to_z-of_z f.id) at c.shown_in.ensures)

@@ -11,51 +11,51 @@ use Rattle.world.specs.Calls.{place_of}
 use Rattle.world_numbers.specs.Encoding.{world_count, seat_place}
 use Rattle.world_numbers.specs.Decoding.{is_set}
 use Rattle.world_buffers.specs.Buffers.{input_in}
-use Rattle.search_rule.specs.Search.{input_of_way}
+use Rattle.world_buffers.proofs.Numbered.{accepted, declined}
 use Rattle.search_calls.specs.Steps.{record_is_at}
 use Rattle.search_calls.proofs.Steps.{took, not-took}
-use Rattle.search_calls.proofs.stepping.step_with.Goals.{After-place_of-at, After-step_in-number}
 use Rattle.search_calls.proofs.stepping.step_with.Goals as goal
 
--- the input is stored
-stored : (s : After-step_in-number) → let a = s.args in input_in a.world.now a.goal.id (input_of_way a.goal a.buttons) ≡ record { number = s.input_in.result; world = s.input_in.new.world }
-stored s = let a = s.args in ap₂ (input_in a.world.now) (sym (read a.goal.id s.struct_told-1.given.0.1)) (sym s.input_with.ensures) ∙ s.input_in.ensures
-
--- the world is as long as before
-long : (s : After-step_in-number) → length s.input_in.new.world ≡ world_count
-long s = s.world-1.given ∙ s.requires.0
-
--- where the goal's id sits
-seat_is : (c : After-place_of-at) → c.place_of-at.result ≡ place_of seats c.args.goal.id
-seat_is c = c.place_of-at.ensures ∙ ap (place_of seats) (read c.args.goal.id c.struct_told-then-number-eq0-1.given.0.1)
-
-seat_within : (c : After-place_of-at) → c.place_of-at.result < seats
-seat_within c = subst (λ (k : ℕ). k < seats) (sym (seat_is c)) c.requires.2
-
 pub record_is_at-requires : goal.record_is_at-requires
-record_is_at-requires c = (c.records-2-1.given, seat_within (record { before = c.before.before; type_inv = record { goal = c.type_inv.goal; tiles = c.type_inv.tiles } }))
+record_is_at-requires c =
+    let seat : c.place_of-at.result ≡ place_of seats c.args.goal.id = c.place_of-at.ensures ∙ ap (place_of seats) (read c.args.goal.id c.struct_told-2-1.given.0.1) in
+    let within : c.place_of-at.result < seats = subst (λ (k : ℕ). k < seats) (sym seat) c.requires.2 in
+    (c.records-2-1.given, within)
 
 pub seat_place-requires : goal.seat_place-requires
-seat_place-requires c = seat_within (record { before = c.before.before.before; type_inv = record { goal = c.struct_told-then-number-eq0-1.given; tiles = c.type_inv.tiles } })
+seat_place-requires c =
+    let seat : c.place_of-at.result ≡ place_of seats c.args.goal.id = c.place_of-at.ensures ∙ ap (place_of seats) (read c.args.goal.id c.struct_told-2-1.given.0.1) in
+    let within : c.place_of-at.result < seats = subst (λ (k : ℕ). k < seats) (sym seat) c.requires.2 in
+    within
 
 pub offset_bounds-world-seat_place : goal.offset_bounds-world-seat_place
-offset_bounds-world-seat_place c = let k = seat_within (record { before = c.before.before.before.before; type_inv = record { goal = c.struct_told-then-number-eq0-1.given; tiles = c.type_inv.tiles } }) in record { fits = omega (arith, k, c.seat_place.ensures) }
+offset_bounds-world-seat_place c =
+    let seat : c.place_of-at.result ≡ place_of seats c.args.goal.id = c.place_of-at.ensures ∙ ap (place_of seats) (read c.args.goal.id c.struct_told-2-1.given.0.1) in
+    let within : c.place_of-at.result < seats = subst (λ (k : ℕ). k < seats) (sym seat) c.requires.2 in
+    record { fits = omega (arith, within, c.seat_place.ensures) }
 
 pub slice_copy_out-is_set : goal.slice_copy_out-is_set
-slice_copy_out-is_set c = let k = seat_within (record { before = c.before.before.before.before; type_inv = record { goal = c.struct_told-then-number-eq0-1.given; tiles = c.type_inv.tiles } }) in let l = long (record { before = c.before.before.before.before.before.before.before.before.before.before; type_inv = record { goal = c.struct_told-1.given; tiles = c.type_inv.tiles } }) in omega (arith, k, c.seat_place.ensures, c.world-2-1.given, l)
+slice_copy_out-is_set c =
+    let seat : c.place_of-at.result ≡ place_of seats c.args.goal.id = c.place_of-at.ensures ∙ ap (place_of seats) (read c.args.goal.id c.struct_told-2-1.given.0.1) in
+    let within : c.place_of-at.result < seats = subst (λ (k : ℕ). k < seats) (sym seat) c.requires.2 in
+    let long : length c.input_in.new.world ≡ world_count = c.world-1.given ∙ c.requires.0 in
+    omega (arith, within, c.seat_place.ensures, c.world-2-1.given, long)
 
-pub returns-then-number-eq0 : goal.returns-then-number-eq0
-returns-then-number-eq0 c =
-    let s = c.before.before.before.before.before.before.before.before.before.before.before.before in
-    let a = s.args in
-    let p = s.requires in
-    took a.sides a.tiles.now a.goal a.buttons a.world.now p.0 p.1 _ _ (stored (record { before = s; type_inv = record { goal = s.struct_told-1.given; tiles = c.type_inv.tiles } })) (long (record { before = s; type_inv = record { goal = s.struct_told-1.given; tiles = c.type_inv.tiles } })) _ (search rules) (search rules) _ s.step_in-number.ensures (c.world-2-1.given ∙ long (record { before = s; type_inv = record { goal = s.struct_told-1.given; tiles = c.type_inv.tiles } })) p.2 _ c.if-number-eq0.true c.records-2-1.given
-    (c.record_is_at.ensures ∙ ap (λ (k : ℕ). record_is_at s.step_in-number.new.records k a.goal) (seat_is (record { before = c.before.before.before.before.before.before; type_inv = record { goal = c.struct_told-then-number-eq0-1.given; tiles = c.type_inv.tiles } })))
-    (c.is_set.ensures ∙ ap is_set (again c.is_set-arg-1.given ∙ ap (number_at s.step_in-number.new.world) (c.seat_place.ensures ∙ ap seat_place (seat_is (record { before = c.before.before.before.before.before.before; type_inv = record { goal = c.struct_told-then-number-eq0-1.given; tiles = c.type_inv.tiles } })))))
+pub returns-then-is_err : goal.returns-then-is_err
+returns-then-is_err c =
+    let a = c.args in
+    let p = c.requires in
+    let stored = ap₂ (input_in a.world.now) (sym (read a.goal.id c.struct_told-1.given.0.1)) (sym c.input_with.ensures) ∙ c.input_in.ensures in
+    let long : length c.input_in.new.world ≡ world_count = c.world-1.given ∙ p.0 in
+    not-took a.sides a.tiles.now a.goal a.buttons a.world.now p.0 p.1 _ _ stored long _ (search rules) (search rules) _ (c.step_in.ensures 0) (c.world-2-1.given ∙ long) p.2 _ (declined c.step_in.result (sym c.is_err.ensures.value ∙ c.if-is_err.true)) refl refl
 
 pub returns : goal.returns
 returns c =
-    let s = c.before.before.before.before.before in
-    let a = s.args in
-    let p = s.requires in
-    not-took a.sides a.tiles.now a.goal a.buttons a.world.now p.0 p.1 _ _ (stored (record { before = s; type_inv = record { goal = s.struct_told-1.given; tiles = c.type_inv.tiles } })) (long (record { before = s; type_inv = record { goal = s.struct_told-1.given; tiles = c.type_inv.tiles } })) _ (search rules) (search rules) _ s.step_in-number.ensures (c.world-2-1.given ∙ long (record { before = s; type_inv = record { goal = s.struct_told-1.given; tiles = c.type_inv.tiles } })) p.2 _ c.if-number-eq0.false refl refl
+    let a = c.args in
+    let p = c.requires in
+    let stored = ap₂ (input_in a.world.now) (sym (read a.goal.id c.struct_told-1.given.0.1)) (sym c.input_with.ensures) ∙ c.input_in.ensures in
+    let long : length c.input_in.new.world ≡ world_count = c.world-1.given ∙ p.0 in
+    let seat : c.place_of-at.result ≡ place_of seats c.args.goal.id = c.place_of-at.ensures ∙ ap (place_of seats) (read c.args.goal.id c.struct_told-2-1.given.0.1) in
+    took a.sides a.tiles.now a.goal a.buttons a.world.now p.0 p.1 _ _ stored long _ (search rules) (search rules) _ (c.step_in.ensures 0) (c.world-2-1.given ∙ long) p.2 _ (accepted c.step_in.result (sym c.is_err.ensures.value ∙ c.if-is_err.false)) c.records-2-1.given
+    (c.record_is_at.ensures ∙ ap (λ (k : ℕ). record_is_at c.step_in.new.records k a.goal) seat)
+    (c.is_set.ensures ∙ ap is_set (again c.is_set-arg-1.given ∙ ap (number_at c.step_in.new.world) (c.seat_place.ensures ∙ ap seat_place seat)))

@@ -5,7 +5,7 @@ use native.Mathlib.Omega.{arith}
 use lib.IntN.{ℤ}
 use lib.ListN.{length, take, drop}
 use mir.Facts.{to_z-of_z}
-use borrow.Author.Rules.{rules}
+use borrow.Author.Tests.{not-true, not-false}
 use Rattle.base_rows.proofs.Puts.{put_end}
 use Rattle.game_records.specs.Numbers.{core_count, core_numbers}
 use Rattle.game_records.proofs.Back.{core_long}
@@ -18,6 +18,7 @@ use Rattle.world_numbers.proofs.RowsIn.{to_end}
 use Rattle.send_numbers.specs.Copies.{copy_in, copy_count, screen_decoding}
 use Rattle.send_numbers.proofs.CopiesBack.{copy_is}
 use Rattle.send_buffers.proofs.Taken.{shown_wrong_screen, shown-wrong-record, shown-no-seat, shown-none, shown-is}
+use Rattle.send_buffers.proofs.screens.shown_in.Goals.{then-screen-ne-SCREEN-via-then-screen-ne-SCREEN, then-screen-ne-SCREEN-via-else-screen-ne-SCREEN+then-record-ne-CORE}
 use Rattle.send_buffers.proofs.screens.shown_in.Goals as goal
 
 -- the copy that is read at a place
@@ -26,16 +27,18 @@ unfolding screen_decoding
 copy_is_read l k r h m e = copy_is seats k (drop tuning_count l) h ∙ ap (λ (m : List ℤ). copy_in (drop (copy_count * k) m)) (sym (to_end tuning_count l m)) ∙ sym e
 
 pub returns-then-screen-ne-SCREEN : goal.returns-then-screen-ne-SCREEN
-returns-then-screen-ne-SCREEN c = let a = c.args in shown_wrong_screen a.screen.now a.id a.«record».now c.if-screen-ne-SCREEN.true
-
-pub returns-then-record-ne-CORE : goal.returns-then-record-ne-CORE
-returns-then-record-ne-CORE c = let a = c.args in shown-wrong-record a.screen.now a.id a.«record».now c.if-screen-ne-SCREEN.false c.if-record-ne-CORE.true
+returns-then-screen-ne-SCREEN c =
+    let a = c.args in
+    elim c.then-screen-ne-SCREEN.branch [
+      | then-screen-ne-SCREEN-via-then-screen-ne-SCREEN w ↦ shown_wrong_screen a.screen.now a.id a.«record».now w.if-screen-ne-SCREEN.true
+      | then-screen-ne-SCREEN-via-else-screen-ne-SCREEN+then-record-ne-CORE w ↦ shown-wrong-record a.screen.now a.id a.«record».now w.if-screen-ne-SCREEN.false w.if-record-ne-CORE.true
+    ]
 
 pub returns-then-at-ge-SEATS : goal.returns-then-at-ge-SEATS
 returns-then-at-ge-SEATS c = let b = c in let a = b.args in shown-no-seat a.screen.now a.id a.«record».now b.if-screen-ne-SCREEN.false b.if-record-ne-CORE.false b.place_of-at.result (c.place_of-at.ensures ∙ ap (place_of seats) (to_z-of_z c.ranges.id)) c.if-at-ge-SEATS.true
 
-pub returns-then-shown : goal.returns-then-shown
-returns-then-shown c =
+pub returns : goal.returns
+returns c =
     let d = c in
     let b = c in
     let a = b.args in
@@ -43,11 +46,11 @@ returns-then-shown c =
     let r = c.core_numbers-core in
     let n : length r.result ≡ core_count = ap length r.ensures ∙ core_long _ in
     let g = b.if-record-ne-CORE.false in
-    shown-is a.screen.now a.id a.«record».now b.if-screen-ne-SCREEN.false g b.place_of-at.result (c.place_of-at.ensures ∙ ap (place_of seats) (to_z-of_z c.ranges.id)) c.copy.new.numbers d.if-at-ge-SEATS.false (ap (λ (x : Copy). x.kept) s ∙ c.if-shown.true) (c.copy.ensures ∙ put_end _ 0 _ (omega arith) ∙ r.ensures ∙ ap (λ (x : Copy). core_numbers x.core) (sym s))
+    shown-is a.screen.now a.id a.«record».now b.if-screen-ne-SCREEN.false g b.place_of-at.result (c.place_of-at.ensures ∙ ap (place_of seats) (to_z-of_z c.ranges.id)) c.copy.new.numbers d.if-at-ge-SEATS.false (ap (λ (x : Copy). x.kept) s ∙ not-false _ c.if-not-shown.false) (c.copy.ensures ∙ put_end _ 0 _ (omega arith) ∙ r.ensures ∙ ap (λ (x : Copy). core_numbers x.core) (sym s))
 
-pub returns : goal.returns
-returns c =
+pub returns-then-not-shown : goal.returns-then-not-shown
+returns-then-not-shown c =
     let d = c in
     let b = c in
     let a = b.args in
-    shown-none a.screen.now a.id a.«record».now b.if-screen-ne-SCREEN.false b.if-record-ne-CORE.false b.place_of-at.result (c.place_of-at.ensures ∙ ap (place_of seats) (to_z-of_z c.ranges.id)) d.if-at-ge-SEATS.false (ap (λ (x : Copy). x.kept) (copy_is_read c.args.screen.now c.place_of-at.result c.copy_at-shown.result c.if-at-ge-SEATS.false (omega arith) c.copy_at-shown.ensures) ∙ c.if-shown.false)
+    shown-none a.screen.now a.id a.«record».now b.if-screen-ne-SCREEN.false b.if-record-ne-CORE.false b.place_of-at.result (c.place_of-at.ensures ∙ ap (place_of seats) (to_z-of_z c.ranges.id)) d.if-at-ge-SEATS.false (ap (λ (x : Copy). x.kept) (copy_is_read c.args.screen.now c.place_of-at.result c.copy_at-shown.result c.if-at-ge-SEATS.false (omega arith) c.copy_at-shown.ensures) ∙ not-true _ c.if-not-shown.true)

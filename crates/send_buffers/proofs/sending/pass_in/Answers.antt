@@ -1,21 +1,31 @@
-use lib.ListN.{length-map}
-use Rattle.send_buffers.proofs.Kept.{count_fits, no_world, no_sender, no_room, all_room, none_passed, all_passed}
+use mathlib.Core.Bool.{false}
+use mathlib.Core.Path.{◌≡◌, refl, sym, ap, ◌∙◌}
+use Prim.Native.Nat.{ℕ}
 use borrow.Author.Rules.{rules}
+use Rattle.character.specs.Tick.{seats}
+use Rattle.world.specs.Step.{stepped}
+use Rattle.world_numbers.specs.Decoding.{decoding}
+use Rattle.send_calls.specs.Sending.{sent_in}
+use Rattle.send_buffers.specs.Sends.{passes, keep_sent}
+use Rattle.send_buffers.proofs.Kept.{count_fits, number_same, no_world, no_sender, no_room, all_room, none_passed, all_passed}
+use Rattle.send_buffers.proofs.sending.pass_in.Goals.{then-world-ne-WORLD-via-then-world-ne-WORLD, then-world-ne-WORLD-via-else-world-ne-WORLD+then-sender-ne-SENDER, then-world-ne-WORLD-via-else-world-ne-WORLD+else-sender-ne-SENDER+then-passed-ne-PASSED}
 use Rattle.send_buffers.proofs.sending.pass_in.Goals as goal
 
 pub returns-then-world-ne-WORLD : goal.returns-then-world-ne-WORLD
-returns-then-world-ne-WORLD c = let a = c.args in let e = no_world a.world.now (record { sender = a.sender.now; passed = a.passed.now; count = a.count.now }) c.if-world-ne-WORLD.true in (e, none_passed a.call a.world.now (record { sender = a.sender.now; passed = a.passed.now; count = a.count.now }) e)
-
-pub returns-then-sender-ne-SENDER : goal.returns-then-sender-ne-SENDER
-returns-then-sender-ne-SENDER c = let a = c.args in let e = no_sender a.world.now (record { sender = a.sender.now; passed = a.passed.now; count = a.count.now }) c.if-world-ne-WORLD.false c.if-sender-ne-SENDER.true in (e, none_passed a.call a.world.now (record { sender = a.sender.now; passed = a.passed.now; count = a.count.now }) e)
-
-pub returns-then-passed-ne-PASSED : goal.returns-then-passed-ne-PASSED
-returns-then-passed-ne-PASSED c = let a = c.args in let e = no_room a.world.now (record { sender = a.sender.now; passed = a.passed.now; count = a.count.now }) c.if-world-ne-WORLD.false c.if-sender-ne-SENDER.false c.if-passed-ne-PASSED.true in (e, none_passed a.call a.world.now (record { sender = a.sender.now; passed = a.passed.now; count = a.count.now }) e)
+returns-then-world-ne-WORLD c =
+    let a = c.args in
+    let none : passes a.world.now (record { sender = a.sender.now; passed = a.passed.now; count = a.count.now }) ≡ false =
+    elim c.then-world-ne-WORLD.branch [
+      | then-world-ne-WORLD-via-then-world-ne-WORLD w ↦ sym (no_world a.world.now (record { sender = a.sender.now; passed = a.passed.now; count = a.count.now }) w.if-world-ne-WORLD.true)
+      | then-world-ne-WORLD-via-else-world-ne-WORLD+then-sender-ne-SENDER w ↦ sym (no_sender a.world.now (record { sender = a.sender.now; passed = a.passed.now; count = a.count.now }) w.if-world-ne-WORLD.false w.if-sender-ne-SENDER.true)
+      | then-world-ne-WORLD-via-else-world-ne-WORLD+else-sender-ne-SENDER+then-passed-ne-PASSED w ↦ sym (no_room a.world.now (record { sender = a.sender.now; passed = a.passed.now; count = a.count.now }) w.if-world-ne-WORLD.false w.if-sender-ne-SENDER.false w.if-passed-ne-PASSED.true)
+    ] in
+    (rw none refl, none_passed a.call a.world.now (record { sender = a.sender.now; passed = a.passed.now; count = a.count.now }) (sym none))
 
 pub keep_sent-requires : goal.keep_sent-requires
 keep_sent-requires c =
     let s = c.send-called in
-    (c.if-sender-ne-SENDER.false, c.if-passed-ne-PASSED.false, count_fits _ s.result.sending s.ensures.1 s.type_inv.1.1.1.0.1.1.1.1.0.1.0.1)
+    (c.if-sender-ne-SENDER.false, c.if-passed-ne-PASSED.false, count_fits _ s.result.sending s.ensures.1 (search rules))
 
 pub returns : goal.returns
 returns c =
@@ -23,4 +33,4 @@ returns c =
     let s = c.send-called in
     let a = c.args in
     let e = all_room a.world.now (record { sender = a.sender.now; passed = a.passed.now; count = a.count.now }) c.if-world-ne-WORLD.false c.if-sender-ne-SENDER.false c.if-passed-ne-PASSED.false in
-    (e, all_passed a.call a.world.now (record { sender = a.sender.now; passed = a.passed.now; count = a.count.now }) s.result.stepped s.result.sending _ e (rw c.decode.ensures at s.ensures.0) (rw (c.decode.ensures, c.decode_copies.ensures) at s.ensures.1) t.ensures)
+    (rw (sym e) refl, all_passed a.call a.world.now (record { sender = a.sender.now; passed = a.passed.now; count = a.count.now }) (stepped seats (decoding seats a.world.now) s.result.answer) s.result.sending _ e (rw c.decode.ensures at s.ensures.0) (rw (c.decode.ensures, c.decode_copies.ensures) at s.ensures.1) (ap (λ (k : ℕ). keep_sent (record { sender = a.sender.now; passed = a.passed.now; count = a.count.now }) k (sent_in s.result.sending)) (sym (number_same (decoding seats a.world.now) s.result.answer)) ∙ t.ensures))

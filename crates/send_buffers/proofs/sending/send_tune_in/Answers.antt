@@ -1,20 +1,23 @@
+use mathlib.Core.Bool.{true, false}
+use mathlib.Core.Path.{refl, sym}
 use mir.Facts.{to_z-of_z}
+use Rattle.std.proofs.lemmas.Result.{err_from_is_err_and}
 use Rattle.world.specs.declared.call.Call.TheVariants as call
 use Rattle.world_buffers.specs.Buffers.{tune_in}
-use Rattle.send_buffers.proofs.Kept.{made, not_made}
-use borrow.Author.Rules.{rules}
+use Rattle.send_buffers.proofs.Kept.{made, not_made, has_no_room, has_its_room}
 use Rattle.send_buffers.proofs.sending.send_tune_in.Goals as goal
 
-pub returns-then-pass_in : goal.returns-then-pass_in
-returns-then-pass_in c =
-    let s = c in
-    let a = s.args in
-    let p = c.pass_in in
-    made (call.Tune a.index a.value) a.world.now (record { sender = a.sender.now; passed = a.passed.now; count = a.count.now }) (tune_in a.world.now a.index a.value) p.result _ p.ensures.0 (rw (to_z-of_z s.ranges.index, to_z-of_z s.ranges.value) at p.ensures.1) _ c.if-pass_in.true (rw (to_z-of_z s.ranges.index, to_z-of_z s.ranges.value) at c.tune_in.ensures)
+pub returns-in_err-pass_in : goal.returns-in_err-pass_in
+returns-in_err-pass_in c =
+    let a = c.args in
+    let e = c.in_err-pass_in.ensures in
+    let n = has_no_room a.world.now (record { sender = a.sender.now; passed = a.passed.now; count = a.count.now }) c.in_err-pass_in.field-0.0 e.0 in
+    let p = err_from_is_err_and c.from_residual.result c.from_residual.ensures.1 in
+    rw (p.1, p.2, n.1) (not_made (call.Tune a.index a.value) a.world.now (record { sender = a.sender.now; passed = a.passed.now; count = a.count.now }) (tune_in a.world.now a.index a.value) false _ (sym n.0) (rw (to_z-of_z c.ranges.index, to_z-of_z c.ranges.value) at e.1) refl)
 
 pub returns : goal.returns
 returns c =
-    let s = c in
-    let a = s.args in
-    let p = c.pass_in in
-    not_made (call.Tune a.index a.value) a.world.now (record { sender = a.sender.now; passed = a.passed.now; count = a.count.now }) (tune_in a.world.now a.index a.value) p.result _ p.ensures.0 (rw (to_z-of_z s.ranges.index, to_z-of_z s.ranges.value) at p.ensures.1) c.if-pass_in.false
+    let a = c.args in
+    let e = c.in_ok-pass_in.ensures in
+    let room = has_its_room a.world.now (record { sender = a.sender.now; passed = a.passed.now; count = a.count.now }) _ e.0 in
+    made (call.Tune a.index a.value) a.world.now (record { sender = a.sender.now; passed = a.passed.now; count = a.count.now }) (tune_in a.world.now a.index a.value) true _ (sym room) (rw (to_z-of_z c.ranges.index, to_z-of_z c.ranges.value) at e.1) _ refl (rw (to_z-of_z c.ranges.index, to_z-of_z c.ranges.value) at c.tune_in.ensures)

@@ -1,5 +1,4 @@
 use mathlib.Core.Path.{ap, ◌∙◌}
-use borrow.Author.Rules.{rules}
 use Rattle.send_numbers.specs.Copies.{copies_encoding}
 use Rattle.send_buffers.proofs.Kept.{fresh_wrong, fresh_right}
 use Rattle.send_buffers.proofs.sending.sender_fresh_in.Goals as goal

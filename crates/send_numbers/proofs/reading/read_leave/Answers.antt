@@ -1,25 +1,21 @@
-use mathlib.Core.Path.{◌≡◌, sym, ap, ◌∙◌}
-use Rattle.game_records.specs.Numbers.{number_at}
-use Rattle.game_records.proofs.Bits.{again}
+use Rattle.std.proofs.lemmas.Result.{err_from_is_err_and}
+use Rattle.game_refusals.specs.declared.Refusal.TheVariants.{BadId}
 use Rattle.character.specs.Tick.{seats}
-use Rattle.world.specs.Calls.{place_of}
 use Rattle.send_rule.specs.declared.Passed.TheVariants as passed
 use Rattle.send_numbers.specs.Reading.{read_leave}
-use Rattle.send_numbers.proofs.Readings.{too_short, no_place, place_read}
-use Rattle.send_numbers.proofs.reading.read_leave.Goals.{After-place_of-at}
+use Rattle.send_numbers.proofs.Readings.{not_named, is_named}
 use Rattle.send_numbers.proofs.reading.read_leave.Goals as goal
 
-place_is : (c : After-place_of-at) → c.place_of-at.result ≡ place_of seats (number_at c.args.numbers.now 1)
-place_is c = c.place_of-at.ensures ∙ ap (place_of seats) (again c.place_of-arg-1.given)
-
-pub returns-then-numbers-lt2 : goal.returns-then-numbers-lt2
+pub returns-in_err-id : goal.returns-in_err-id
 unfolding read_leave
-returns-then-numbers-lt2 c = sym (too_short 2 seats 2 passed.Leave c.args.numbers.now c.if-numbers-lt2.true)
-
-pub returns-then-at-lt-SEATS : goal.returns-then-at-lt-SEATS
-unfolding read_leave
-returns-then-at-lt-SEATS c = sym (place_read 2 seats 2 passed.Leave c.args.numbers.now c.place_of-at.result c.if-numbers-lt2.false (place_is c.before) c.if-at-lt-SEATS.true)
+returns-in_err-id c =
+    let l = c.args.numbers.now in
+    let p = err_from_is_err_and c.from_residual.result c.from_residual.ensures.1 in
+    rw (p.1, p.2) (not_named 2 seats BadId l passed.Leave c.in_err-id.field-0.0 c.in_err-id.ensures)
 
 pub returns : goal.returns
 unfolding read_leave
-returns c = sym (no_place 2 seats 2 passed.Leave c.args.numbers.now c.place_of-at.result c.if-numbers-lt2.false (place_is c.before) c.if-at-lt-SEATS.false)
+returns c =
+    let l = c.args.numbers.now in
+    let h = is_named 2 seats BadId l passed.Leave c.in_ok-id.id c.in_ok-id.ensures in
+    h.1

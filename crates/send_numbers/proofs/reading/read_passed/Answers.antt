@@ -1,55 +1,62 @@
-use mathlib.Core.Path.{refl}
+use mathlib.Core.Bool.{true, false}
+use mathlib.Core.Path.{◌≡◌, refl, sym, ◌∙◌}
+use native.Mathlib.Omega.{arith}
+use lib.Dec.{eqb}
 use lib.ListN.{length}
-use borrow.Author.Tests.{eq-eqb, ne_eqb}
+use mir.Syntax.{w32}
+use mir.Val.{of_z}
+use Rattle.game_records.specs.Numbers.{number_at}
 use Rattle.send_numbers.specs.Reading.{read_passed}
 use Rattle.send_numbers.proofs.Readings.{is_kind_lem, not_kind}
 use Rattle.send_numbers.proofs.reading.read_passed.Goals as goal
 
-pub returns-then-numbers-eq0 : goal.returns-then-numbers-eq0
+pub returns-then-is_empty : goal.returns-then-is_empty
 unfolding read_passed
-returns-then-numbers-eq0 c = rw (eq-eqb (length c.args.numbers.now) 0 c.if-numbers-eq0.true)
+returns-then-is_empty c = let e : eqb (length c.args.numbers.now) 0 ≡ true = sym c.is_empty.ensures ∙ c.if-is_empty.true in rw e refl
 
-pub returns-then-kind-eq-KIND_MARK : goal.returns-then-kind-eq-KIND_MARK
+pub returns-in-0 : goal.returns-in-0
 unfolding read_passed
-returns-then-kind-eq-KIND_MARK c =
-    let b = c in
-    let l = b.args.numbers.now in
-    rw (ne_eqb (length l) 0 b.if-numbers-eq0.false, is_kind_lem 0 l c.kind-1.given refl c.if-kind-eq-KIND_MARK.true)
+returns-in-0 c =
+    let l = c.args.numbers.now in
+    let some : eqb (length l) 0 ≡ false = sym c.is_empty.ensures ∙ c.if-is_empty.false in
+    let q : of_z w32 (number_at l 0) ≡ 0 = omega arith in
+    rw (some, is_kind_lem 0 l c.kind-1.given refl q) refl
 
-pub returns-then-kind-eq-KIND_MESSAGE : goal.returns-then-kind-eq-KIND_MESSAGE
+pub returns-in-1 : goal.returns-in-1
 unfolding read_passed
-returns-then-kind-eq-KIND_MESSAGE c =
-    let b = c in
-    let l = b.args.numbers.now in
-    rw (ne_eqb (length l) 0 b.if-numbers-eq0.false, not_kind 0 l c.kind-1.given refl c.if-kind-eq-KIND_MARK.false, is_kind_lem 1 l c.kind-1.given refl c.if-kind-eq-KIND_MESSAGE.true) c.read_message.ensures
+returns-in-1 c =
+    let l = c.args.numbers.now in
+    let some : eqb (length l) 0 ≡ false = sym c.is_empty.ensures ∙ c.if-is_empty.false in
+    let q : of_z w32 (number_at l 0) ≡ 1 = omega arith in
+    rw (some, not_kind 0 l c.kind-1.given refl (λ e. omega (arith, q)), is_kind_lem 1 l c.kind-1.given refl q) c.read_message.ensures
 
-pub returns-then-kind-eq-KIND_REMOVAL : goal.returns-then-kind-eq-KIND_REMOVAL
+pub returns-in-2 : goal.returns-in-2
 unfolding read_passed
-returns-then-kind-eq-KIND_REMOVAL c =
-    let b = c in
-    let l = b.args.numbers.now in
-    rw (ne_eqb (length l) 0 b.if-numbers-eq0.false, not_kind 0 l c.kind-1.given refl c.if-kind-eq-KIND_MARK.false, not_kind 1 l c.kind-1.given refl c.if-kind-eq-KIND_MESSAGE.false, is_kind_lem 2 l c.kind-1.given refl c.if-kind-eq-KIND_REMOVAL.true) c.read_removal.ensures
+returns-in-2 c =
+    let l = c.args.numbers.now in
+    let some : eqb (length l) 0 ≡ false = sym c.is_empty.ensures ∙ c.if-is_empty.false in
+    let q : of_z w32 (number_at l 0) ≡ 2 = omega arith in
+    rw (some, not_kind 0 l c.kind-1.given refl (λ e. omega (arith, q)), not_kind 1 l c.kind-1.given refl (λ e. omega (arith, q)), is_kind_lem 2 l c.kind-1.given refl q) c.read_removal.ensures
 
-pub returns-then-kind-eq-KIND_LEAVE : goal.returns-then-kind-eq-KIND_LEAVE
+pub returns-in-3 : goal.returns-in-3
 unfolding read_passed
-returns-then-kind-eq-KIND_LEAVE c =
-    let d = c in
-    let b = c in
-    let l = b.args.numbers.now in
-    rw (ne_eqb (length l) 0 b.if-numbers-eq0.false, not_kind 0 l c.kind-1.given refl d.if-kind-eq-KIND_MARK.false, not_kind 1 l c.kind-1.given refl d.if-kind-eq-KIND_MESSAGE.false, not_kind 2 l c.kind-1.given refl c.if-kind-eq-KIND_REMOVAL.false, is_kind_lem 3 l c.kind-1.given refl c.if-kind-eq-KIND_LEAVE.true) c.read_leave.ensures
+returns-in-3 c =
+    let l = c.args.numbers.now in
+    let some : eqb (length l) 0 ≡ false = sym c.is_empty.ensures ∙ c.if-is_empty.false in
+    let q : of_z w32 (number_at l 0) ≡ 3 = omega arith in
+    rw (some, not_kind 0 l c.kind-1.given refl (λ e. omega (arith, q)), not_kind 1 l c.kind-1.given refl (λ e. omega (arith, q)), not_kind 2 l c.kind-1.given refl (λ e. omega (arith, q)), is_kind_lem 3 l c.kind-1.given refl q) c.read_leave.ensures
 
-pub returns-then-kind-eq-KIND_TUNE : goal.returns-then-kind-eq-KIND_TUNE
+pub returns-in-4 : goal.returns-in-4
 unfolding read_passed
-returns-then-kind-eq-KIND_TUNE c =
-    let d = c in
-    let b = c in
-    let l = b.args.numbers.now in
-    rw (ne_eqb (length l) 0 b.if-numbers-eq0.false, not_kind 0 l c.kind-1.given refl d.if-kind-eq-KIND_MARK.false, not_kind 1 l c.kind-1.given refl d.if-kind-eq-KIND_MESSAGE.false, not_kind 2 l c.kind-1.given refl c.if-kind-eq-KIND_REMOVAL.false, not_kind 3 l c.kind-1.given refl c.if-kind-eq-KIND_LEAVE.false, is_kind_lem 4 l c.kind-1.given refl c.if-kind-eq-KIND_TUNE.true) c.read_tune.ensures
+returns-in-4 c =
+    let l = c.args.numbers.now in
+    let some : eqb (length l) 0 ≡ false = sym c.is_empty.ensures ∙ c.if-is_empty.false in
+    let q : of_z w32 (number_at l 0) ≡ 4 = omega arith in
+    rw (some, not_kind 0 l c.kind-1.given refl (λ e. omega (arith, q)), not_kind 1 l c.kind-1.given refl (λ e. omega (arith, q)), not_kind 2 l c.kind-1.given refl (λ e. omega (arith, q)), not_kind 3 l c.kind-1.given refl (λ e. omega (arith, q)), is_kind_lem 4 l c.kind-1.given refl q) c.read_tune.ensures
 
-pub returns : goal.returns
+pub returns-in_default : goal.returns-in_default
 unfolding read_passed
-returns c =
-    let d = c in
-    let b = c in
-    let l = b.args.numbers.now in
-    rw (ne_eqb (length l) 0 b.if-numbers-eq0.false, not_kind 0 l c.kind-1.given refl d.if-kind-eq-KIND_MARK.false, not_kind 1 l c.kind-1.given refl d.if-kind-eq-KIND_MESSAGE.false, not_kind 2 l c.kind-1.given refl c.if-kind-eq-KIND_REMOVAL.false, not_kind 3 l c.kind-1.given refl c.if-kind-eq-KIND_LEAVE.false, not_kind 4 l c.kind-1.given refl c.if-kind-eq-KIND_TUNE.false)
+returns-in_default c =
+    let l = c.args.numbers.now in
+    let some : eqb (length l) 0 ≡ false = sym c.is_empty.ensures ∙ c.if-is_empty.false in
+    rw (some, not_kind 0 l c.kind-1.given refl (λ e. omega arith), not_kind 1 l c.kind-1.given refl (λ e. omega arith), not_kind 2 l c.kind-1.given refl (λ e. omega arith), not_kind 3 l c.kind-1.given refl (λ e. omega arith), not_kind 4 l c.kind-1.given refl (λ e. omega arith)) refl

@@ -6,7 +6,7 @@ use Rattle.session_run.proofs.Due.{most_left}
 use Rattle.session_run.proofs.lines.run_lines.Given as goal
 
 abbrev pub invariant-loop-sides : goal.invariant-loop-sides
-invariant-loop-sides l = LinesRan seats l.text l.sides l.tiles l.initial.now l.initial.buf 0 l.now l.buf l.used × (length l.buf ≡ length l.initial.buf)
+invariant-loop-sides l = LinesRan seats l.text l.sides l.tiles l.initial.turned.session l.initial.buf 0 l.turned.session l.buf l.turned.next × (length l.buf ≡ length l.initial.buf)
 
 abbrev pub decreases-loop-sides : goal.decreases-loop-sides
-decreases-loop-sides l = most_left l.now
+decreases-loop-sides l = most_left l.turned.session

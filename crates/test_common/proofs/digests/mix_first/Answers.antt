@@ -1,36 +1,24 @@
-use Rattle.std.proofs.Common.{◌≡◌, ℕ, ◌<◌, ◌≤◌, List, ℤ, sym, ap, ◌∙◌, arith, to_z-of_z, w32, le-ltb, lt-ltb}
+use Rattle.std.proofs.Common.{pos, sym, refl, ap, ◌∙◌, to_z-of_z, w32, rules, le-ltb, lt-ltb}
+use Rattle.test_common.specs.Digest.{mixed, first_turn, mixed_first}
 use Rattle.base_turns.specs.Turns.{more}
-use Rattle.base_turns.proofs.Loop.{always, fold_first, turn_on, fold_end}
-use Rattle.test_common.specs.Digest.{mixed, number_turn, first_turn, mixed_first}
-use Rattle.test_common.proofs.digests.mix_first.Goals.{then-i-count, else-i-count}
+use Rattle.base_turns.proofs.Loop.{fold_first, turn_on}
+use Rattle.test_common.proofs.Ends.{fold_over, among, same_at, behind}
 use Rattle.test_common.proofs.digests.mix_first.Goals as goal
 
--- a turn on plain values: the number counts, or not
-module _ (count : ℕ) (zs : List ℤ) (i h k : ℕ) where
-  counts : i < count → k ≡ number_turn zs i h → always (first_turn count zs) i h ≡ more k
-  counts l e = rw (lt-ltb i count l, sym e)
+pub loop-number-init : goal.loop-number-init
+loop-number-init c = fold_first
 
-  over : count ≤ i → k ≡ h → always (first_turn count zs) i h ≡ more k
-  over l e = rw (le-ltb i count l, sym e)
-
-pub loop-i-init : goal.loop-i-init
-loop-i-init c = fold_first
-
-pub overflow_step-i : goal.overflow_step-i
-overflow_step-i c = omega arith
-
-pub loop-i-smaller : goal.loop-i-smaller
-loop-i-smaller c = omega arith
-
-pub loop-i-preserved : goal.loop-i-preserved
-loop-i-preserved c =
-    let l = c.loop-i in
-    let a = c.args in
-    turn_on l.invariant c.loop-i-test.true (elim c.if-i-count.branch [
-      | then-i-count w ↦ counts a.count a.numbers.now l.i l.sum c.if-i-count.sum w.if-i-count.true (w.sum-is ∙ w.mix-sum.ensures ∙ ap (mixed l.sum) (to_z-of_z {w = w32} (record { sfits = c.number-1.given })))
-      | else-i-count w ↦ over a.count a.numbers.now l.i l.sum c.if-i-count.sum w.if-i-count.false w.sum-is
-    ])
+pub loop-number-preserved : goal.loop-number-preserved
+loop-number-preserved c =
+    let l = c.loop-number in
+    let f = c.first-number-items in
+    let i = among c.args.count c.args.numbers.now f.result.now f.ensures l.number-index c.loop-number-test.true in
+    let e = c.mix-sum.ensures ∙ ap (mixed l.sum) (to_z-of_z {w = w32} (search rules) ∙ same_at c.args.count c.args.numbers.now f.result.now f.ensures l.number-index (pos 0) c.loop-number-test.true) in
+    turn_on l.invariant i.1 (rw (lt-ltb l.number-index c.args.count i.0) (ap more (sym e)))
 
 pub returns : goal.returns
 unfolding mixed_first
-returns c = sym (fold_end c.loop-i.invariant c.loop-i-test.false)
+returns c =
+    let l = c.loop-number in
+    let f = c.first-number-items in
+    sym (fold_over (first_turn c.args.count c.args.numbers.now) _ l.number-index l.sum _ l.invariant (λ k a b. rw (le-ltb k c.args.count (behind c.args.count c.args.numbers.now f.result.now f.ensures l.number-index k c.loop-number-test.false a b)) refl))

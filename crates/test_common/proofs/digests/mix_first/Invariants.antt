@@ -1,11 +1,8 @@
-use Rattle.std.proofs.Common.{◌-◌}
+use Rattle.std.proofs.Common.{length}
 use Rattle.base_turns.specs.Turns.{fold, more}
 use Rattle.base_turns.proofs.Loop.{Left, always}
 use Rattle.test_common.specs.Digest.{first_turn}
 use Rattle.test_common.proofs.digests.mix_first.Given as goal
 
-abbrev pub invariant-loop-i : goal.invariant-loop-i
-invariant-loop-i l = Left (always (first_turn l.count l.numbers)) l.i-end l.i l.sum (more (fold (first_turn l.count l.numbers) l.i-end 0 l.initial.sum))
-
-abbrev pub decreases-loop-i : goal.decreases-loop-i
-decreases-loop-i l = l.i-end - l.i
+abbrev pub invariant-loop-number : goal.invariant-loop-number
+invariant-loop-number l = Left (always (first_turn l.count l.numbers)) (length l.numbers) l.number-index l.sum (more (fold (first_turn l.count l.numbers) (length l.numbers) 0 l.initial.sum))

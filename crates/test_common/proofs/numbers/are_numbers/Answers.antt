@@ -1,4 +1,4 @@
-use Rattle.std.proofs.Common.{◌≡◌, ℕ, ◌+◌, Bool, true, false, eqb, List, get_or, ℤ, pos, sym, refl, ap, ◌∙◌, subst, true≢false, arith, to_z-of_z, w32, eqb-true}
+use Rattle.std.proofs.Common.{◌≡◌, ℕ, ◌+◌, Bool, true, false, eqb, List, get_or, ℤ, pos, sym, refl, ap, ◌∙◌, subst, true≢false, arith, rules, to_z-of_z, w32, eqb-true}
 use borrow.Author.Tests.{eqb-false}
 use Rattle.num_convert.specs.Casts.{cast_signed}
 use Rattle.test_common.specs.Words.{word_at}
@@ -35,7 +35,7 @@ loop-i-preserved c =
     let l = c in
     let a = l.args in
     let t = c.is_int in
-    let q = sym (to_z-of_z {w = w32} (record { sfits = c.number-1.given })) ∙ t.ensures (c.if-not-is_int.false) ∙ ap cast_signed c.nth.ensures in
+    let q = sym (to_z-of_z {w = w32} (search rules)) ∙ t.ensures (c.if-not-is_int.false) ∙ ap cast_signed c.nth.ensures in
     (omega arith, l.loop-i.invariant.1, first_more a.words.now a.numbers.now l.loop-i.i l.loop-i.invariant.2 q)
 
 pub returns : goal.returns

@@ -11,8 +11,8 @@ loop-i-init c = (fold_first, refl, refl)
 pub nth-requires : goal.nth-requires
 nth-requires c = tt
 
-pub cast_signed-number-requires : goal.cast_signed-number-requires
-cast_signed-number-requires c = tt
+pub cast_signed-requires : goal.cast_signed-requires
+cast_signed-requires c = tt
 
 pub overflow_step-i : goal.overflow_step-i
 overflow_step-i c = omega arith
@@ -23,7 +23,7 @@ loop-i-smaller c = omega arith
 pub loop-i-preserved : goal.loop-i-preserved
 loop-i-preserved c =
     let l = c.loop-i in
-    let s = c.cast_signed-number in
+    let s = c.cast_signed in
     let e = to_z-of_z {w = w32} {z = s.result} (record { sfits = s.type_inv }) ∙ s.ensures ∙ ap cast_signed c.nth.ensures in
     (turn_on l.invariant.0 c.loop-i-test.true (ap more (ap (set l.numbers l.i) (sym e))), simp length-set l.invariant.1, l.invariant.2)
 

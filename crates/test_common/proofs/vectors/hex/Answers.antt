@@ -1,23 +1,24 @@
-use Rattle.std.proofs.Common.{arith, le-ltb, lt-ltb}
+use Rattle.std.proofs.Common.{arith}
+use Rattle.std.proofs.lemmas.Bool.Decides.{nat_tests}
 use Rattle.test_common.specs.Words.{hex_of}
 use Rattle.test_common.proofs.vectors.hex.Goals as goal
 
-pub returns-then-byte-lt48 : goal.returns-then-byte-lt48
+pub returns-in-48-to-57 : goal.returns-in-48-to-57
 unfolding hex_of
-returns-then-byte-lt48 c = (simp (lt-ltb _ _ c.if-byte-lt48.true), omega arith)
+returns-in-48-to-57 c = grind (arith, nat_tests)
 
-pub returns-then-byte-lt58 : goal.returns-then-byte-lt58
+pub returns-in-97-to-102 : goal.returns-in-97-to-102
 unfolding hex_of
-returns-then-byte-lt58 c = (simp (le-ltb _ _ c.if-byte-lt48.false, lt-ltb _ _ c.if-byte-lt58.true), omega arith)
+returns-in-97-to-102 c = grind (arith, nat_tests)
 
-pub returns-then-byte-lt97 : goal.returns-then-byte-lt97
+pub returns-in_default : goal.returns-in_default
 unfolding hex_of
-returns-then-byte-lt97 c = (simp (le-ltb _ _ c.if-byte-lt48.false, le-ltb _ _ c.if-byte-lt58.false, lt-ltb _ _ c.if-byte-lt97.true), omega arith)
+returns-in_default c = grind (arith, nat_tests)
 
-pub returns-then-byte-lt103 : goal.returns-then-byte-lt103
+pub returns-in_default-2 : goal.returns-in_default-2
 unfolding hex_of
-returns-then-byte-lt103 c = (simp (le-ltb _ _ c.if-byte-lt48.false, le-ltb _ _ c.if-byte-lt58.false, le-ltb _ _ c.if-byte-lt97.false, lt-ltb _ _ c.if-byte-lt103.true), omega arith)
+returns-in_default-2 c = grind (arith, nat_tests)
 
-pub returns : goal.returns
+pub returns-in_default-3 : goal.returns-in_default-3
 unfolding hex_of
-returns c = (simp (le-ltb _ _ c.if-byte-lt48.false, le-ltb _ _ c.if-byte-lt58.false, le-ltb _ _ c.if-byte-lt97.false, le-ltb _ _ c.if-byte-lt103.false), omega arith)
+returns-in_default-3 c = grind (arith, nat_tests)

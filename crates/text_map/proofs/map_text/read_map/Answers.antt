@@ -1,5 +1,5 @@
 use Prim.Native.Nat.{ℕ, ◌≤◌}
-use mathlib.Core.Path.{◌≡◌}
+use mathlib.Core.Path.{◌≡◌, refl}
 use mathlib.Core.List.{List}
 use native.Mathlib.Nat.{le_trans, lt_of_le_of_lt, mul-le-mul}
 use native.Mathlib.Omega.{arith}
@@ -18,39 +18,39 @@ filled {n} d e h m k = length-take-le n e (omega arith)
 pub returns-then-text-gt-MOST_BYTES : goal.returns-then-text-gt-MOST_BYTES
 returns-then-text-gt-MOST_BYTES c = too_long _ _ c.if-text-gt-MOST_BYTES.true
 
-pub returns-in_default : goal.returns-in_default
-returns-in_default c = head_absent _ _ c.in_default.is c.read_head.ensures
+pub returns-in_err-width : goal.returns-in_err-width
+returns-in_err-width c = rw c.from_residual.ensures (head_absent _ _ refl c.in_err-width.ensures)
 
 pub overflow_mul-width : goal.overflow_mul-width
 overflow_mul-width c =
-    let i = head_read _ _ _ _ c.in-Read.is c.read_head.ensures in
+    let i = head_read _ _ _ _ refl c.in_ok-width.ensures in
     record { fits = lt_of_le_of_lt (mul-le-mul i.0.1 i.1.1) (lit< tt) }
 
 pub returns-then-width-height-gt-MOST_TILES : goal.returns-then-width-height-gt-MOST_TILES
 returns-then-width-height-gt-MOST_TILES c =
-    let i = head_read _ _ _ _ c.in-Read.is c.read_head.ensures in
+    let i = head_read _ _ _ _ refl c.in_ok-width.ensures in
     too_many _ _ _ _ i.0 i.1 i.2 _ c.if-width-height-gt-MOST_TILES.true
 
 pub read_tiles-requires : goal.read_tiles-requires
 read_tiles-requires c =
-    let i = head_read _ _ _ _ c.in-Read.is c.read_head.ensures in
+    let i = head_read _ _ _ _ refl c.in_ok-width.ensures in
     (i.0.0, le_trans c.if-width-height-gt-MOST_TILES.false c.requires)
 
-pub returns-in_default-read_tiles : goal.returns-in_default-read_tiles
-returns-in_default-read_tiles c =
-    let i = head_read _ _ _ _ c.in-Read.is c.read_head.ensures in
-    tiles_absent _ _ _ _ i.0 i.1 i.2 _ (tiles_fault _ _ _ _ _ c.in_default-read_tiles.is c.read_tiles.ensures)
+pub returns-in_err-past : goal.returns-in_err-past
+returns-in_err-past c =
+    let i = head_read _ _ _ _ refl c.in_ok-width.ensures in
+    rw c.from_residual-in_err-past.ensures (tiles_absent _ _ _ _ i.0 i.1 i.2 _ (tiles_fault _ _ _ _ _ refl c.in_err-past.ensures))
 
-pub returns-in_default-read_name : goal.returns-in_default-read_name
-returns-in_default-read_name c =
-    let i = head_read _ _ _ _ c.in-Read.is c.read_head.ensures in
-    let t = tiles_read _ _ _ _ _ _ c.in-At.is c.read_tiles.ensures in
-    names-absent _ _ _ _ i.0 i.1 i.2 _ _ (filled c.args.tiles.now _ c.if-width-height-gt-MOST_TILES.false c.requires c.read_tiles.auto.tiles) t.0 t.1 _ (name_fault _ _ _ c.in_default-read_name.is c.read_name.ensures)
+pub returns-in_err-next : goal.returns-in_err-next
+returns-in_err-next c =
+    let i = head_read _ _ _ _ refl c.in_ok-width.ensures in
+    let t = tiles_read _ _ _ _ _ _ refl c.in_ok-past.ensures in
+    rw c.from_residual-in_err-next.ensures (names-absent _ _ _ _ i.0 i.1 i.2 _ _ (filled c.args.tiles.now _ c.if-width-height-gt-MOST_TILES.false c.requires c.read_tiles.auto.tiles) t.0 t.1 _ (name_fault _ _ _ refl c.in_err-next.ensures))
 
 pub returns : goal.returns
 unfolding MapAt
 returns c =
-    let i = head_read _ _ _ _ c.in-Read.is c.read_head.ensures in
-    let t = tiles_read _ _ _ _ _ _ c.in-At.is c.read_tiles.ensures in
-    let m = a-map _ _ _ _ i.0 i.1 i.2 _ _ (filled c.args.tiles.now _ c.if-width-height-gt-MOST_TILES.false c.requires c.read_tiles.auto.tiles) t.0 t.1 _ (name_read _ _ _ _ c.in-At-read_name.is c.read_name.ensures) in
+    let i = head_read _ _ _ _ refl c.in_ok-width.ensures in
+    let t = tiles_read _ _ _ _ _ _ refl c.in_ok-past.ensures in
+    let m = a-map _ _ _ _ i.0 i.1 i.2 _ _ (filled c.args.tiles.now _ c.if-width-height-gt-MOST_TILES.false c.requires c.read_tiles.auto.tiles) t.0 t.1 _ (name_read _ _ _ _ refl c.in_ok-next.ensures) in
     (c.if-text-gt-MOST_BYTES.false, m.0, m.1)

@@ -1,58 +1,38 @@
-use Prim.Native.Nat.{ℕ, ◌+◌, ◌<◌}
-use mathlib.Core.Path.{◌≡◌, refl, sym, ap, ◌∙◌, subst}
-use mathlib.Core.List.{List, [], ◌∷◌, ◌++◌, append_assoc}
-use native.Mathlib.Numerals.{add-one}
+use Prim.Native.Nat.{ℕ, ◌-◌, min}
+use mathlib.Core.Bool.{Bool, true, false, true≢false}
+use mathlib.Core.Path.{◌≡◌, refl, sym, ap, ◌∙◌}
+use mathlib.Core.List.{List}
 use native.Mathlib.Omega.{arith}
-use lib.ListN.{length, take, drop, get_or, take-append-drop, drop_of_length-le}
-use lib.Seq.{take-suc, take_all}
-use borrow.Author.Rules.{rules}
-use Rattle.text_decimal.specs.Places.{Stands}
-use Rattle.text_decimal.proofs.Places.{from, none, chain, follows}
+use lib.Dec.{leb}
+use lib.ListN.{length, take, drop, drop_of_length-le}
+use borrow.Author.Tests.{leb-true, leb-false}
+use Rattle.std.proofs.lemmas.Slice.Eq.{starts_is}
+use Rattle.std.proofs.lemmas.List.{take_rest}
+use Rattle.std.proofs.lemmas.Bool.Decides.{Decides-eqb}
+use Rattle.text_decimal.proofs.Places.{stands}
 use Rattle.text_map.specs.Reading.{NameAt}
 use Rattle.text_map.proofs.name.read_name.Goals as goal
 
--- where the name is there, its next byte is
-module _ (name s : List ℕ) (at place j : ℕ) (read : Stands (take j name) s at place) (more : j < length name) where
-  ahead : (rest : List ℕ) → drop at s ≡ name ++ rest → drop place s ≡ get_or name j 0 ∷ (drop (j + 1) name ++ rest)
-  ahead rest e =
-      follows read (drop j name ++ rest) (e ∙ ap (λ (w : List ℕ). w ++ rest) (sym (take-append-drop j name)) ∙ append_assoc (take j name) (drop j name) rest)
-      ∙ ap (λ (w : List ℕ). w ++ rest) (from name j more)
+-- the bytes from a place on, which are none past the end of the text
+tail : (s : List ℕ) (at m : ℕ) → m ≡ min at (length s) → take (length s - m) (drop m s) ≡ drop at s
+tail s at m e = take_rest s m ∙ by (leb at (length s)) refl
+  where
+    by : (t : Bool) → leb at (length s) ≡ t → drop m s ≡ drop at s
+    by true t = let h = leb-true at (length s) t in ap (λ (k : ℕ). drop k s) (let k : m ≡ at = omega arith in k)
+    by false t = let h = leb-false at (length s) t in drop_of_length-le s (omega arith) ∙ sym (drop_of_length-le s (omega arith))
 
-past_end : {b : ℕ} {s t : List ℕ} → s ≡ b ∷ t → s ≡ [] → ⊥
-past_end e f = let z : ◌≡◌ {A = ℕ} 0 1 = cc in omega arith
-
-first : {a b : ℕ} {s t : List ℕ} → a ∷ s ≡ b ∷ t → a ≡ b
-first e = cc
-
-pub loop-j-init : goal.loop-j-init
-loop-j-init c = (search rules, none _ _)
-
-pub returns-then-text-place : goal.returns-then-text-place
+pub returns-then-starts_with : goal.returns-then-starts_with
 unfolding NameAt
-returns-then-text-place c =
-    let a = c.args in
-    let l = c.loop-j in
-    λ rest e. past_end (ahead a.name.now a.text.now a.at l.place l.j l.invariant.1 c.loop-j-test.true rest e) (drop_of_length-le a.text.now c.if-text-place.true)
-
-pub returns-then-text-place-2 : goal.returns-then-text-place-2
-unfolding NameAt
-returns-then-text-place-2 c =
-    let a = c.args in
-    let l = c.loop-j in
-    λ rest e. c.if-text-place-2.true (first (sym (from a.text.now l.place c.if-text-place.false) ∙ ahead a.name.now a.text.now a.at l.place l.j l.invariant.1 c.loop-j-test.true rest e))
-
-pub loop-j-preserved : goal.loop-j-preserved
-loop-j-preserved c =
-    let s = c.args.text.now in
+returns-then-starts_with c =
     let name = c.args.name.now in
-    let l = c.loop-j in
-    let there = from s l.place c.if-text-place.false ∙ ap (λ (b : ℕ). b ∷ drop (l.place + 1) s) c.if-text-place-2.false in
-    let more : take l.j name ++ (get_or name l.j 0 ∷ []) ≡ take (l.j + 1) name = sym (rw (add-one, take-suc name l.j 0 c.loop-j-test.true)) in
-    (search rules, subst (λ (w : List ℕ). Stands w s c.args.at (l.place + 1)) more (chain l.invariant.1 (record { bytes = there; place = refl })))
+    let text = c.args.text.now in
+    let is = (starts_is Decides-eqb _ name _ c.starts_with.ensures.value).0 c.if-starts_with.true in
+    stands name text _ c.args.at (sym (tail text c.args.at c.min.result c.min.ensures) ∙ is)
 
-pub returns : goal.returns
+pub returns-else-starts_with : goal.returns-else-starts_with
 unfolding NameAt
-returns c =
-    let a = c.args in
-    let l = c.loop-j in
-    subst (λ (w : List ℕ). Stands w a.text.now a.at l.place) (take_all l.j a.name.now c.loop-j-test.false) l.invariant.1
+returns-else-starts_with c = λ rest e.
+    let name = c.args.name.now in
+    let text = c.args.text.now in
+    let is = (starts_is Decides-eqb _ name _ c.starts_with.ensures.value).1 rest (tail text c.args.at c.min.result c.min.ensures ∙ e) in
+    true≢false (sym is ∙ c.if-starts_with.false)

@@ -15,7 +15,7 @@ use Rattle.text_decimal.proofs.Lines.{all_append, Begun, begun_none, begun_more,
 use Rattle.text_decimal.proofs.Told.{number_read, number_fault, number_only}
 use Rattle.text_map.specs.Map.{IsTile, tile_bytes}
 use Rattle.text_map.specs.Reading.{TilesAt}
-use Rattle.text_map.specs.declared.name.Place.TheVariants.{Fault}
+use Rattle.std.specs.declared.option.Option.TheVariants.{None}
 use Rattle.text_map.proofs.Rows.{row_end, row_low, tiles_front, TileValue, tile_i32, tile_absent, tile_values}
 use Rattle.text_map.proofs.tiles.read_tiles.Goals as goal
 
@@ -38,7 +38,7 @@ module _ (w h : ℕ) (d s : List ℕ) (at place i stop : ℕ) (here : i < w * h)
   stop_is = is ∙ same_end w here (passed d here room)
 
   -- where no tile comes next, the tiles are not there
-  none_next : Begun (row_end w) (w * h) (map pos (take i d)) s at place → ((t : ℕ) → IsTile t → Absent (ended (digits 10 t) stop) s place) → TilesAt w h s at d Fault
+  none_next : Begun (row_end w) (w * h) (map pos (take i d)) s at place → ((t : ℕ) → IsTile t → Absent (ended (digits 10 t) stop) s place) → TilesAt w h s at d None
   unfolding TilesAt
   none_next begun f = λ ts n g rest e.
       let p = passed d here room in
@@ -58,17 +58,17 @@ loop-i-init c = (omega arith, refl, refl, tt, begun_none _ _ _ _)
 pub read_number-requires : goal.read_number-requires
 read_number-requires c = low _ _ c.end_byte.ensures
 
-pub returns-in_default : goal.returns-in_default
-returns-in_default c =
+pub returns-in_err-n : goal.returns-in_err-n
+returns-in_err-n c =
     let a = c.args in
     let l = c.loop-i in
-    none_next a.width a.height l.tiles a.text.now a.at l.place l.i c.end_byte.result c.loop-i-test.true (omega arith) c.end_byte.ensures l.invariant.4 (λ t h. number_fault _ _ _ c.in_default.is c.read_number.ensures t (omega arith))
+    rw c.from_residual.ensures (none_next a.width a.height l.tiles a.text.now a.at l.place l.i c.end_byte.result c.loop-i-test.true (omega arith) c.end_byte.ensures l.invariant.4 (λ t h. number_fault _ _ _ refl c.in_err-n.ensures t (omega arith)))
 
 pub returns-then-n-gt255 : goal.returns-then-n-gt255
 returns-then-n-gt255 c =
     let a = c.args in
     let l = c.loop-i in
-    let n = number_read _ _ _ _ _ c.in-Read.is c.read_number.ensures in
+    let n = number_read _ _ _ _ _ refl c.in_ok-n.ensures in
     none_next a.width a.height l.tiles a.text.now a.at l.place l.i c.end_byte.result c.loop-i-test.true (omega arith) c.end_byte.ensures l.invariant.4 (λ t h rest e. above c.if-n-gt255.true h (number_only _ _ t rest (low _ _ c.end_byte.ensures) n.0 (omega arith) n.1 e).0)
 
 pub loop-i-preserved : goal.loop-i-preserved
@@ -77,9 +77,9 @@ loop-i-preserved c =
     let l = c.loop-i in
     let d = l.tiles in
     let i = l.i in
-    let n = c.in-Read.n in
-    let next = c.in-Read.next in
-    let t = number_read _ _ _ _ _ c.in-Read.is c.read_number.ensures in
+    let n = c.in_ok-n.n in
+    let next = c.in_ok-n.next in
+    let t = number_read _ _ _ _ _ refl c.in_ok-n.ensures in
     let room : a.width * a.height ≤ length d = omega arith in
     let m = passed d c.loop-i-test.true room in
     let f : take (i + 1) (set d i n) ≡ take i d ++ (n ∷ []) = rw add-one (take-suc-set d i n (omega arith)) in

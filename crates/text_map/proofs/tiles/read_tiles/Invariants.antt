@@ -1,4 +1,4 @@
-use Prim.Native.Nat.{◌*◌, ◌-◌, ◌≤◌}
+use Prim.Native.Nat.{◌*◌, ◌≤◌}
 use mathlib.Core.Path.{◌≡◌}
 use mathlib.Core.List.{map}
 use lib.IntN.{pos}
@@ -12,6 +12,3 @@ use Rattle.text_map.proofs.tiles.read_tiles.Given as goal
 abbrev pub invariant-loop-i : goal.invariant-loop-i
 invariant-loop-i l =
     (l.i ≤ l.count) × (l.count ≡ l.width * l.height) × (length l.tiles ≡ length l.initial.tiles) × All IsTile (take l.i l.tiles) × Begun (row_end l.width) l.count (map pos (take l.i l.tiles)) l.text l.at l.place
-
-abbrev pub decreases-loop-i : goal.decreases-loop-i
-decreases-loop-i l = l.count - l.i

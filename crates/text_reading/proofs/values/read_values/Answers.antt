@@ -33,24 +33,26 @@ loop-i-init c = (omega arith, refl, begun_none end_byte 7 _ _)
 pub read_value-requires : goal.read_value-requires
 read_value-requires c = rw c.end_byte.ensures (end_low (6 - c.loop-i.i))
 
-pub returns-in_default : goal.returns-in_default
+pub returns-in_err-z : goal.returns-in_err-z
 unfolding ValuesAt
-returns-in_default c =
-    let v = c.loop-i.values in
+returns-in_err-z c =
+    let v = c.loop-i.value-items in
+    let turn : c.loop-i.i < 7 = omega arith in
     let s = c.args.text.now in
-    let n = taken c.loop-i.i c.loop-i.values c.loop-i.invariant.1 c.loop-i-test.true in
-    λ zs m f rest e. begun-not c.loop-i.invariant.2 (omega arith) end_low IsI32 (λ z i. i) (λ z i. subst (λ (b : ℕ). Absent (ended (written z) b) s c.loop-i.place) (c.end_byte.ensures ∙ stop_is c.loop-i-test.true n) (value_fault _ s c.loop-i.place c.in_default.is c.read_value.ensures z i)) zs m f rest (e ∙ ap (λ (w : List ℕ). w ++ rest) (sym (front_line zs)))
+    let n = taken c.loop-i.i c.loop-i.value-items c.loop-i.invariant.1 turn in
+    rw c.from_residual.ensures (λ zs m f rest e. begun-not c.loop-i.invariant.2 (omega arith) end_low IsI32 (λ z i. i) (λ z i. subst (λ (b : ℕ). Absent (ended (written z) b) s c.loop-i.place) (c.end_byte.ensures ∙ stop_is turn n) (value_fault _ s c.loop-i.place refl c.in_err-z.ensures z i)) zs m f rest (e ∙ ap (λ (w : List ℕ). w ++ rest) (sym (front_line zs))))
 
 pub loop-i-preserved : goal.loop-i-preserved
 loop-i-preserved c =
-    let v = c.loop-i.values in
+    let v = c.loop-i.value-items in
+    let turn : c.loop-i.i < 7 = omega arith in
     let i = c.loop-i.i in
     let s = c.args.text.now in
-    let z = c.in-Read.z in
-    let next = c.in-Read.next in
-    let t = value_read _ s c.loop-i.place z next c.in-Read.is c.read_value.ensures in
-    let n = taken c.loop-i.i c.loop-i.values c.loop-i.invariant.1 c.loop-i-test.true in
-    let b = begun_more c.loop-i.invariant.2 (omega arith) z next t.0 (subst (λ (x : ℕ). Stands (ended (written z) x) s c.loop-i.place next) (c.end_byte.ensures ∙ stop_is c.loop-i-test.true n) t.1) in
+    let z = c.in_ok-z.z in
+    let next = c.in_ok-z.next in
+    let t = value_read _ s c.loop-i.place z next refl c.in_ok-z.ensures in
+    let n = taken c.loop-i.i c.loop-i.value-items c.loop-i.invariant.1 turn in
+    let b = begun_more c.loop-i.invariant.2 (omega arith) z next t.0 (subst (λ (x : ℕ). Stands (ended (written z) x) s c.loop-i.place next) (c.end_byte.ensures ∙ stop_is turn n) t.1) in
     let e : take (i + 1) (set v i z) ≡ take i v ++ (z ∷ []) = rw add-one (take-suc-set v i z (omega arith)) in
     subst (λ (x : ℤ). (i + 1 ≤ 7) × (length (set v i x) ≡ 7) × Begun end_byte 7 (take (i + 1) (set v i x)) s c.args.at next) (sym (to_z-of_z w32 z (record { sfits = t.0 }))) (
       omega arith,
@@ -62,7 +64,7 @@ pub returns : goal.returns
 unfolding ValuesAt
 returns c =
     let l = c in
-    let v = l.loop-i.values in
+    let v = l.loop-i.value-items in
     let all : take l.loop-i.i v ≡ v = take_all l.loop-i.i v (omega arith) in
     let b = subst (λ (x : List ℤ). Begun end_byte 7 x l.args.text.now l.args.at l.loop-i.place) all l.loop-i.invariant.2 in
     (l.loop-i.invariant.1, b.fits, subst (λ (w : List ℕ). Stands w l.args.text.now l.args.at l.loop-i.place) (front_line v) (begun_whole b l.loop-i.invariant.1))

@@ -1,4 +1,4 @@
-use Prim.Native.Nat.{◌-◌, ◌≤◌}
+use Prim.Native.Nat.{◌≤◌}
 use mathlib.Core.Path.{◌≡◌}
 use lib.ListN.{length, take}
 use Rattle.text_decimal.specs.Lines.{end_byte}
@@ -6,7 +6,4 @@ use Rattle.text_decimal.proofs.Lines.{Begun}
 use Rattle.text_reading.proofs.values.read_values.Given as goal
 
 abbrev pub invariant-loop-i : goal.invariant-loop-i
-invariant-loop-i l = (l.i ≤ 7) × (length l.values ≡ 7) × Begun end_byte 7 (take l.i l.values) l.text l.at l.place
-
-abbrev pub decreases-loop-i : goal.decreases-loop-i
-decreases-loop-i l = 7 - l.i
+invariant-loop-i l = (l.i ≤ 7) × (length l.value-items ≡ 7) × Begun end_byte 7 (take l.i l.value-items) l.text l.at l.place

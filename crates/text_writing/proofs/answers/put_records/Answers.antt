@@ -53,20 +53,11 @@ module _ (d : List ℕ) (at : ℕ) (call : ℤ) (rs : List Published) (room : at
 pub loop-id-init : goal.loop-id-init
 loop-id-init c = start _ _ _ _ c.requires
 
-pub bounds-records-id : goal.bounds-records-id
-bounds-records-id c = omega arith
-
 pub overflow_cast-id : goal.overflow_cast-id
 overflow_cast-id c = sfits_of (omega arith)
 
 pub put_record-next-requires : goal.put_record-next-requires
 put_record-next-requires c = let l = c.loop-id in room_left _ _ _ _ c.requires l.buf l.next l.id l.invariant c.loop-id-test.true
-
-pub overflow_step-id : goal.overflow_step-id
-overflow_step-id c = omega arith
-
-pub loop-id-smaller : goal.loop-id-smaller
-loop-id-smaller c = omega arith
 
 pub loop-id-preserved : goal.loop-id-preserved
 loop-id-preserved c =

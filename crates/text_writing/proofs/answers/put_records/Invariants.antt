@@ -1,5 +1,5 @@
 use mathlib.Core.List.{List}
-use Prim.Native.Nat.{ℕ, ◌-◌, ◌*◌, ◌≤◌}
+use Prim.Native.Nat.{ℕ, ◌*◌, ◌≤◌}
 use lib.IntN.{ℤ}
 use lib.ListN.{length}
 use Rattle.base_turns.proofs.Loop.{Left, always}
@@ -19,7 +19,4 @@ pub record Sofar (d : List ℕ) (at : ℕ) (call : ℤ) (rs : List Published) (e
   pub short : length lines ≤ most_line * id
 
 abbrev pub invariant-loop-id : goal.invariant-loop-id
-invariant-loop-id l = Sofar l.initial.buf l.at l.call l.records l.buf l.next l.id
-
-abbrev pub decreases-loop-id : goal.decreases-loop-id
-decreases-loop-id l = seats - l.id
+invariant-loop-id l = Sofar l.initial.buf l.at l.call l.fn.records l.buf l.next l.id

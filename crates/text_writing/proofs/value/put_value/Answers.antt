@@ -33,10 +33,10 @@ plus_there z m f t e =
     plain z u.0 _ u.1.1 (e ∙ ap nat_abs (to_z-of_z w32 _ f))
 
 pub put_number-requires : goal.put_number-requires
-put_number-requires c = simp length-set (omega (arith, few 10 c.magnitude-n.result))
+put_number-requires c = simp length-set (omega (arith, few 10 c.unsigned_abs-n.result))
 
 pub put_number-requires-else-z-lt0 : goal.put_number-requires-else-z-lt0
-put_number-requires-else-z-lt0 c = omega (arith, few 10 c.magnitude-n.result)
+put_number-requires-else-z-lt0 c = omega (arith, few 10 c.unsigned_abs-n.result)
 
 pub shape_of-buf-then-z-lt0 : goal.shape_of-buf-then-z-lt0
 shape_of-buf-then-z-lt0 c = c.put_number.auto.buf ∙ simp length-set
@@ -46,10 +46,10 @@ returns-then-z-lt0 c =
     let a = c.args in
     let k = c.put_number in
     let p = k.ensures.place in
-    let w = minus_there a.z c.magnitude-n.result c.ranges.z c.if-z-lt0.true c.magnitude-n.ensures in
+    let w = minus_there a.z c.unsigned_abs-n.result c.ranges.z c.if-z-lt0.true c.unsigned_abs-n.ensures.value in
     let l = ap length w in
     record {
-      bytes = k.ensures.bytes ∙ put_cons a.buf.now a.at 45 (digits 10 c.magnitude-n.result) (omega arith) ∙ ap (put a.buf.now a.at) (sym w);
+      bytes = k.ensures.bytes ∙ put_cons a.buf.now a.at 45 (digits 10 c.unsigned_abs-n.result) (omega arith) ∙ ap (put a.buf.now a.at) (sym w);
       place = omega arith;
     }
 
@@ -57,7 +57,7 @@ pub returns-else-z-lt0 : goal.returns-else-z-lt0
 returns-else-z-lt0 c =
     let a = c.args in
     let k = c.put_number-else-z-lt0 in
-    let w = plus_there a.z c.magnitude-n.result c.ranges.z c.if-z-lt0.false c.magnitude-n.ensures in
+    let w = plus_there a.z c.unsigned_abs-n.result c.ranges.z c.if-z-lt0.false c.unsigned_abs-n.ensures.value in
     record {
       bytes = k.ensures.bytes ∙ ap (put a.buf.now a.at) (sym w);
       place = k.ensures.place ∙ ap (λ (l : List ℕ). a.at + length l) (sym w);

@@ -1,41 +1,25 @@
-use Prim.Native.Nat.{ℕ, ◌≤◌}
-use mathlib.Core.Bool.{true, false, true≢false}
-use mathlib.Core.Path.{◌≡◌, refl, sym, ◌∙◌}
-use lib.IntN.{ℤ, pos, negsuc}
-use lib.Signed.{le_z}
+use mathlib.Core.Bool.{false}
+use mathlib.Core.Logic.{⊎_elim}
+use mathlib.Core.Path.{◌≡◌, refl, ap, ◌∙◌}
+use native.Mathlib.Omega.{arith}
+use lib.Dec.{leb}
 use mir.Facts.{to_z-of_z}
 use borrow.Author.Tests.{le-leb, lt-leb}
 use Rattle.trial_rule.specs.Calls.{is_steps, is_trial}
-use borrow.Author.Rules.{rules}
+use Rattle.trial_runs.proofs.checks.is_trial.Goals.{then-tunings-ge1, else-tunings-ge1}
 use Rattle.trial_runs.proofs.checks.is_trial.Goals as goal
 
--- the tunings are as many as may be, so that the steps decide
-by_steps : (t : ℕ) (z : ℤ) → 1 ≤ t → t ≤ 8 → is_trial t z ≡ is_steps z
+pub returns-then-tunings-le-MOST_TUNINGS : goal.returns-then-tunings-le-MOST_TUNINGS
 unfolding is_trial
-by_steps t z h g = rw (le-leb 1 t h, le-leb t 8 g)
+returns-then-tunings-le-MOST_TUNINGS c =
+    let few = c.if-tunings-le-MOST_TUNINGS.true in
+    rw (le-leb 1 _ few.0, le-leb _ 8 few.1) (c.is_steps.ensures ∙ ap is_steps (to_z-of_z c.ranges.steps))
 
-upper : (z : ℤ) → le_z (pos 0) z ≡ true → le_z z (pos 3000) ≡ is_steps z
-upper (pos k) e = refl
-upper (negsuc k) e = absurd (true≢false (sym e))
-
-lower : (z : ℤ) → le_z (pos 0) z ≡ false → le_z (pos 0) z ≡ is_steps z
-lower (pos k) e = absurd (true≢false (sym (le-leb 0 k (search rules)) ∙ e))
-lower (negsuc k) e = refl
-
-pub returns-then-tunings-lt1 : goal.returns-then-tunings-lt1
+pub returns-else-tunings-le-MOST_TUNINGS : goal.returns-else-tunings-le-MOST_TUNINGS
 unfolding is_trial
-returns-then-tunings-lt1 c = simp (lt-leb 1 _ c.if-tunings-lt1.true)
-
-pub returns-then-tunings-gt-MOST_TUNINGS : goal.returns-then-tunings-gt-MOST_TUNINGS
-unfolding is_trial
-returns-then-tunings-gt-MOST_TUNINGS c = simp (le-leb 1 _ c.if-tunings-lt1.false, lt-leb _ 8 c.if-tunings-gt-MOST_TUNINGS.true)
-
-pub returns-then-steps-ge0 : goal.returns-then-steps-ge0
-returns-then-steps-ge0 c =
-    let s = c in
-    rw (to_z-of_z s.ranges.steps) (upper s.args.steps (rw (to_z-of_z s.ranges.steps) at c.if-steps-ge0.true) ∙ sym (by_steps s.args.tunings s.args.steps c.if-tunings-lt1.false c.if-tunings-gt-MOST_TUNINGS.false))
-
-pub returns-else-steps-ge0 : goal.returns-else-steps-ge0
-returns-else-steps-ge0 c =
-    let s = c in
-    rw (to_z-of_z s.ranges.steps) (lower s.args.steps (rw (to_z-of_z s.ranges.steps) at c.if-steps-ge0.false) ∙ sym (by_steps s.args.tunings s.args.steps c.if-tunings-lt1.false c.if-tunings-gt-MOST_TUNINGS.false))
+returns-else-tunings-le-MOST_TUNINGS c =
+    let a = c.args in
+    elim c.if-tunings-ge1.branch [
+      | then-tunings-ge1 w ↦ let e : leb a.tunings 8 ≡ false = lt-leb a.tunings 8 (⊎_elim (λ p. p.1) (λ p. absurd (omega (arith, p, w.if-tunings-ge1.true))) c.if-tunings-le-MOST_TUNINGS.either) in w.t-4-is ∙ e ∙ rw (le-leb 1 a.tunings w.if-tunings-ge1.true, e) refl
+      | else-tunings-ge1 w ↦ let e : leb 1 a.tunings ≡ false = lt-leb 1 a.tunings w.if-tunings-ge1.false in w.t-4-is ∙ e ∙ rw e refl
+    ]

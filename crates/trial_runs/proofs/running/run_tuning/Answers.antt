@@ -7,7 +7,9 @@ use Rattle.base_turns.proofs.Loop.{turn_on, turn_off, turn_end}
 use Rattle.trial_rule.specs.Trial.{tried_of, tried}
 use Rattle.trial_runs.proofs.Sides.{both_sides}
 use Rattle.trial_runs.proofs.Worlds.{world_long}
-use Rattle.trial_runs.proofs.OneTurn.{started, refused, stepped_kept, accepted}
+use Rattle.trial_runs.proofs.OneTurn.{started, refused, stepped_kept, turned}
+use Rattle.game_refusals.specs.Refusals.{number_of_answer}
+use Rattle.world_buffers.proofs.Numbered.{accepted, declined}
 use borrow.Author.Rules.{rules}
 use Rattle.trial_runs.proofs.running.run_tuning.Goals as goal
 
@@ -28,14 +30,14 @@ slice_bounds-steer_all-end c = sym c.loop-i.invariant.2.long
 pub steer_all-requires : goal.steer_all-requires
 steer_all-requires c = (c.loop-i.invariant.2.long, (both_sides _ _ c.requires.1).0)
 
-pub returns-then-number-ne0 : goal.returns-then-number-ne0
+pub returns-then-is_err : goal.returns-then-is_err
 unfolding tried
-returns-then-number-ne0 c =
+returns-then-is_err c =
     let a = c.args in
     let l = c.loop-i in
     let v = c.steer_all in
-    let t = c.step_in-number in
-    sym (ap (tried_of a.steps) (turn_off l.invariant.2.left c.loop-i-test.true (refused a.sides a.tiles.now l.world l.players l.invariant.2.world v.new.world _ _ _ t.result v.ensures l.invariant.0 l.invariant.1 t.ensures l.i c.if-number-ne0.true)))
+    let t = c.step_in in
+    sym (ap (tried_of a.steps) (turn_off l.invariant.2.left c.loop-i-test.true (refused a.sides a.tiles.now l.world l.players l.invariant.2.world v.new.world _ _ _ (number_of_answer t.result) v.ensures l.invariant.0 l.invariant.1 (t.ensures 0) l.i (declined t.result (sym c.is_err.ensures.value ∙ c.if-is_err.true)))))
 
 pub note_all-next-requires : goal.note_all-next-requires
 note_all-next-requires c = let s = both_sides _ _ c.requires.1 in (search rules, s.0, s.1)
@@ -45,15 +47,15 @@ loop-i-preserved c =
     let a = c.args in
     let l = c.loop-i in
     let v = c.steer_all in
-    let t = c.step_in-number in
-    let z = c.if-number-ne0.false in
-    let w = stepped_kept a.sides a.tiles.now l.world l.players l.invariant.2.world v.new.world _ _ _ t.result v.ensures l.invariant.0 l.invariant.1 t.ensures z in (
+    let t = c.step_in in
+    let z = accepted t.result (sym c.is_err.ensures.value ∙ c.if-is_err.false) in
+    let w = stepped_kept a.sides a.tiles.now l.world l.players l.invariant.2.world v.new.world _ _ _ (number_of_answer t.result) v.ensures l.invariant.0 l.invariant.1 (t.ensures 0) z in (
       search rules,
       search rules,
       record {
         world = w;
         long = world_long _ w;
-        left = turn_on l.invariant.2.left c.loop-i-test.true (accepted a.sides a.tiles.now l.world l.players l.invariant.2.world v.new.world _ _ _ t.result v.ensures l.invariant.0 l.invariant.1 t.ensures z l.i c.note_all-next.result c.note_all-next.ensures);
+        left = turn_on l.invariant.2.left c.loop-i-test.true (turned a.sides a.tiles.now l.world l.players l.invariant.2.world v.new.world _ _ _ (number_of_answer t.result) v.ensures l.invariant.0 l.invariant.1 (t.ensures 0) z l.i c.note_all-next.result c.note_all-next.ensures);
       },
     )
 

@@ -10,7 +10,6 @@ use Rattle.world_numbers.specs.Encoding.{present_numbers}
 use Rattle.world_numbers.specs.Decoding.{is_set}
 use Rattle.world_buffers.specs.Buffers.{is_there}
 use Rattle.world_buffers.proofs.Answers.{blocked, taken, seated}
-use borrow.Author.Rules.{rules}
 use Rattle.world_buffers.proofs.buffers.join_at_in.Goals.{After-check_box, After-is_set}
 use Rattle.world_buffers.proofs.buffers.join_at_in.Goals as goal
 

@@ -1,39 +1,21 @@
-use mathlib.Core.Path.{◌≡◌, sym, ap, ◌∙◌}
+use mathlib.Core.Path.{sym, ap, ◌∙◌}
 use mir.Facts.{to_z-of_z}
-use Rattle.game_records.specs.Numbers.{number_at}
-use Rattle.game_records.proofs.Bits.{again}
-use Rattle.character.specs.Tick.{seats}
-use Rattle.world.specs.Calls.{place_of}
-use Rattle.world_numbers.specs.Decoding.{is_set}
-use Rattle.world_buffers.specs.Buffers.{is_there, leave_in}
+use Rattle.std.proofs.lemmas.Result.{err_from_is_err_and}
+use Rattle.world_buffers.specs.Buffers.{present_in, leave_in}
 use Rattle.world_buffers.specs.Leaving.{vacate_in}
-use Rattle.world_buffers.proofs.Answers.{no_world, no_seat, nobody, somebody}
-use borrow.Author.Rules.{rules}
-use Rattle.world_buffers.proofs.buffers.leave_in.Goals.{After-is_set, After-place_of-at}
+use Rattle.world_buffers.proofs.Answers.{is_present, is_absent, somebody}
 use Rattle.world_buffers.proofs.buffers.leave_in.Goals as goal
 
-place_is : (c : After-place_of-at) → c.place_of-at.result ≡ place_of seats c.args.id
-place_is c = c.place_of-at.ensures ∙ ap (place_of seats) (to_z-of_z c.ranges.id)
-
--- what the code asks of the seat
-there_is : (c : After-is_set) → c.is_set.result ≡ is_there c.args.world.now c.place_of-at.result
-there_is c = c.is_set.ensures ∙ ap is_set (again c.is_set-arg-1.given ∙ ap (number_at c.args.world.now) c.seat_place.ensures)
-
-pub returns-then-world-ne-WORLD : goal.returns-then-world-ne-WORLD
+pub returns-in_err-at : goal.returns-in_err-at
 unfolding leave_in
-returns-then-world-ne-WORLD c = no_world c.args.world.now _ c.if-world-ne-WORLD.true
-
-pub returns-then-is_set : goal.returns-then-is_set
-unfolding leave_in
-returns-then-is_set c =
+returns-in_err-at c =
     let a = c.args in
-    let v = c.vacate_in in
-    somebody a.world.now a.id (vacate_in a.world.now) c.place_of-at.result c.if-world-ne-WORLD.false (place_is c.before.before.before.before.before.before.before.before) v.new.world c.if-at-lt-SEATS.true (sym (there_is c.before.before.before.before) ∙ c.if-is_set.true) v.ensures
-
-pub returns-then-at-lt-SEATS : goal.returns-then-at-lt-SEATS
-unfolding leave_in
-returns-then-at-lt-SEATS c = let a = c.args in nobody a.world.now a.id (vacate_in a.world.now) c.place_of-at.result c.if-world-ne-WORLD.false (place_is c.before.before.before.before.before) c.if-at-lt-SEATS.true (sym (there_is c.before) ∙ c.if-is_set.false)
+    let p = err_from_is_err_and c.from_residual.result c.from_residual.ensures.1 in
+    rw (p.1, p.2) (is_absent a.world.now a.id (vacate_in a.world.now) c.in_err-at.field-0.0 (sym c.in_err-at.was ∙ c.present_in.ensures ∙ ap (present_in a.world.now) (to_z-of_z c.ranges.id)))
 
 pub returns : goal.returns
 unfolding leave_in
-returns c = let a = c.args in no_seat a.world.now a.id (vacate_in a.world.now) c.place_of-at.result c.if-world-ne-WORLD.false (place_is c.before) c.if-at-lt-SEATS.false
+returns c =
+    let a = c.args in
+    let s = is_present a.world.now a.id c.in_ok-at.at (sym c.in_ok-at.was ∙ c.present_in.ensures ∙ ap (present_in a.world.now) (to_z-of_z c.ranges.id)) in
+    somebody a.world.now a.id (vacate_in a.world.now) c.in_ok-at.at s.long s.place c.vacate_in.new.world s.seat s.there c.vacate_in.ensures

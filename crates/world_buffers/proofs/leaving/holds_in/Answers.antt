@@ -6,7 +6,6 @@ use Rattle.game_records.proofs.Bits.{again}
 use Rattle.world_numbers.specs.Encoding.{seat_place, hook_place, state_place}
 use Rattle.world_numbers.specs.Decoding.{is_set}
 use Rattle.world_buffers.specs.Leaving.{is_attached, holds_in}
-use borrow.Author.Rules.{rules}
 use Rattle.world_buffers.proofs.leaving.holds_in.Goals.{After-is_attached, After-is_set}
 use Rattle.world_buffers.proofs.leaving.holds_in.Goals as goal
 

@@ -1,17 +1,14 @@
 use mathlib.Core.Bool.{true, false}
 use mathlib.Core.List.{List}
-use mathlib.Core.Logic.{⊎_elim}
 use mathlib.Core.Path.{◌≡◌, sym, ap, ◌∙◌}
-use Prim.Native.Nat.{ℕ, ◌+◌, ◌-◌}
+use Prim.Native.Nat.{ℕ, ◌+◌}
 use lib.IntN.{ℤ}
 use lib.ListN.{length}
 use Rattle.base_rows.specs.Put.{put}
 use Rattle.base_turns.specs.Turns.{more}
-use Rattle.base_turns.proofs.Loop.{Left, always, fold_first, fold_end, turn_on}
-use Rattle.character.specs.Tick.{seats}
-use Rattle.world_numbers.specs.Encoding.{world_count, seat_place, hook_place, retracted_numbers}
+use Rattle.base_turns.proofs.Loop.{fold_first, fold_end, turn_on}
+use Rattle.world_numbers.specs.Encoding.{seat_place, hook_place, retracted_numbers}
 use Rattle.world_buffers.specs.Leaving.{holds_in, release_at, release_in}
-use borrow.Author.Rules.{rules}
 use Rattle.world_buffers.proofs.leaving.release_in.Goals.{then-holds_in, else-holds_in}
 use Rattle.world_buffers.proofs.leaving.release_in.Goals as goal
 

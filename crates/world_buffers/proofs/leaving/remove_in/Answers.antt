@@ -1,6 +1,6 @@
 use mathlib.Core.List.{List, map}
 use mathlib.Core.Path.{◌≡◌, refl, sym, ap, ◌∙◌, subst}
-use Prim.Native.Nat.{ℕ, ◌+◌, ◌-◌, ◌≤◌, ◌<◌}
+use Prim.Native.Nat.{ℕ, ◌+◌, ◌<◌}
 use native.Mathlib.Omega.{arith}
 use lib.IntN.{ℤ, nat_abs}
 use lib.ListN.{length, take, drop}
@@ -8,7 +8,6 @@ use Rattle.game_records.specs.Numbers.{number_at}
 use Rattle.game_records.proofs.Bits.{again}
 use Rattle.character.specs.Tick.{seats}
 use Rattle.world.specs.Calls.{place_of}
-use Rattle.world_numbers.specs.Encoding.{world_count}
 use Rattle.world_buffers.specs.Leaving.{vacate_in, remove_in}
 use Rattle.world_buffers.proofs.Listed.{place_abs, remove_next, remove_end}
 use borrow.Author.Rules.{rules}

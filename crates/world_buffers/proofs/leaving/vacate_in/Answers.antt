@@ -6,7 +6,6 @@ use lib.ListN.{replicate}
 use Rattle.base_rows.specs.Put.{put}
 use Rattle.world_numbers.specs.Encoding.{seat_count}
 use Rattle.world_buffers.specs.Leaving.{vacate_in}
-use borrow.Author.Rules.{rules}
 use Rattle.world_buffers.proofs.leaving.vacate_in.Goals as goal
 
 pub returns : goal.returns

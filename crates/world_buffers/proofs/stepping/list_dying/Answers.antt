@@ -1,13 +1,9 @@
-use Prim.Native.Nat.{◌-◌, ◌≤◌}
 use mathlib.Core.Bool.{true, false}
-use mathlib.Core.Logic.{⊎_elim}
-use mathlib.Core.Path.{◌≡◌, ap, ◌∙◌}
+use mathlib.Core.Path.{ap, ◌∙◌}
 use native.Mathlib.Omega.{arith}
 use lib.ListN.{length, set, length-set}
-use Rattle.character.specs.Places.{Among}
-use Rattle.character.specs.Tick.{seats}
 use Rattle.world_step.proofs.Listed.{as_i32}
-use Rattle.world_buffers.proofs.Dying.{Clearing, dead, alive, cleared_first, cleared_end, on_spikes, nobody}
+use Rattle.world_buffers.proofs.Dying.{dead, alive, cleared_first, cleared_end, on_spikes, nobody}
 use borrow.Author.Rules.{rules}
 use Rattle.world_buffers.proofs.stepping.list_dying.Goals.{then-present-j+then-on_deadly, then-present-j+else-on_deadly, else-present-j}
 use Rattle.world_buffers.proofs.stepping.list_dying.Goals as goal

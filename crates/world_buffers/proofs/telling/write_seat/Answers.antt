@@ -10,7 +10,6 @@ use Rattle.world_numbers.specs.Encoding.{mark_place, flag}
 use Rattle.world_numbers.specs.Decoding.{is_set}
 use Rattle.world_buffers.specs.Buffers.{is_there}
 use Rattle.world_buffers.proofs.StepAnswers.{seat_there, seat_empty}
-use borrow.Author.Rules.{rules}
 use Rattle.world_buffers.proofs.telling.write_seat.Goals.{After-is_set}
 use Rattle.world_buffers.proofs.telling.write_seat.Goals as goal
 

@@ -1,15 +1,11 @@
-use Prim.Native.Nat.{ℕ, ◌+◌, ◌*◌, ◌-◌, ◌≤◌}
-use mathlib.Core.Path.{◌≡◌, sym, ap, ◌∙◌}
-use native.Mathlib.Omega.{arith}
-use lib.ListN.{length, take, drop}
+use Prim.Native.Nat.{◌-◌, ◌≤◌}
+use mathlib.Core.Path.{◌≡◌}
+use lib.ListN.{length}
 use Rattle.base_turns.specs.Turns.{more}
-use Rattle.base_turns.proofs.Loop.{Left, always, fold_first, fold_end, turn_on}
-use Rattle.game_records.specs.Numbers.{core_count}
+use Rattle.base_turns.proofs.Loop.{Left, always}
 use Rattle.character.specs.Tick.{seats}
-use Rattle.world_numbers.specs.Encoding.{record_count, world_count}
+use Rattle.world_numbers.specs.Encoding.{world_count}
 use Rattle.world_buffers.specs.Stepping.{step_seat, step_seats, OfStep}
-use Rattle.world_buffers.proofs.StepAnswers.{seat_told}
-use borrow.Author.Rules.{rules}
 use Rattle.world_buffers.proofs.telling.write_seats.Given as goal
 
 abbrev pub invariant-loop-j : goal.invariant-loop-j

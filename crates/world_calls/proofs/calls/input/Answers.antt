@@ -10,16 +10,16 @@ pub returns-then-slot : goal.returns-then-slot
 unfolding input
 returns-then-slot c =
     let p : c.place_of-at.result ≡ place_of seats c.args.id = c.place_of-at.ensures ∙ ap (place_of seats) (to_z-of_z c.ranges.id) in
-    simp (← p, lt-ltb _ _ c.if-at-lt-SEATS.true, c.if-slot.true, c.accepted.ensures, c.with_slot.ensures, c.with_input-slot.ensures)
+    simp (← p, lt-ltb _ _ c.if-at-lt-SEATS.true, c.if-slot.true, c.with_slot.ensures, c.with_input-slot.ensures)
 
 pub returns-then-at-lt-SEATS : goal.returns-then-at-lt-SEATS
 unfolding input
 returns-then-at-lt-SEATS c =
     let p : c.place_of-at.result ≡ place_of seats c.args.id = c.place_of-at.ensures ∙ ap (place_of seats) (to_z-of_z c.ranges.id) in
-    simp (← p, lt-ltb _ _ c.if-at-lt-SEATS.true, c.if-slot.false, ← c.refused.ensures)
+    simp (← p, lt-ltb _ _ c.if-at-lt-SEATS.true, c.if-slot.false)
 
 pub returns : goal.returns
 unfolding input
 returns c =
     let p : c.place_of-at.result ≡ place_of seats c.args.id = c.place_of-at.ensures ∙ ap (place_of seats) (to_z-of_z c.ranges.id) in
-    simp (← p, le-ltb _ _ c.if-at-lt-SEATS.false, ← c.refused-2.ensures)
+    simp (← p, le-ltb _ _ c.if-at-lt-SEATS.false)

@@ -16,7 +16,7 @@ place_is c = c.place_of-at.ensures ∙ ap (place_of tuning_count) (to_z-of_z c.r
 pub returns-then-at-lt-TUNINGS : goal.returns-then-at-lt-TUNINGS
 unfolding tuning_now
 returns-then-at-lt-TUNINGS c =
-    let p = c.before.before.before.before in
+    let p = c.before.before.before in
     rw (again c.told_tuning.type_inv, c.told_tuning.ensures, again c.told_tuning-arg-1.given, ← place_is p, lt-ltb _ _ c.if-at-lt-TUNINGS.true) refl
 
 pub returns : goal.returns

@@ -1,3 +1,4 @@
+use Rattle.std.proofs.lemmas.Result.{err_from_is_err_and}
 use mathlib.Core.List.{List}
 use mathlib.Core.Path.{ap, ◌∙◌}
 use native.Mathlib.Omega.{arith}
@@ -12,13 +13,13 @@ use Rattle.world_inplace.proofs.Moved.{refuses, moves}
 use borrow.Author.Rules.{rules}
 use Rattle.world_inplace.proofs.moving.move_seat.Goals as goal
 
-pub returns-in_default : goal.returns-in_default
+pub returns-in_err-left : goal.returns-in_err-left
 unfolding spawn
-returns-in_default c = λ m marks here h.
-    let s = c in
-    let a = s.args in
+returns-in_err-left c = λ m marks here h.
+    let a = c.args in
     let b : Bodies = record { present = a.present.now; xs = a.xs.now; ys = a.ys.now; vxs = a.vxs.now; vys = a.vys.now } in
-    refuses a.sides a.tiles.now a.tuning a.id s.requires.2 m b a.rows.now marks here h c.move_among-moved.result _ (c.move_among-moved.ensures m.slots h.places) (ap (λ (d : Character). d.pos) c.spawn-me.ensures ∙ c.new.ensures) c.new-vel.ensures c.in_default.is
+    let p = err_from_is_err_and c.from_residual.result c.from_residual.ensures.1 in
+    rw (p.1, p.2) (refuses a.sides a.tiles.now a.tuning a.id c.requires.2 m b a.rows.now marks here h c.move_among.result _ (c.move_among.ensures m.slots h.places) (ap (λ (d : Character). d.pos) c.spawn-me.ensures ∙ c.new.ensures) c.new-vel.ensures _ c.in_err-left.was)
 
 pub overflow_mul-id : goal.overflow_mul-id
 overflow_mul-id c = let h = c.requires.2 in omega (arith, h)
@@ -47,8 +48,8 @@ returns c = λ m marks here h.
     let s = c in
     let a = s.args in
     let b : Bodies = record { present = a.present.now; xs = a.xs.now; ys = a.ys.now; vxs = a.vxs.now; vys = a.vys.now } in
-    let k = c.move_among-moved in
+    let k = c.move_among in
     let row = c.body_numbers-row.ensures in
     let x = c.i32_to_f32.ensures ∙ ap i32_to_f32 (again c.i32_to_f32-arg-1.given ∙ ap (λ (r : List ℤ). number_at r 0) row) in
     let y = c.i32_to_f32-2.ensures ∙ ap i32_to_f32 (again c.i32_to_f32-arg-2-1.given ∙ ap (λ (r : List ℤ). number_at r 1) row) in
-    rw (x, y, c.copy.ensures, row) (moves a.sides a.tiles.now a.tuning a.id s.requires.2 m b a.rows.now marks here h k.result _ (k.ensures m.slots h.places) (ap (λ (d : Character). d.pos) c.spawn-me.ensures ∙ c.new.ensures) c.new-vel.ensures c.in-To.left c.in-To.is)
+    rw (x, y, c.copy.ensures, row) (moves a.sides a.tiles.now a.tuning a.id s.requires.2 m b a.rows.now marks here h k.result _ (k.ensures m.slots h.places) (ap (λ (d : Character). d.pos) c.spawn-me.ensures ∙ c.new.ensures) c.new-vel.ensures c.in_ok-left.left c.in_ok-left.was)

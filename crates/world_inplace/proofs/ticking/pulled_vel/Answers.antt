@@ -1,11 +1,10 @@
-use borrow.Author.Rules.{rules}
 use Rattle.world_inplace.specs.Bodies.{pulled_vel}
 use Rattle.world_inplace.proofs.ticking.pulled_vel.Goals as goal
 
-pub returns-in_default : goal.returns-in_default
+pub returns-in-Some : goal.returns-in-Some
 unfolding pulled_vel
-returns-in_default c = search rules
+returns-in-Some c = simp c.in-Some.is
 
-pub returns : goal.returns
+pub returns-in-None : goal.returns-in-None
 unfolding pulled_vel
-returns c = search rules
+returns-in-None c = simp c.in-None.is

@@ -30,16 +30,16 @@ returns-then-at-lt-SEATS c =
     elim c.else-in_reach.branch [
       | else-in_reach-via-then-in_reach+else-in_reach-2 w ↦
           let y : _ ≡ is_in_reach a.args.y = w.in_reach-then-in_reach.ensures ∙ ap is_in_reach (to_z-of_z a.ranges.y) in
-          simp (← c.is_map.ensures, c.if-is_map.true, ← p, lt-ltb _ _ c.if-at-lt-SEATS.true, ← x, w.if-in_reach.true, ← y, w.if-in_reach-2.false, ← c.refused.ensures)
-      | else-in_reach-via-else-in_reach w ↦ simp (← c.is_map.ensures, c.if-is_map.true, ← p, lt-ltb _ _ c.if-at-lt-SEATS.true, ← x, w.if-in_reach.false, ← c.refused.ensures)
+          simp (← c.is_map.ensures, c.if-is_map.true, ← p, lt-ltb _ _ c.if-at-lt-SEATS.true, ← x, w.if-in_reach.true, ← y, w.if-in_reach-2.false)
+      | else-in_reach-via-else-in_reach w ↦ simp (← c.is_map.ensures, c.if-is_map.true, ← p, lt-ltb _ _ c.if-at-lt-SEATS.true, ← x, w.if-in_reach.false)
     ]
 
 pub returns-then-is_map : goal.returns-then-is_map
 unfolding join
 returns-then-is_map c =
     let p : c.place_of-at.result ≡ place_of seats c.args.id = c.place_of-at.ensures ∙ ap (place_of seats) (to_z-of_z c.ranges.id) in
-    simp (← c.is_map.ensures, c.if-is_map.true, ← p, le-ltb _ _ c.if-at-lt-SEATS.false, ← c.refused-then-is_map.ensures)
+    simp (← c.is_map.ensures, c.if-is_map.true, ← p, le-ltb _ _ c.if-at-lt-SEATS.false)
 
 pub returns : goal.returns
 unfolding join
-returns c = simp (← c.is_map.ensures, c.if-is_map.false, ← c.refused-2.ensures)
+returns c = simp (← c.is_map.ensures, c.if-is_map.false)

@@ -1,4 +1,3 @@
-use borrow.Author.Rules.{rules}
 use Rattle.world_step.proofs.calling.without_records.Goals as goal
 
 pub returns : goal.returns

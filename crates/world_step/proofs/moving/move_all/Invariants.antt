@@ -20,8 +20,6 @@ use Rattle.character.specs.declared.Slot.{Slot}
 use Rattle.character.specs.Records.{from_net}
 use Rattle.world.specs.Step.{put_back, Moving, record_of, move_in, move_turn, moving_from, move_all}
 use Rattle.world.specs.declared.Published.{Published}
-use Rattle.world.specs.declared.Recorded.TheVariants.{Refused, Core}
-use Rattle.world_step.specs.Moves.{moves_of}
 use Rattle.world_step.proofs.moving.move_all.Given as goal
 
 abbrev pub moving : List Slot → List Published → Moving

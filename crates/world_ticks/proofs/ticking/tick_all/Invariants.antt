@@ -21,11 +21,8 @@ use Rattle.character.specs.declared.Character.{Character}
 use Rattle.character.specs.declared.Slot.{Slot}
 use Rattle.character.specs.declared.tick.AfterTick.{AfterTick}
 use Rattle.character.specs.declared.tick.OwnTick.{OwnTick}
-use Rattle.character.specs.declared.tick.OwnTick.TheVariants as own
-use Rattle.character.specs.declared.tick.TickedAt.TheVariants.{To}
 use Rattle.character_laws.proofs.Places.{ticked-places}
 use Rattle.world.specs.Step.{tick_turn, tick_all}
-use Rattle.world_ticks.specs.Ticks.{ticks_of}
 use Rattle.world_ticks.proofs.Pulled.{pulled_there}
 use Rattle.world_ticks.proofs.ticking.tick_all.Given as goal
 

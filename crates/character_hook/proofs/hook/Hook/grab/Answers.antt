@@ -8,4 +8,4 @@ returns-in_default c = simp c.in_default.is
 
 pub returns : goal.returns
 unfolding grab
-returns c = simp c.in-At.is
+returns c = simp c.in-Some.is

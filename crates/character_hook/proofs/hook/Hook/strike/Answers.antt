@@ -8,16 +8,16 @@ returns-in_default c = simp c.in_default.is
 
 pub returns-in-Open : goal.returns-in-Open
 unfolding strike
-returns-in-Open c = simp (c.in-At.is, c.in-Open.is)
+returns-in-Open c = simp (c.in-Some.is, c.in-Open.is)
 
 pub returns-in-Normal : goal.returns-in-Normal
 unfolding strike
-returns-in-Normal c = simp (c.in-At.is, c.in-Normal.is)
+returns-in-Normal c = simp (c.in-Some.is, c.in-Normal.is)
 
 pub returns-in-Deadly : goal.returns-in-Deadly
 unfolding strike
-returns-in-Deadly c = simp (c.in-At.is, c.in-Deadly.is)
+returns-in-Deadly c = simp (c.in-Some.is, c.in-Deadly.is)
 
 pub returns-in-Unhookable : goal.returns-in-Unhookable
 unfolding strike
-returns-in-Unhookable c = simp (c.in-At.is, c.in-Unhookable.is)
+returns-in-Unhookable c = simp (c.in-Some.is, c.in-Unhookable.is)
