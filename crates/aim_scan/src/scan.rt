@@ -9,6 +9,7 @@ use crate::signs::{height, signed};
 use aim_tables::{cosines, sines};
 
 // The angle of a target, and how many entries were read for it.
+// Both are answered for every target, so no Option: the second bounds the work.
 #[derive(Clone, Copy)]
 pub struct Scan {
     pub angle: i32,
@@ -79,6 +80,7 @@ fn start(x: i64, y: i64, n: usize) -> Found
 }
 
 // From an entry down to the first that fits; entry 0 fits every target.
+// A `while`: what ends it is an entry that fits, not a bound, and the entries that are read are counted.
 fn scan_down(x: i64, y: i64, from: usize) -> Found
     requires { Target x y × (from ≤ 804) }
     ensures { (result.n ≡ largest (fitting x y) from) × (result.n ≤ from) × (result.read ≡ from + 1 - result.n) }

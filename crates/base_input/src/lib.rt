@@ -13,6 +13,7 @@ const MOST_TRIES: u32 = 65536;
 
 // Answers how many bytes it put at the start of the row: fewer than there is room for only where the input ends.
 // Where a read fails, the error is that read's, and what was read before it stands at the start of the row.
+// A `while`, not `read_exact`: what was read before the end is told.
 pub fn read_full<R: Read>(input: &mut R, row: &mut [u8]) -> io::Result<usize>
     ensures within { IfOk result (λ n. n ≤ length row.new) }
     ensures bytes { IfOk result (λ n. Consumes (R.remaining input.old) (R.remaining input.new) (take n row.new)) }
@@ -32,6 +33,7 @@ pub fn read_full<R: Read>(input: &mut R, row: &mut [u8]) -> io::Result<usize>
 }
 
 // As std's `write_all`, and tells what was written where a write fails. The error is that write's, or `WriteZero` where one takes no byte.
+// A `while`, not `write_all`: what was written before an error is told.
 pub fn write_full<W: Write>(output: &mut W, row: &[u8]) -> io::Result<()>
     ensures bytes { OnOk result (Appends (W.contents output.old) (W.contents output.new) row.now) }
     ensures err { OnErr result ((n : ℕ) × (n ≤ length row.now) × Appends (W.contents output.old) (W.contents output.new) (take n row.now)) }

@@ -77,6 +77,7 @@ pub fn meet_all(
 {
     let held = held_seat(hook, id);
     let mut j: usize = 0;
+    // A `while`: a row of seats without a meeting is passed at once.
     while j < SEATS {
         if none_met(xs, ys, j, pos, held) {
             j += ROW;

@@ -38,6 +38,7 @@ pub struct Character {
 pub const SEATS: usize = 64;
 
 // A place for a character: there or not, with its last input and its floor mark, what `grounded` answered in its last tick.
+// A flag beside the character, not an Option: the rows of C keep the numbers of a slot where nobody is, and the laws say which.
 #[derive(Clone, Copy)]
 pub struct Slot {
     pub present: bool,

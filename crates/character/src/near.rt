@@ -26,6 +26,7 @@ pub fn gather(
 {
     let mut count: usize = 0;
     let mut j: usize = 0;
+    // A `while`: a row of seats without a touch is passed at once.
     while j < SEATS {
         if none_touched(xs, ys, j, from, end) {
             j += ROW;

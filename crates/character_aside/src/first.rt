@@ -18,6 +18,7 @@ pub fn first_touch(from: vec2, to: vec2, distance: f32, q: vec2, end: u32) -> u3
     ensures { FirstTouch from to distance q 0 end result }
 {
     let mut i = 0u32;
+    // The size of an interval changes, so a `while` and not a range.
     let mut n = 65536u32;
     while i < end {
         let size = min(n, end - i);
@@ -55,12 +56,10 @@ fn touch_by_turn(from: vec2, to: vec2, distance: f32, q: vec2, first: u32, end: 
     requires { (first ≤ end) × (end ≤ 65536) }
     ensures { FirstTouch from to distance q first end result }
 {
-    let mut i = first;
-    while i < end {
+    for i in first..end {
         if touches(point_at(from, to, distance, i), q) {
             return i;
         }
-        i += 1;
     }
     end
 }

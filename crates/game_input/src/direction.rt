@@ -10,6 +10,7 @@ pub enum MoveDirection {
 }
 
 impl MoveDirection {
+    // A function, not `From`: the name is lib.rs's.
     pub fn from_int(i: i32) -> MoveDirection
         ensures { result ≡ from_int i }
     {

@@ -17,6 +17,7 @@ use number::{MOST_INT, put_int, read_int};
 pub const MOST_PACKED: usize = MOST_INT * CORE;
 
 // A record's bytes at the start, and how many they are; the others are 0.
+// A row with a count, not a Vec: there is no heap.
 #[derive(Clone, Copy)]
 pub struct Packed {
     pub bytes: [u8; MOST_PACKED],

@@ -33,6 +33,7 @@ fn more_bit(left: u32) -> u32
 }
 
 // Puts a number's bytes into buf from `at` on, and answers the place past them.
+// A `while`: how many bytes there are is known when nothing of the number is left.
 pub fn put_int(buf: &mut [u8], at: usize, z: i32) -> usize
     requires { at + (1 + most_later) ≤ length buf.old }
     ensures { (buf.new ≡ put buf.old at (int_bytes z)) × (result ≡ at + length (int_bytes z)) }

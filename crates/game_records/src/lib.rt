@@ -42,6 +42,7 @@ pub struct CharacterCore {
     pub hook_dy: i32,
 }
 
+// A function, not `From`: its name says what the numbers are.
 pub fn core_numbers(core: CharacterCore) -> [i32; CORE]
     ensures { result ≡ core_numbers core }
 {

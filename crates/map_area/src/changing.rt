@@ -67,7 +67,7 @@ fn add_from(sides: Sides, totals: &mut [u32], column: u32, row: u32, n: u32)
 fn add_all(entries: &mut [u32], n: u32)
     ensures { entries.new ≡ map (added n) entries.old }
 {
-    for i in 0..entries.len() {
-        entries[i] = wrapping_add_u32(entries[i], n);
+    for entry in entries {
+        *entry = wrapping_add_u32(*entry, n);
     }
 }

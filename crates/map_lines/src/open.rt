@@ -29,6 +29,7 @@ fn open_before(sides: Sides, tiles: &[u8], from: vec2, to: vec2, dist: f32, end:
     ensures { OpenTurns sides tiles.now from to dist end result }
 {
     let mut i = 0u32;
+    // The size of an interval changes, so a `while` and not a range.
     let mut n = 64u32;
     while i < end {
         let a = point_at(from, to, dist, i);

@@ -77,6 +77,7 @@ fn box_turns(dist: f32) -> u64
 }
 
 // Stretch by stretch, up to a turn that changes nothing.
+// A `while`: the last stretch is shorter.
 fn box_turns_taken(sides: Sides, tiles: &[u8], body: Body, box_: vec2, turns: u32) -> Body
     requires { T (is_map sides tiles.now) × (turns ≤ 65536) }
     ensures { result ≡ box_turns_taken sides tiles.now body box_ turns }
@@ -169,6 +170,7 @@ fn long_stretch(
     stretches(sides, tiles, body, fraction, box_, turns)
 }
 
+// A `while`: the last stretch is shorter.
 fn stretches(sides: Sides, tiles: &[u8], body: Body, fraction: f32, box_: vec2, turns: u32) -> Body
     requires { T (is_map sides tiles.now) }
     ensures { result ≡ turns_taken sides tiles.now fraction box_ turns body }

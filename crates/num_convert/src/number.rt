@@ -2,6 +2,7 @@
 ghost use Rattle.std.specs.Prelude.{◌≡◌};
 ghost use Rattle.num_convert.specs.Number.{clamp, saturated_add};
 
+// Not `f32::clamp`, which asks for bounds in order.
 pub fn clamp(value: f32, min: f32, max: f32) -> f32
     ensures { result ≡ clamp value min max }
 {

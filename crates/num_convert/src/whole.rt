@@ -19,6 +19,7 @@ pub fn trunc_to_i32(x: f32) -> i32
 }
 
 // x cut to a whole number after `up` halves are added to its size, or the nearest i32 beyond the range.
+// By the bits of the pattern, not by `f32::round` and `as`: it is faster.
 fn whole(x: f32, up: u64) -> i32
     requires { up < 2 }
     ensures { result ≡ whole_of 31 up x }

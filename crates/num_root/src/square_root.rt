@@ -66,6 +66,7 @@ fn isqrt(n: u64, guess: u64) -> u64
 }
 
 // The largest number up to s whose square is at most n.
+// A `while`: it ends at a number from which no range could be told before.
 fn lowered(n: u64, s: u64) -> u64
     requires { s < 2 ^ 25 }
     ensures { result * result ≤ n }
@@ -78,6 +79,7 @@ fn lowered(n: u64, s: u64) -> u64
 }
 
 // The largest number whose square is at most n, at least s.
+// A `while`, as `lowered`.
 fn raised(n: u64, s: u64) -> u64
     requires { (n < 2 ^ 50) × (s * s ≤ n) }
     ensures { (result * result ≤ n) × (n < (result + 1) * (result + 1)) }

@@ -44,6 +44,7 @@ fn copy_numbers(copy: Copy) -> [i32; COPY]
     row
 }
 
+// By index: a row is put at a place that the index gives.
 pub fn encode_copies(copies: [Copy; SEATS], numbers: &mut [i32])
     requires { length numbers.old ≡ sender_count }
     ensures { numbers.new ≡ copies_encoding copies }

@@ -7,6 +7,7 @@ use game_tuning::TUNINGS;
 
 // A seat as last sent, stepped alone since: whether there is a copy, its record, the input of that time, whether its own small world has
 // removed it, whether its last step was refused with 9, and the accepted steps since its last message, 150 at most.
+// Flags beside the record, not an Option: the rows of a sender keep the numbers of a seat without a copy.
 #[derive(Clone, Copy)]
 pub struct Copy {
     pub kept: bool,

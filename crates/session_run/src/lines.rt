@@ -26,6 +26,7 @@ pub fn run_lines(
     ensures buf_value { another seats result.session.done result.session.call result.next (length buf.old) ≡ false }
 {
     let mut turned = Turned { session, next: 0 };
+    // A `while`: where a line ends is where the next begins.
     while another(&turned.session, turned.next, buf.len()) {
         turned = run_line(text, sides, tiles, turned.session, buf, turned.next);
     }

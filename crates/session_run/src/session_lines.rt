@@ -15,6 +15,7 @@ use world::World;
 use world_step::world_after;
 
 // A session between two lines: whether it has ended, the number of the call that is due, the place of its line, the world.
+// A flag beside the rest, not an Option: the world and the place are answered after the end too.
 #[derive(Clone, Copy)]
 pub struct Session {
     pub done: bool,

@@ -13,9 +13,9 @@ const HIGH: u32 = 0x8000_0000;
 
 pub fn draw_tiles(tiles: &mut [u8], seed: u32) {
     let mut drawn = seed;
-    for i in 0..tiles.len() {
+    for tile in tiles {
         drawn = mix(drawn, 1);
-        tiles[i] = drawn_byte(seed, drawn);
+        *tile = drawn_byte(seed, drawn);
     }
 }
 
@@ -32,9 +32,9 @@ fn drawn_byte(seed: u32, drawn: u32) -> u8 {
 
 pub fn draw_totals(totals: &mut [u32], seed: u32) {
     let mut drawn = seed;
-    for i in 0..totals.len() {
+    for total in totals {
         drawn = mix(drawn, 1);
-        totals[i] = drawn_total(seed, drawn);
+        *total = drawn_total(seed, drawn);
     }
 }
 
@@ -47,16 +47,16 @@ fn drawn_total(seed: u32, drawn: u32) -> u32 {
 
 pub fn digest_tiles(tiles: &[u8]) -> u32 {
     let mut sum = 0;
-    for i in 0..tiles.len() {
-        sum = mix(sum, cast_signed(tiles[i] as u32));
+    for &tile in tiles {
+        sum = mix(sum, cast_signed(tile as u32));
     }
     sum
 }
 
 pub fn digest_totals(totals: &[u32]) -> u32 {
     let mut sum = 0;
-    for i in 0..totals.len() {
-        sum = mix(sum, cast_signed(totals[i]));
+    for &total in totals {
+        sum = mix(sum, cast_signed(total));
     }
     sum
 }

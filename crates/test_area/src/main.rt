@@ -13,8 +13,7 @@ use map_tiles::Sides;
 use num_convert::cast_signed;
 use std::cmp::min;
 use std::io;
-use std::io::{Read, Write};
-use test_common::{Counts, MOST_LINES, Outcome, after, byte_at, nth, read_line, rest};
+use test_common::{after, byte_at, count_lines, nth, rest};
 
 // The length of a line; where its words begin.
 const LINE: usize = 128;
@@ -46,25 +45,9 @@ const NO_COUNT: u32 = 0x5555_5555;
 
 fn main(rt: HostRuntime) -> io::Result<()> {
     let mut output = io::writer(&rt);
-    let counts = count_all(&mut rt.reader(), &mut output)?;
+    let counts = count_lines::<LINE, _, _, _>(&mut rt.reader(), &mut output, line_agrees)?;
     counts.print(&mut output)?;
     Ok(())
-}
-
-fn count_all<R: Read, W: Write>(input: &mut R, output: &mut W) -> io::Result<Counts> {
-    let mut counts = Counts::new();
-    for _ in 0..MOST_LINES {
-        counts = counts.with(next_line(input, output)?);
-    }
-    Ok(counts)
-}
-
-fn next_line<R: Read, W: Write>(input: &mut R, output: &mut W) -> io::Result<Outcome> {
-    let mut line = [0u8; LINE];
-    if !read_line(input, &mut line)? {
-        return Ok(Outcome::End);
-    }
-    Outcome::of(output, line_agrees(&line), &line)
 }
 
 fn line_agrees(line: &[u8]) -> bool {

@@ -9,6 +9,7 @@ use std::io;
 use std::io::Write;
 
 // What came of reading a line.
+// An enum, not an Option of a bool: its names say what a line did.
 #[derive(Clone, Copy)]
 pub enum Outcome {
     End,

@@ -1,6 +1,7 @@
 // What the test programs share: reading recorded vectors and numbers as words, and numbers as one word.
 #![tactic(auto)]
 
+mod counting;
 mod counts;
 mod digests;
 mod lines;
@@ -8,6 +9,7 @@ mod map;
 mod numbers;
 mod vectors;
 
+pub use counting::count_lines;
 pub use counts::{Counts, Outcome};
 pub use digests::{digest, mix, mix_first};
 pub use lines::{MOST_LINES, byte_at, first, read_line, rest};

@@ -1,5 +1,5 @@
 // The lines of an input, and what stands in one.
-ghost use Rattle.std.specs.Prelude.{ℕ, ◌≤◌, ◌≡◌, length, take, drop, slice_index, IfOk, OnErr, IsTrue};
+ghost use Rattle.std.specs.Prelude.{ℕ, ◌≤◌, ◌≡◌, length, take, drop, slice_index, IfOk, OnOk, OnErr, IsTrue};
 ghost use Rattle.std.specs.Io.KnownBytes.{Consumes};
 
 use base_input::read_full;
@@ -13,6 +13,7 @@ pub const MOST_LINES: usize = 65536;
 pub fn read_line<R: Read>(input: &mut R, line: &mut [u8]) -> io::Result<bool>
     ensures as_long { length line.new ≡ length line.old }
     ensures there { IfOk result (λ r. IsTrue r → Consumes (R.remaining input.old) (R.remaining input.new) line.new) }
+    ensures read { OnOk result ((n : ℕ) × (n ≤ length line.new) × Consumes (R.remaining input.old) (R.remaining input.new) (take n line.new)) }
     ensures err { OnErr result ((n : ℕ) × (n ≤ length line.new) × Consumes (R.remaining input.old) (R.remaining input.new) (take n line.new)) }
 {
     let n = line.len();

@@ -4,10 +4,7 @@
 
 use num_convert::cast_signed;
 use std::io;
-use std::io::{Read, Write};
-use test_common::{
-    Counts, MOST_LINES, Outcome, byte_at, float_of, hex, is_float, is_int, read_line, rest, word,
-};
+use test_common::{byte_at, count_lines, float_of, hex, is_float, is_int, rest, word};
 
 // The length of a line, and where the argument and the answer begin in it.
 const LINE: usize = 20;
@@ -18,25 +15,9 @@ const ANSWER: usize = 11;
 
 fn main(rt: HostRuntime) -> io::Result<()> {
     let mut output = io::writer(&rt);
-    let counts = count_all(&mut rt.reader(), &mut output)?;
+    let counts = count_lines::<LINE, _, _, _>(&mut rt.reader(), &mut output, line_agrees)?;
     counts.print(&mut output)?;
     Ok(())
-}
-
-fn count_all<R: Read, W: Write>(input: &mut R, output: &mut W) -> io::Result<Counts> {
-    let mut counts = Counts::new();
-    for _ in 0..MOST_LINES {
-        counts = counts.with(next_line(input, output)?);
-    }
-    Ok(counts)
-}
-
-fn next_line<R: Read, W: Write>(input: &mut R, output: &mut W) -> io::Result<Outcome> {
-    let mut line = [0u8; LINE];
-    if !read_line(input, &mut line)? {
-        return Ok(Outcome::End);
-    }
-    Outcome::of(output, line_agrees(&line), &line)
 }
 
 fn line_agrees(line: &[u8]) -> bool {

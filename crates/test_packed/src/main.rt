@@ -5,10 +5,7 @@
 use game_packed::{MOST_PACKED, Packed, pack, unpack};
 use game_records::{CharacterCore, core_numbers};
 use std::io;
-use std::io::{Read, Write};
-use test_common::{
-    Counts, MOST_LINES, Outcome, after, are_numbers, byte_at, first, hex, nth, read_line, rest,
-};
+use test_common::{after, are_numbers, byte_at, count_lines, first, hex, nth, rest};
 
 // The length of a line; where its bytes and its words begin.
 const LINE: usize = 317;
@@ -28,25 +25,9 @@ const ACCEPTED: u32 = 0;
 
 fn main(rt: HostRuntime) -> io::Result<()> {
     let mut output = io::writer(&rt);
-    let counts = count_all(&mut rt.reader(), &mut output)?;
+    let counts = count_lines::<LINE, _, _, _>(&mut rt.reader(), &mut output, line_agrees)?;
     counts.print(&mut output)?;
     Ok(())
-}
-
-fn count_all<R: Read, W: Write>(input: &mut R, output: &mut W) -> io::Result<Counts> {
-    let mut counts = Counts::new();
-    for _ in 0..MOST_LINES {
-        counts = counts.with(next_line(input, output)?);
-    }
-    Ok(counts)
-}
-
-fn next_line<R: Read, W: Write>(input: &mut R, output: &mut W) -> io::Result<Outcome> {
-    let mut line = [0u8; LINE];
-    if !read_line(input, &mut line)? {
-        return Ok(Outcome::End);
-    }
-    Outcome::of(output, line_agrees(&line), &line)
 }
 
 fn line_agrees(line: &[u8]) -> bool {

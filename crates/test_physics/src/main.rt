@@ -16,10 +16,9 @@ use game_tuning::TUNINGS;
 use map_tiles::Sides;
 use num_convert::cast_signed;
 use std::io;
-use std::io::{Read, Write};
 use test_common::{
-    AFTER_MAP, Counts, MOST_LINES, Outcome, after, byte_at, first, is_point, nth, point, read_line,
-    rest, sides_of, tile_count, tiles_of,
+    AFTER_MAP, after, byte_at, count_lines, first, is_point, nth, point, rest, sides_of,
+    tile_count, tiles_of,
 };
 use test_states::{character_of, is_character};
 
@@ -54,25 +53,9 @@ const ACCEPTED: u32 = 0;
 
 fn main(rt: HostRuntime) -> io::Result<()> {
     let mut output = io::writer(&rt);
-    let counts = count_all(&mut rt.reader(), &mut output)?;
+    let counts = count_lines::<LINE, _, _, _>(&mut rt.reader(), &mut output, line_agrees)?;
     counts.print(&mut output)?;
     Ok(())
-}
-
-fn count_all<R: Read, W: Write>(input: &mut R, output: &mut W) -> io::Result<Counts> {
-    let mut counts = Counts::new();
-    for _ in 0..MOST_LINES {
-        counts = counts.with(next_line(input, output)?);
-    }
-    Ok(counts)
-}
-
-fn next_line<R: Read, W: Write>(input: &mut R, output: &mut W) -> io::Result<Outcome> {
-    let mut line = [0u8; LINE];
-    if !read_line(input, &mut line)? {
-        return Ok(Outcome::End);
-    }
-    Outcome::of(output, line_agrees(&line), &line)
 }
 
 fn line_agrees(line: &[u8]) -> bool {
@@ -160,21 +143,13 @@ fn slot_agrees(from: Slot, pull: Option<HookPull>, words: &[u8], j: usize) -> bo
     let vel = rest.vel;
     rest.vel = old_vel;
     slot.present == before.present
-        && is_input(slot.input, before.input)
+        && slot.input == before.input
         && is_character(rest, character_words(words, j))
         && is_point(
             vel,
             nth(words, VELOCITIES + 2 * j),
             nth(words, VELOCITIES + 2 * j + 1),
         )
-}
-
-fn is_input(input: PlayerInput, before: PlayerInput) -> bool {
-    input.direction == before.direction
-        && input.target_x == before.target_x
-        && input.target_y == before.target_y
-        && input.jump == before.jump
-        && input.hook == before.hook
 }
 
 fn id_of(words: &[u8]) -> u32 {

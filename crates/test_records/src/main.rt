@@ -6,10 +6,7 @@ use character::Character;
 use game_records::{CORE, core_numbers, core_of};
 use game_refusals::Refusal;
 use std::io;
-use std::io::{Read, Write};
-use test_common::{
-    Counts, MOST_LINES, Outcome, are_numbers, byte_at, read_line, read_numbers, rest, word,
-};
+use test_common::{are_numbers, byte_at, count_lines, read_numbers, rest, word};
 use test_states::{character_of, is_character};
 
 // The length of a line; where the states, the number and the record begin in it.
@@ -27,25 +24,9 @@ const ACCEPTED: u32 = 0;
 
 fn main(rt: HostRuntime) -> io::Result<()> {
     let mut output = io::writer(&rt);
-    let counts = count_all(&mut rt.reader(), &mut output)?;
+    let counts = count_lines::<LINE, _, _, _>(&mut rt.reader(), &mut output, line_agrees)?;
     counts.print(&mut output)?;
     Ok(())
-}
-
-fn count_all<R: Read, W: Write>(input: &mut R, output: &mut W) -> io::Result<Counts> {
-    let mut counts = Counts::new();
-    for _ in 0..MOST_LINES {
-        counts = counts.with(next_line(input, output)?);
-    }
-    Ok(counts)
-}
-
-fn next_line<R: Read, W: Write>(input: &mut R, output: &mut W) -> io::Result<Outcome> {
-    let mut line = [0u8; LINE];
-    if !read_line(input, &mut line)? {
-        return Ok(Outcome::End);
-    }
-    Outcome::of(output, line_agrees(&line), &line)
 }
 
 fn line_agrees(line: &[u8]) -> bool {

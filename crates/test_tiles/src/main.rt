@@ -5,10 +5,9 @@
 use game_refusals::Refusal;
 use map_tiles::{Sides, Tile};
 use std::io;
-use std::io::{Read, Write};
 use test_common::{
-    AFTER_MAP, Counts, MOST_LINES, Outcome, byte_at, first, is_point, nth, point, read_line, rest,
-    sides_of, tile_count, tiles_of,
+    AFTER_MAP, byte_at, count_lines, first, is_point, nth, point, rest, sides_of, tile_count,
+    tiles_of,
 };
 
 // The length of a line.
@@ -16,25 +15,9 @@ const LINE: usize = 172;
 
 fn main(rt: HostRuntime) -> io::Result<()> {
     let mut output = io::writer(&rt);
-    let counts = count_all(&mut rt.reader(), &mut output)?;
+    let counts = count_lines::<LINE, _, _, _>(&mut rt.reader(), &mut output, line_agrees)?;
     counts.print(&mut output)?;
     Ok(())
-}
-
-fn count_all<R: Read, W: Write>(input: &mut R, output: &mut W) -> io::Result<Counts> {
-    let mut counts = Counts::new();
-    for _ in 0..MOST_LINES {
-        counts = counts.with(next_line(input, output)?);
-    }
-    Ok(counts)
-}
-
-fn next_line<R: Read, W: Write>(input: &mut R, output: &mut W) -> io::Result<Outcome> {
-    let mut line = [0u8; LINE];
-    if !read_line(input, &mut line)? {
-        return Ok(Outcome::End);
-    }
-    Outcome::of(output, line_agrees(&line), &line)
 }
 
 fn line_agrees(line: &[u8]) -> bool {

@@ -12,6 +12,7 @@ pub fn read_number(text: &[u8], at: usize, stop: u8) -> Option<(u64, usize)>
         return None;
     }
     let mut n = (first - b'0') as u64;
+    // By index: the place past the number is answered.
     for i in at + 1..text.len() {
         let b = text[i];
         if b == stop {

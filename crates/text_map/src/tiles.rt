@@ -17,6 +17,7 @@ pub fn read_tiles(
 {
     let count = width * height;
     let mut place = at;
+    // By index: a tile beside the place of its number, and the last of a row ends with another byte.
     for i in 0..count {
         let (n, next) = read_number(text, place, end_byte((count - 1 - i) % width))?;
         if 255 < n {

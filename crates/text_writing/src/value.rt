@@ -18,6 +18,7 @@ pub fn put_value(buf: &mut [u8], at: usize, z: i32) -> usize
 }
 
 // Puts n's digits.
+// It calls itself, as the first digit is known last.
 fn put_number(buf: &mut [u8], at: usize, n: u32) -> usize
     requires { at + length (digits 10 n) ≤ length buf.old }
     ensures { Put buf.old at (digits 10 n) buf.new result }

@@ -6,6 +6,7 @@ use character::SEATS;
 
 // What is kept of a seat: whether a trial player joined there, its target tile, the x of its last record, whether that step left it as it was, its smallest
 // distance and the first step that reached it.
+// A flag beside the numbers, not an Option: the target of a seat without a player has its numbers too.
 #[derive(Clone, Copy)]
 pub struct Player {
     pub joined: bool,

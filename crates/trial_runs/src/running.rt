@@ -85,6 +85,7 @@ fn note_seat(records: &[i32], seat: usize, player: Player, sides: Sides, step: u
     player
 }
 
+// By index: two rows are read at one place.
 fn note_all(
     mut players: [Player; SEATS],
     records: &[i32],

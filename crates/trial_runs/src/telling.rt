@@ -20,6 +20,7 @@ fn player_numbers(player: Player) -> [i32; TOLD]
     [0i32; TOLD]
 }
 
+// By index: a row is put at a place that the index gives.
 pub fn tried_numbers(tried: Tried) -> [i32; ROW]
     ensures { result ≡ tried_numbers tried }
 {

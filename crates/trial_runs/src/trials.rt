@@ -50,6 +50,7 @@ pub fn trial(
 }
 
 // Each tuning from the same numbers.
+// By index: a row is put at a place that the index gives.
 fn run_all(
     start: &[i32],
     players: [Player; SEATS],

@@ -17,6 +17,7 @@ pub struct World {
 }
 
 // The record of a seat, where somebody is there.
+// A flag beside the record, not an Option: where nobody is the record is zeros, which C is told.
 #[derive(Clone, Copy)]
 pub struct Published {
     pub present: bool,
@@ -24,6 +25,7 @@ pub struct Published {
 }
 
 // Who is removed, by rising id: as many ids as counted, and zeros behind them.
+// A row with a count, not a Vec: there is no heap.
 #[derive(Clone, Copy)]
 pub struct Removed {
     pub count: usize,

@@ -10,7 +10,6 @@ use game_refusals::Refusal;
 use game_tuning::TUNINGS;
 use map_tiles::Sides;
 use world::{Published, Removed, World};
-use world_joins::{fresh, slot_at, with_slot};
 use world_step::step;
 
 // What a step over lent slots tells: the next slots stand in the slice.
@@ -20,34 +19,23 @@ pub struct Records {
     pub removed: Removed,
 }
 
-// A world with all its slots still to be read.
-fn unread(tunings: [i32; TUNINGS]) -> World
-    ensures { (length result.slots ≡ seats) × (result.tunings ≡ tunings) }
+fn load(slots: &[Slot], tunings: [i32; TUNINGS]) -> World
+    requires { length slots.now ≡ seats }
+    ensures { result ≡ world_of slots.now tunings }
 {
-    let mut world = fresh();
-    world.tunings = tunings;
-    world
-}
-
-// The slots are read, and stay as they are.
-fn load(slots: &mut [Slot], tunings: [i32; TUNINGS]) -> World
-    requires { length slots.old ≡ seats }
-    ensures { (result ≡ world_of slots.old tunings) × (slots.new ≡ slots.old) }
-{
-    let mut world = unread(tunings);
-    for from in 0..SEATS {
-        world = with_slot(world, from, slots[from]);
+    let mut all = [Slot::empty(); SEATS];
+    all.copy_from_slice(slots);
+    World {
+        slots: all,
+        tunings,
     }
-    world
 }
 
 fn store(slots: &mut [Slot], world: World)
     requires { length slots.old ≡ seats }
     ensures { slots.new ≡ world.slots }
 {
-    for at in 0..SEATS {
-        slots[at] = slot_at(world, at);
-    }
+    slots.copy_from_slice(&world.slots);
 }
 
 // The step of a world, on lent slots. A refusal leaves them as they were.
@@ -61,11 +49,11 @@ pub fn step_lent(
     ensures told { told result ≡ told_of (lent_step slots.old tunings sides tiles.now) }
     ensures left { slots.new ≡ slots_left slots.old tunings sides tiles.now }
 {
-    let world = load(&mut *slots, tunings);
+    let world = load(slots, tunings);
     let after = step(world, sides, tiles)?;
     let next = after.world;
     let records = after.records;
     let removed = after.removed;
-    store(&mut *slots, next);
+    store(slots, next);
     Ok(Records { records, removed })
 }

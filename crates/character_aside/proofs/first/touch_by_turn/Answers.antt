@@ -15,12 +15,6 @@ point_at-requires c = omega arith
 pub returns-then-touches : goal.returns-then-touches
 returns-then-touches c = touched-at _ _ _ _ _ _ _ c.loop-i.invariant c.loop-i-test.true (simp (← c.point_at.ensures, ← c.touches.ensures, c.if-touches.true))
 
-pub overflow_add-i : goal.overflow_add-i
-overflow_add-i c = omega arith
-
-pub loop-i-smaller : goal.loop-i-smaller
-loop-i-smaller c = omega arith
-
 pub loop-i-preserved : goal.loop-i-preserved
 loop-i-preserved c = each_on c.loop-i.invariant (simp (← c.point_at.ensures, ← c.touches.ensures, c.if-touches.false))
 

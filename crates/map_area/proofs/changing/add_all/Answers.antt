@@ -3,17 +3,18 @@ use Rattle.base_turns.proofs.Mapped.{replaced, replaced_on, replaced_end}
 use Rattle.map_totals.specs.Area.{added}
 use Rattle.map_area.proofs.changing.add_all.Goals as goal
 
-pub loop-i-init : goal.loop-i-init
-loop-i-init c = (omega arith, refl, refl, refl)
+pub loop-entry-init : goal.loop-entry-init
+loop-entry-init c = (refl, refl, refl)
 
-pub loop-i-preserved : goal.loop-i-preserved
-loop-i-preserved c =
+pub loop-entry-preserved : goal.loop-entry-preserved
+loop-entry-preserved c =
     let a = c.args in
-    let l = c.loop-i in
-    let e : set l.entries l.i (added a.n (get_or l.entries l.i 0)) ≡ replaced (added a.n) (suc l.i) a.entries.now = rw l.invariant.3 (replaced_on (added a.n) 0 l.i a.entries.now c.loop-i-test.true) in
-    (omega arith, refl, length-set l.entries l.i _ ∙ l.invariant.2, ap (set l.entries l.i) c.wrapping_add_u32.ensures.value ∙ e ∙ ap (λ (i : ℕ). replaced (added a.n) i a.entries.now) (sym (add-one l.i)))
+    let l = c.loop-entry in
+    let e : set l.entry-items l.entry-index (added a.n (get_or l.entry-items l.entry-index 0)) ≡ replaced (added a.n) (suc l.entry-index) a.entries.now = rw l.invariant.2 (replaced_on (added a.n) 0 l.entry-index a.entries.now (omega (arith, l.invariant.0, c.loop-entry-test.true))) in
+    (l.invariant.0, length-set l.entry-items l.entry-index _ ∙ l.invariant.1, ap (set l.entry-items l.entry-index) c.wrapping_add_u32.ensures.value ∙ e ∙ ap (λ (i : ℕ). replaced (added a.n) i a.entries.now) (sym (add-one l.entry-index)))
 
 pub returns : goal.returns
 returns c =
     let a = c.args in
-    c.loop-i.invariant.3 ∙ replaced_end (added a.n) c.loop-i.i a.entries.now (omega arith)
+    let l = c.loop-entry in
+    l.invariant.2 ∙ replaced_end (added a.n) l.entry-index a.entries.now (omega (arith, l.invariant.0, c.loop-entry-test.false))
