@@ -62,12 +62,15 @@ fn line_hit(
     requires { T (is_map sides tiles.now) × (turns ≤ 65536) × (dist ≡ vdistance from to) }
     ensures { result ≡ line_hit sides tiles.now from to dist turns }
 {
-    for i in open_turns(sides, tiles, from, to, dist, turns)..turns {
-        let point = vec2::mix(from, to, i as f32 / dist);
-        let tile = check_point(sides, tiles, point);
-        if tile.is_solid() {
-            return Some((point, tile));
+    // The hit is yielded by `break`: the form that the customer asked for here.
+    'line: {
+        for i in open_turns(sides, tiles, from, to, dist, turns)..turns {
+            let point = vec2::mix(from, to, i as f32 / dist);
+            let tile = check_point(sides, tiles, point);
+            if tile.is_solid() {
+                break 'line Some((point, tile));
+            }
         }
+        None
     }
-    None
 }

@@ -38,6 +38,6 @@ returns-then-is_solid c =
     sym (ap or_nothing (turn_off c.loop-i.invariant c.loop-i-test.true
     (simp (← c.mix-point.ensures, ← c.check_point-tile.ensures) (or_hit_solid _ _ (simp (← c.is_solid.ensures, c.if-is_solid.true))))))
 
-pub returns : goal.returns
+pub returns-after-loop-i : goal.returns-after-loop-i
 unfolding line_hit
-returns c = sym (ap or_nothing (turn_end c.loop-i.invariant c.loop-i-test.false))
+returns-after-loop-i c = sym (ap or_nothing (turn_end c.loop-i.invariant c.loop-i-test.false))
