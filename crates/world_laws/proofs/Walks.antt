@@ -265,4 +265,4 @@ module _ (n : ℕ) (c : Character) (id : CharacterId) (ss : List Slot) (s : Side
       go true true m l = boxes m (ltb-true id.0 n l) (ramped_move s ts c.pos c.vel tuning) refl
 
 pub walks_refused : WalksRefused
-walks_refused = record { line = line_number_lem; box = box_number_lem; player = player_walk_lem; tick = tick_number_lem; move = move_number_lem }
+walks_refused = record { line = line_number_lem; box = box_number_lem; player = player_walk_lem; player_only = player_refused; tick = tick_number_lem; move = move_number_lem }

@@ -32,6 +32,7 @@ use Rattle.world.specs.Step.{Moving, tick_turn, tick_all, move_turn, moving_from
 use Rattle.world.specs.declared.World.{World}
 use Rattle.world.specs.declared.call.Call.TheVariants.{Step}
 use Rattle.std.specs.Prelude.{Ok, Err}
+use Rattle.game_refusals.specs.declared.Refusal.{Refusal}
 use Rattle.game_refusals.specs.declared.Refusal.TheVariants.{TooFar}
 use Rattle.game_refusals.specs.Refusals.{number_of_answer}
 
@@ -110,6 +111,7 @@ pub record WalksRefused : Type 0 where
   pub line : (s : Sides) (ts : List ℕ) (from to : vec2) → LowestFirst (LineFits s ts from to) (number_of_answer (check_line s ts from to))
   pub box : (s : Sides) (ts : List ℕ) (at vel box : vec2) → LowestFirst (BoxFits s ts vel) (number_of_answer (move_box s ts at vel box))
   pub player : (n : ℕ) (ss : List Slot) (id : ℕ) (from to : vec2) (collision : Float) → (player_walk n ss id from to collision ≡ (Err TooFar)) ↔ WalkTooFar from to collision
+  pub player_only : (n : ℕ) (ss : List Slot) (id : ℕ) (from to : vec2) (collision : Float) (e : Refusal) → player_walk n ss id from to collision ≡ Err e → e ≡ TooFar
   pub tick : (n : ℕ) (c : Character) (id : CharacterId) (ss : List Slot) (s : Sides) (ts : List ℕ) (i : PlayerInput) (tunings : List ℤ) → LowestFirst (TickFits n c id s ts i (tuning_of tunings)) (number_of_answer (tick n c id ss s ts i tunings))
   pub move : (n : ℕ) (c : Character) (id : CharacterId) (ss : List Slot) (s : Sides) (ts : List ℕ) (tunings : List ℤ) → LowestFirst (MoveFits n c id s ts (tuning_of tunings)) (number_of_answer (move n c id ss s ts tunings))
 
