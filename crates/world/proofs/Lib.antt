@@ -14,6 +14,7 @@ pub mod Held
 pub mod RecordsTaken
 pub mod Deadly
 pub mod Numbers
+pub mod Numbered
 pub mod Hold
 pub mod Demand1
 pub mod Demand3

@@ -24,7 +24,7 @@ use Rattle.world_buffers.proofs.Gone.{gone_at, gone_grounded}
 use Rattle.world_buffers.proofs.StepAnswers.{step-refused}
 use Rattle.game_refusals.specs.Refusals.{number_of}
 use Rattle.game_refusals.specs.declared.Refusal.{Refusal}
-use Rattle.world_buffers.proofs.Numbered.{numbered}
+use Rattle.world.proofs.Numbered.{numbered}
 
 module _ (w : World) (s : Sides) (ts : List ℕ) where
   -- one is too far

@@ -11,4 +11,3 @@ pub mod Refusals
 pub mod Reached
 pub mod InPlace
 pub mod Dying
-pub mod Numbered

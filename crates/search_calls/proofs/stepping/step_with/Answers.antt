@@ -11,7 +11,7 @@ use Rattle.world.specs.Calls.{place_of}
 use Rattle.world_numbers.specs.Encoding.{world_count, seat_place}
 use Rattle.world_numbers.specs.Decoding.{is_set}
 use Rattle.world_buffers.specs.Buffers.{input_in}
-use Rattle.world_buffers.proofs.Numbered.{accepted, declined}
+use Rattle.world.proofs.Numbered.{accepted, declined}
 use Rattle.search_calls.specs.Steps.{record_is_at}
 use Rattle.search_calls.proofs.Steps.{took, not-took}
 use Rattle.search_calls.proofs.stepping.step_with.Goals as goal

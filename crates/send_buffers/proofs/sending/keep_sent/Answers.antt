@@ -4,7 +4,7 @@ use Rattle.std.specs.Prelude.{Result, Ok, Err}
 use Rattle.std.specs.Result.{is_ok}
 use Rattle.game_refusals.specs.Refusals.{number_of_answer}
 use Rattle.game_refusals.specs.declared.Refusal.{Refusal}
-use Rattle.world_buffers.proofs.Numbered.{numbered}
+use Rattle.world.proofs.Numbered.{numbered}
 use Rattle.send_calls.specs.Sending.{sent_in}
 use Rattle.send_buffers.proofs.Kept.{sent_kept, sent_left}
 use Rattle.send_buffers.proofs.sending.keep_sent.Goals as goal

@@ -8,7 +8,7 @@ use Rattle.world_numbers.specs.Decoding.{decoding}
 use Rattle.world.specs.Answered.{Stepped}
 use Rattle.world_buffers.specs.Leaving.{ListsSeats}
 use Rattle.world_buffers.proofs.Listed.{step_lists}
-use Rattle.world_buffers.proofs.Numbered.{numbered}
+use Rattle.world.proofs.Numbered.{numbered}
 use Rattle.world_buffers.proofs.StepAnswers.{step-refused}
 use Rattle.send_buffers.proofs.Kept.{count_fits, step_wrong_world, step_wrong_records, step-wrong-removed, step-wrong-sender, step-wrong-passed, step_right}
 use Rattle.send_buffers.proofs.sending.send_step_in.Goals.{then-world-ne-WORLD-via-then-world-ne-WORLD, then-world-ne-WORLD-via-else-world-ne-WORLD+then-records-ne-RECORDS, then-world-ne-WORLD-via-else-world-ne-WORLD+else-records-ne-RECORDS+then-removed-ne-SEATS, then-world-ne-WORLD-via-else-world-ne-WORLD+else-records-ne-RECORDS+else-removed-ne-SEATS+then-sender-ne-SENDER, then-world-ne-WORLD-via-else-world-ne-WORLD+else-records-ne-RECORDS+else-removed-ne-SEATS+else-sender-ne-SENDER+then-passed-ne-PASSED}

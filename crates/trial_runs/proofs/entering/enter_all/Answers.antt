@@ -10,7 +10,7 @@ use Rattle.world.specs.Calls.{place_of}
 use Rattle.trial_rule.specs.Trial.{no_player}
 use Rattle.trial_runs.proofs.Sides.{both_sides}
 use Rattle.world_buffers.specs.Buffers.{join_in}
-use Rattle.world_buffers.proofs.Numbered.{numbered}
+use Rattle.world.proofs.Numbered.{numbered}
 use Rattle.trial_runs.proofs.Worlds.{world_long}
 use Rattle.trial_runs.proofs.Joins.{entrant_at, join_within, seat_there, enter_first, enter-end, enter-off, enter-on}
 use Rattle.trial_runs.proofs.entering.enter_all.Goals as goal

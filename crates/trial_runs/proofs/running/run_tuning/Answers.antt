@@ -9,7 +9,7 @@ use Rattle.trial_runs.proofs.Sides.{both_sides}
 use Rattle.trial_runs.proofs.Worlds.{world_long}
 use Rattle.trial_runs.proofs.OneTurn.{started, refused, stepped_kept, turned}
 use Rattle.game_refusals.specs.Refusals.{number_of_answer}
-use Rattle.world_buffers.proofs.Numbered.{accepted, declined}
+use Rattle.world.proofs.Numbered.{accepted, declined}
 use borrow.Author.Rules.{rules}
 use Rattle.trial_runs.proofs.running.run_tuning.Goals as goal
 

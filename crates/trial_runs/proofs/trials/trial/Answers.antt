@@ -15,7 +15,7 @@ use Rattle.map_tiles.specs.Map.{is_map, count}
 use Rattle.character.specs.Tick.{seats}
 use Rattle.world.specs.declared.World.{World}
 use Rattle.world_numbers.specs.Encoding.{each, encoding}
-use Rattle.world_buffers.proofs.Numbered.{numbered}
+use Rattle.world.proofs.Numbered.{numbered}
 use Rattle.trial_rule.specs.Trial.{no_player, enter_all, nobody_yet, tried, tuned_to}
 use Rattle.trial_rule.specs.declared.Player.{Player}
 use Rattle.trial_rule.specs.Calls.{tuning_rows, are_whole, trial_fault, entrants, tried_numbers}
