@@ -1,16 +1,19 @@
 // What each role may ask, and calls and reads by a role.
 ghost use Rattle.std.specs.Prelude.{◌≡◌};
 ghost use Rattle.character.specs.Tick.{seats};
+ghost use Rattle.world.specs.Answered.{answered};
 ghost use Rattle.world.specs.ReadAnswer.{read_answer};
-ghost use Rattle.world.specs.Step.{stepped};
+ghost use Rattle.world.specs.Run.{without_records};
+ghost use Rattle.world.specs.Step.{stepped, stepped_in};
+ghost use Rattle.world_step.specs.Changes.{IsChange};
 ghost use Rattle.role_rule.specs.Roles.{is_input_for, is_shown, allowed, called_as, read_as};
 
 use game_refusals::Refusal;
 use map_tiles::Sides;
 use role_rule::{Ask, Role};
-use world::{AfterStep, Call, Query, Reading, World};
+use world::{AfterStep, Call, Query, Reading, Records, World};
 use world_calls::read;
-use world_step::run_call;
+use world_step::{change, make_call, run_call};
 
 pub fn call_as(
     role: Role,
@@ -23,6 +26,39 @@ pub fn call_as(
 {
     if allowed(role, Ask::Call(call)) {
         return run_call(world, sides, tiles, call);
+    }
+    Err(Refusal::NotAllowed)
+}
+
+// The same in place: a refusal leaves the world as it was.
+pub fn make_call_as(
+    role: Role,
+    world: &mut World,
+    sides: Sides,
+    tiles: &[u8],
+    call: Call,
+) -> Result<Records, Refusal>
+    ensures { stepped_in seats world.new result ≡ called_as seats role sides tiles.now world.old call }
+{
+    if allowed(role, Ask::Call(call)) {
+        return make_call(world, sides, tiles, call);
+    }
+    Err(Refusal::NotAllowed)
+}
+
+// The same for any call but a step.
+pub fn change_as(
+    role: Role,
+    world: &mut World,
+    sides: Sides,
+    tiles: &[u8],
+    call: Call,
+) -> Result<(), Refusal>
+    requires { IsChange call }
+    ensures { without_records seats (answered world.new result) ≡ called_as seats role sides tiles.now world.old call }
+{
+    if allowed(role, Ask::Call(call)) {
+        return change(world, sides, tiles, call);
     }
     Err(Refusal::NotAllowed)
 }

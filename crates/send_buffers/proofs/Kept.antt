@@ -33,8 +33,8 @@ use Rattle.world_buffers.specs.Stepping.{StepBuffers, LeftByStep, left_by_step}
 use Rattle.world_buffers.proofs.StepAnswers.{right_lengths}
 use Rattle.send_buffers.specs.Sends.{fresh_buffer, SenderBuffers, keep_sent, passes, room_in, passed_in, send_in, send_step_in}
 use Rattle.game_refusals.specs.Refusals.{number_of_answer}
-use Rattle.world.specs.Step.{stepped}
-use Rattle.world.specs.declared.AfterStep.{AfterStep}
+use Rattle.world.specs.Step.{stepped_in}
+use Rattle.world.specs.declared.Records.{Records}
 use Rattle.world.specs.declared.World.{World}
 
 -- ---- before any call
@@ -58,7 +58,7 @@ module _ (b : SenderBuffers) (number : ℕ) (m : Sent) where
   sent_left z = rw (ne_eqb number 0 z)
 
 -- the number of a call's answer
-pub number_same : (w : World) (r : Result AfterStep Refusal) → number_of_answer r ≡ (stepped seats w r).number
+pub number_same : (w : World) (r : Result Records Refusal) → number_of_answer r ≡ (stepped_in seats w r).number
 number_same w (Ok a) = refl
 number_same w (Err e) = refl
 

@@ -77,7 +77,7 @@ module _ (s : Sides) (ts : List ℕ) (w : World) (cs : List Copy) where
   accepted_known (Tune index z) e = (tune_known w index z e, tt)
   accepted_known Step e =
       let a = step seats w s ts in
-      all_append seats (send_messages seats s ts w a cs).passed (map passed.Removal (ids_in a.removed)) (messages_known seats w a s ts cs) (removals_known seats (ids_in a.removed) (lists-seats w s ts Step refl a refl).seat)
+      all_append seats (send_messages seats s ts w a cs).passed (map passed.Removal (ids_in a.removed)) (messages_known seats w a s ts cs) (removals_known seats (ids_in a.removed) (lists-seats w s ts Step refl a refl refl).seat)
 
   pub sent_known : (c : Call) → AllKnown seats (send seats s ts w cs c).passed
   sent_known c = by_test (λ (m : Sent). AllKnown seats m.passed) (eqb (ran seats s ts w c).number 0) (λ e. accepted_known c (eqb-true (ran seats s ts w c).number 0 e)) (λ e. tt)

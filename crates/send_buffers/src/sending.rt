@@ -18,7 +18,7 @@ use map_tiles::Sides;
 use send_calls::{no_copies, send};
 use send_numbers::{PASSED, SENDER, decode_copies, encode_copies, encode_items};
 use send_rule::Sending;
-use world::{AfterStep, Call};
+use world::{Call, Records};
 use world_buffers::{leave_in, tune_in, write_step};
 use world_numbers::{RECORDS, WORLD, decode};
 
@@ -34,7 +34,7 @@ pub fn sender_fresh_in(sender: &mut [i32]) -> Result<(), Refusal>
 
 // Leaves the next copies and what is passed along in the buffers where the call was accepted.
 fn keep_sent(
-    answer: Result<AfterStep, Refusal>,
+    answer: Result<Records, Refusal>,
     sending: Sending,
     sender: &mut [i32],
     passed: &mut [i32],
@@ -68,7 +68,8 @@ fn pass_in(
         width: 0,
         height: 0,
     };
-    let called = send(decode(world), decode_copies(sender), none, b"", call);
+    let mut next = decode(world);
+    let called = send(&mut next, decode_copies(sender), none, b"", call);
     keep_sent(called.answer, called.sending, sender, passed, count);
     Ok(())
 }
@@ -120,16 +121,11 @@ pub fn send_step_in(
     {
         return Err(Refusal::BadLength);
     }
-    let called = send(
-        decode(world),
-        decode_copies(sender),
-        sides,
-        tiles,
-        Call::Step,
-    );
+    let mut next = decode(world);
+    let called = send(&mut next, decode_copies(sender), sides, tiles, Call::Step);
     let answer = called.answer;
     keep_sent(answer, called.sending, sender, passed, count);
-    let after = answer?;
-    write_step(after, world, records, removed);
-    Ok(after.removed.count)
+    let told = answer?;
+    write_step(next, told, world, records, removed);
+    Ok(told.removed.count)
 }

@@ -3,7 +3,7 @@ use Prim.Native.Nat.{ℕ, ◌≤◌, ◌<◌}
 use native.Mathlib.Omega.{arith}
 use mathlib.Core.Bool.{true, true≢false}
 use mathlib.Core.List.{List, []}
-use mathlib.Core.Path.{◌≡◌, sym, ap, ◌∙◌, subst}
+use mathlib.Core.Path.{◌≡◌, refl, sym, ap, ◌∙◌, subst}
 use lib.Dec.{ltb}
 use lib.IntN.{ℤ, pos, negsuc}
 use lib.ListN.{length}
@@ -20,6 +20,7 @@ use Rattle.world.specs.Run.{ran}
 use Rattle.world.specs.declared.call.Call.{Call}
 use Rattle.world.specs.declared.call.Call.TheVariants.{Step}
 use Rattle.world.specs.Answered.{Stepped}
+use Rattle.world.specs.declared.Removed.{Removed}
 use Rattle.world.specs.declared.World.{World}
 use Rattle.world.proofs.Removal.{dying_within, listed_ids}
 use Rattle.world.proofs.Seats.{by_test}
@@ -65,16 +66,21 @@ module _ (w : World) (s : Sides) (ts : List ℕ) where
   step_lists = by_test (λ (a : Stepped). IsListed a.removed) (is_map s ts) (λ e. moves_list (next (λ us. move_all seats us s ts (tuning_of w.tunings)) (tick_all seats w.slots s ts (tuning_of w.tunings)))) (λ e. none_listed)
 
   -- ---- an accepted step
-  module _ (c : Call) (is : c ≡ Step) (a : Stepped) (e : a ≡ ran seats s ts w c) where
-    stepped : a ≡ step seats w s ts
-    stepped = e ∙ ap (ran seats s ts w) is
+  module _ (c : Call) (is : c ≡ Step) (a : Stepped) (d : a.records ≡ (ran seats s ts w c).records) (e : a.removed ≡ (ran seats s ts w c).removed) where
+    removed_is : a.removed ≡ (step seats w s ts).removed
+    removed_is = e ∙ ap (λ (b : Call). (ran seats s ts w b).removed) is
 
     pub lists-seats : IsListed a.removed
-    lists-seats = subst (λ (b : Stepped). IsListed b.removed) (sym stepped) step_lists
+    lists-seats = subst IsListed (sym removed_is) step_lists
+
+    -- its messages are told by its records alone
+    messages_are : (cs : List Copy) → send_messages seats s ts w a cs ≡ send_messages seats s ts w (step seats w s ts) cs
+    unfolding send_messages
+    messages_are cs = rw (d ∙ ap (λ (b : Call). (ran seats s ts w b).records) is) refl
 
     pub step_sent : (cs : List Copy) (x y : Sending) → x ≡ sending_of seats (send_messages seats s ts w a cs) → y ≡ sending_of seats (send_removals (ids_in a.removed) (sent_in x)) → y ≡ sending_of seats (send_accepted seats s ts w cs c)
     step_sent cs x y f g =
         g
-        ∙ ap (λ (m : Sent). sending_of seats (send_removals (ids_in a.removed) m)) (sent_back (send_messages seats s ts w a cs) x f)
-        ∙ ap (λ (b : Stepped). sending_of seats (send_removals (ids_in b.removed) (send_messages seats s ts w b cs))) stepped
+        ∙ ap (λ (m : Sent). sending_of seats (send_removals (ids_in a.removed) m)) (sent_back (send_messages seats s ts w a cs) x f ∙ messages_are cs)
+        ∙ ap (λ (r : Removed). sending_of seats (send_removals (ids_in r) (send_messages seats s ts w (step seats w s ts) cs))) removed_is
         ∙ sym (ap (λ (d : Call). sending_of seats (send_accepted seats s ts w cs d)) is)

@@ -1,8 +1,8 @@
 // The sender: the call on the world, and what is passed along for it.
-ghost use Rattle.std.specs.Prelude.{◌≡◌, [], ◌∷◌, Ok};
+ghost use Rattle.std.specs.Prelude.{◌≡◌, [], ◌∷◌};
 ghost use Rattle.character.specs.Tick.{seats};
 ghost use Rattle.world.specs.Run.{ran};
-ghost use Rattle.world.specs.Step.{stepped};
+ghost use Rattle.world.specs.Step.{stepped_in};
 ghost use Rattle.send_rule.specs.Send.{sending_of, send_nothing, send_accepted, send};
 
 use crate::copies::{no_copy, with_copy};
@@ -12,23 +12,30 @@ use game_refusals::Refusal;
 use game_tuning::TUNINGS;
 use map_tiles::Sides;
 use send_rule::{Copy, MOST_PASSED, Passed, Sending};
-use world::{AfterStep, Call, World};
+use world::{Call, Records, World};
 use world_joins::place_of;
-use world_step::run_call;
+use world_step::make_call;
 
 // What a call answers, and what the sender does for it.
 #[derive(Clone, Copy)]
 pub struct Called {
-    pub answer: Result<AfterStep, Refusal>,
+    pub answer: Result<Records, Refusal>,
     pub sending: Sending,
 }
 
-pub fn send(world: World, copies: [Copy; SEATS], sides: Sides, tiles: &[u8], call: Call) -> Called
-    ensures { (stepped seats world result.answer ≡ ran seats sides tiles.now world call) × (result.sending ≡ sending_of seats (send seats sides tiles.now world copies call)) }
+pub fn send(
+    world: &mut World,
+    copies: [Copy; SEATS],
+    sides: Sides,
+    tiles: &[u8],
+    call: Call,
+) -> Called
+    ensures { (stepped_in seats world.new result.answer ≡ ran seats sides tiles.now world.old call) × (result.sending ≡ sending_of seats (send seats sides tiles.now world.old copies call)) }
 {
-    let answer = run_call(world, sides, tiles, call);
+    let before = *world;
+    let answer = make_call(world, sides, tiles, call);
     let sending = match answer {
-        Ok(after) => send_accepted(world, copies, after, sides, tiles, call),
+        Ok(told) => send_accepted(before, copies, told, sides, tiles, call),
         Err(_) => send_nothing(copies),
     };
     Called { answer, sending }
@@ -38,12 +45,12 @@ pub fn send(world: World, copies: [Copy; SEATS], sides: Sides, tiles: &[u8], cal
 fn send_accepted(
     world: World,
     copies: [Copy; SEATS],
-    after: AfterStep,
+    told: Records,
     sides: Sides,
     tiles: &[u8],
     call: Call,
 ) -> Sending
-    requires { stepped seats world (Ok after) ≡ ran seats sides tiles.now world call }
+    requires { (told.records ≡ (ran seats sides tiles.now world call).records) × (told.removed ≡ (ran seats sides tiles.now world call).removed) }
     ensures { result ≡ sending_of seats (send_accepted seats sides tiles.now world copies call) }
 {
     match call {
@@ -55,8 +62,8 @@ fn send_accepted(
         }
         Call::Input { .. } => send_nothing(copies),
         Call::Step => {
-            let removed = after.removed;
-            send_removals(send_messages(world, after, copies, sides, tiles), removed)
+            let removed = told.removed;
+            send_removals(send_messages(world, told, copies, sides, tiles), removed)
         }
         Call::Tune { index, value } => {
             let at = place_of(TUNINGS, index) as u32;

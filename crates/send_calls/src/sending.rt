@@ -2,7 +2,7 @@
 ghost use Rattle.std.specs.Prelude.{◌≡◌, ◌+◌, ◌≤◌, Ok};
 ghost use Rattle.character.specs.Tick.{seats};
 ghost use Rattle.world.specs.Removal.{ids_in};
-ghost use Rattle.world.specs.Step.{stepped};
+ghost use Rattle.world.specs.Step.{stepped_in};
 ghost use Rattle.send_rule.specs.Send.{item, sending_of, send_messages, send_removals};
 ghost use Rattle.send_calls.specs.Sending.{sent_in, IsListed};
 
@@ -11,7 +11,7 @@ use crate::due::due;
 use character::SEATS;
 use map_tiles::Sides;
 use send_rule::{Copy, Item, MOST_PASSED, Passed, Sending};
-use world::{AfterStep, Removed, World};
+use world::{Records, Removed, World};
 use world_joins::place_of;
 
 pub fn item(passed: Passed) -> Item
@@ -23,15 +23,15 @@ pub fn item(passed: Passed) -> Item
 // A bare mark, then that step's messages by rising id; each renews its copy.
 pub fn send_messages(
     world: World,
-    after: AfterStep,
+    told: Records,
     copies: [Copy; SEATS],
     sides: Sides,
     tiles: &[u8],
 ) -> Sending
-    ensures { (result ≡ sending_of seats (send_messages seats sides tiles.now world (stepped seats world (Ok after)) copies)) × (result.count ≤ 1 + seats) }
+    ensures { (result ≡ sending_of seats (send_messages seats sides tiles.now world (stepped_in seats world (Ok told)) copies)) × (result.count ≤ 1 + seats) }
 {
     let slots = world.slots;
-    let records = after.records;
+    let records = told.records;
     let tunings = world.tunings;
     let mut all = step_copies(copies, sides, tiles, tunings);
     let mut items = [item(Passed::Mark); MOST_PASSED];

@@ -19,18 +19,18 @@ pub fn run_lines(
     text: &[u8],
     sides: Sides,
     tiles: &[u8],
-    session: Session,
+    mut session: Session,
     buf: &mut [u8],
 ) -> Turned
     ensures lines_ran { LinesRan seats text.now sides tiles.now session buf.old 0 result.session buf.new result.next }
     ensures buf_value { another seats result.session.done result.session.call result.next (length buf.old) ≡ false }
 {
-    let mut turned = Turned { session, next: 0 };
+    let mut next = 0;
     // A `while`: where a line ends is where the next begins.
-    while another(&turned.session, turned.next, buf.len()) {
-        turned = run_line(text, sides, tiles, turned.session, buf, turned.next);
+    while another(&session, next, buf.len()) {
+        next = run_line(text, sides, tiles, &mut session, buf, next);
     }
-    turned
+    Turned { session, next }
 }
 
 // Whether there is another line to run, and room for its answer.

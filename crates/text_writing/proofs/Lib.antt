@@ -1,3 +1,4 @@
 pub mod Sizes
+pub mod Unrecorded
 mod Rows
 mod Signs

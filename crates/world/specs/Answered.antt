@@ -1,6 +1,6 @@
 -- What a call answers: a number, 0 where it is accepted, and the world after it. Definitions only.
-use Rattle.std.specs.Prelude.{ℕ, List, Result, Ok, Err}
-use Rattle.game_refusals.specs.Refusals.{number_of}
+use Rattle.std.specs.Prelude.{ℕ, List, Result}
+use Rattle.game_refusals.specs.Refusals.{number_of_answer}
 use Rattle.game_refusals.specs.declared.Refusal.{Refusal}
 use Rattle.world.specs.declared.Published.{Published}
 use Rattle.world.specs.declared.Removed.{Removed}
@@ -18,7 +18,6 @@ pub record Stepped : Type 0 where
   pub records : List Published
   pub removed : Removed
 
--- the same of a call that answers the next world or a refusal
-abbrev pub answered : World → Result World Refusal → Answer
-answered w (Ok next) = record { number = 0; world = next }
-answered w (Err refusal) = record { number = number_of refusal; world = w }
+-- the same of a call on a world that it is lent: w is what it leaves there
+abbrev pub answered : {A : Type 0} → World → Result A Refusal → Answer
+answered w r = record { number = number_of_answer r; world = w }

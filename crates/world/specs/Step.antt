@@ -17,6 +17,7 @@ use Rattle.world.specs.Removal.{dying, remove_all, listed}
 use Rattle.world.specs.declared.Published.{Published}
 use Rattle.world.specs.Answered.{Stepped}
 use Rattle.world.specs.declared.AfterStep.{AfterStep}
+use Rattle.world.specs.declared.Records.{Records}
 use Rattle.world.specs.declared.World.{World}
 use Rattle.std.specs.Prelude.{Result, Ok, Err}
 use Rattle.character.specs.declared.tick.AfterTick.{AfterTick}
@@ -98,6 +99,11 @@ step_refused n w k = record { number = k; world = w; records = replicate n unpub
 abbrev pub stepped : ℕ → World → Result AfterStep Refusal → Stepped
 stepped n w (Ok a) = record { number = 0; world = a.world; records = a.records; removed = a.removed }
 stepped n w (Err refusal) = step_refused n w (number_of refusal)
+
+-- the same of a call on a world that it is lent: w is what it leaves there
+abbrev pub stepped_in : ℕ → World → Result Records Refusal → Stepped
+stepped_in n w (Ok a) = record { number = 0; world = w; records = a.records; removed = a.removed }
+stepped_in n w (Err refusal) = step_refused n w (number_of refusal)
 
 -- the records are taken, then whoever has a corner on a deadly tile is removed
 abbrev pub step_answer : ℕ → World → Sides → List ℕ → Turn Moving ℕ → Stepped

@@ -9,7 +9,7 @@ ghost use Rattle.world_buffers.specs.Stepping.{seat_written, step_seats, left_by
 use crate::leaving::remove_in;
 use base_rows::copy;
 use character::{SEATS, Slot};
-use world::{AfterStep, Removed};
+use world::{Records, Removed, World};
 use world_numbers::{MARK, RECORD, RECORDS, encode_records, flag, is_set, seat_place};
 
 // Where somebody is at a seat, it takes the numbers of a record and a floor mark.
@@ -65,14 +65,19 @@ fn marks_of(slots: [Slot; SEATS]) -> [bool; SEATS]
     marks
 }
 
-// The same for what a step by value leaves.
-pub fn write_step(after: AfterStep, world: &mut [i32], records: &mut [i32], removed: &mut [i32])
-    requires { (length world.old ≡ world_count) × (length records.old ≡ records_count) × (length removed.old ≡ seats) × ListsSeats after.removed }
-    ensures { (n : ℕ) → left_by_step world.old (record { records = records.entry.now; removed = removed.old; count = n }) (record { number = 0; world = after.world; records = after.records; removed = after.removed }) ≡ record { number = 0; world = world.new; told = record { records = records.exit.now; removed = removed.new; count = after.removed.count } } }
+// The same for the world that a step leaves outside the buffers, and what it tells.
+pub fn write_step(
+    next: World,
+    told: Records,
+    world: &mut [i32],
+    records: &mut [i32],
+    removed: &mut [i32],
+)
+    requires { (length world.old ≡ world_count) × (length records.old ≡ records_count) × (length removed.old ≡ seats) × ListsSeats told.removed }
+    ensures { (n : ℕ) → left_by_step world.old (record { records = records.entry.now; removed = removed.old; count = n }) (record { number = 0; world = next; records = told.records; removed = told.removed }) ≡ record { number = 0; world = world.new; told = record { records = records.exit.now; removed = removed.new; count = told.removed.count } } }
 {
-    let published = after.records;
-    let gone = after.removed;
-    let next = after.world;
+    let published = told.records;
+    let gone = told.removed;
     let slots = next.slots;
     let mut rows = [0i32; RECORDS];
     encode_records(published, &mut rows);

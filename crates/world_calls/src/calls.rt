@@ -14,52 +14,54 @@ use game_tuning::{TUNINGS, may_tune};
 use world::World;
 use world_joins::{place_of, with_slot};
 
-pub fn leave(world: World, id: i32) -> Result<World, Refusal>
-    ensures { answered world result ≡ leave seats world id }
+pub fn leave(world: &mut World, id: i32) -> Result<(), Refusal>
+    ensures { answered world.new result ≡ leave seats world.old id }
 {
     let at = place_of(SEATS, id);
     if at < SEATS {
         let slot = world.slots[at];
         if slot.present {
-            return Ok(vacate(world, at));
+            vacate(world, at);
+            return Ok(());
         }
         return Err(Refusal::Absent);
     }
     Err(Refusal::BadId)
 }
 
-pub fn input(world: World, id: i32, values: PlayerInput) -> Result<World, Refusal>
-    ensures { answered world result ≡ input seats world id values }
+pub fn input(world: &mut World, id: i32, values: PlayerInput) -> Result<(), Refusal>
+    ensures { answered world.new result ≡ input seats world.old id values }
 {
     let at = place_of(SEATS, id);
     if at < SEATS {
         let mut slot = world.slots[at];
         if slot.present {
             slot = slot.with_input(values);
-            return Ok(with_slot(world, at, slot));
+            with_slot(world, at, slot);
+            return Ok(());
         }
         return Err(Refusal::Absent);
     }
     Err(Refusal::BadId)
 }
 
-pub fn tune(world: World, index: i32, value: i32) -> Result<World, Refusal>
-    ensures { answered world result ≡ tune world index value }
+pub fn tune(world: &mut World, index: i32, value: i32) -> Result<(), Refusal>
+    ensures { answered world.new result ≡ tune world.old index value }
 {
     let at = place_of(TUNINGS, index);
     if at < TUNINGS {
         if may_tune(at, value) {
-            return Ok(with_tuning(world, at, value));
+            with_tuning(world, at, value);
+            return Ok(());
         }
         return Err(Refusal::BadHold);
     }
     Err(Refusal::BadTuning)
 }
 
-fn with_tuning(mut world: World, at: usize, value: i32) -> World
+fn with_tuning(world: &mut World, at: usize, value: i32)
     requires { at < tuning_count }
-    ensures { result ≡ with_tuning world at value }
+    ensures { world.new ≡ with_tuning world.old at value }
 {
     world.tunings[at] = value;
-    world
 }

@@ -8,11 +8,12 @@ use character_hook::Hook;
 use world::World;
 use world_joins::with_slot;
 
-pub fn vacate(world: World, at: usize) -> World
+pub fn vacate(world: &mut World, at: usize)
     requires { at < seats }
-    ensures { result ≡ vacate world at }
+    ensures { world.new ≡ vacate world.old at }
 {
-    with_slot(release(world, at), at, Slot::empty())
+    *world = release(*world, at);
+    with_slot(world, at, Slot::empty());
 }
 
 fn release(mut world: World, at: usize) -> World

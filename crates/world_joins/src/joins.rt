@@ -28,14 +28,14 @@ pub fn point_of(x: i32, y: i32) -> vec2
 }
 
 pub fn join(
-    world: World,
+    world: &mut World,
     sides: Sides,
     tiles: &[u8],
     id: i32,
     x: i32,
     y: i32,
-) -> Result<World, Refusal>
-    ensures { answered world result ≡ join seats world sides tiles.now id x y }
+) -> Result<(), Refusal>
+    ensures { answered world.new result ≡ join seats world.old sides tiles.now id x y }
 {
     if is_map(sides, tiles) {
         let at = place_of(SEATS, id);
@@ -50,9 +50,15 @@ pub fn join(
     Err(Refusal::BadMap)
 }
 
-fn join_at(world: World, sides: Sides, tiles: &[u8], at: usize, pos: vec2) -> Result<World, Refusal>
+fn join_at(
+    world: &mut World,
+    sides: Sides,
+    tiles: &[u8],
+    at: usize,
+    pos: vec2,
+) -> Result<(), Refusal>
     requires { T (is_map sides tiles.now) × (at < seats) }
-    ensures { answered world result ≡ join_at world sides tiles.now at pos }
+    ensures { answered world.new result ≡ join_at world.old sides tiles.now at pos }
 {
     let box_ = vec2::new(CHARACTER_SIZE, CHARACTER_SIZE);
     if check_box(sides, tiles, pos, box_) {
@@ -62,5 +68,6 @@ fn join_at(world: World, sides: Sides, tiles: &[u8], at: usize, pos: vec2) -> Re
     if slot.present {
         return Err(Refusal::Present);
     }
-    Ok(with_slot(world, at, Slot::joined(pos)))
+    with_slot(world, at, Slot::joined(pos));
+    Ok(())
 }

@@ -36,10 +36,9 @@ pub fn slot_at(world: World, id: usize) -> Slot
     slots[id]
 }
 
-pub fn with_slot(mut world: World, at: usize, slot: Slot) -> World
+pub fn with_slot(world: &mut World, at: usize, slot: Slot)
     requires { at < seats }
-    ensures { result ≡ with_slot world at slot }
+    ensures { world.new ≡ with_slot world.old at slot }
 {
     world.slots[at] = slot;
-    world
 }

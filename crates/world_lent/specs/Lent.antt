@@ -8,10 +8,10 @@ use Rattle.world.specs.Answered.{Stepped}
 use Rattle.world.specs.declared.World.{World}
 use Rattle.world.specs.Removal.{listed}
 use Rattle.world.specs.declared.Published.{Published}
+use Rattle.world.specs.declared.Records.{Records}
 use Rattle.world.specs.declared.Removed.{Removed}
 use Rattle.game_refusals.specs.Refusals.{number_of}
 use Rattle.game_refusals.specs.declared.Refusal.{Refusal}
-use Rattle.world_lent.specs.declared.Records.{Records}
 
 -- the world that a list of slots and the tunings make
 abbrev pub world_of : List Slot → List ℤ → World

@@ -9,15 +9,9 @@ use character::{SEATS, Slot};
 use game_refusals::Refusal;
 use game_tuning::TUNINGS;
 use map_tiles::Sides;
-use world::{Published, Removed, World};
+pub use world::Records;
+use world::World;
 use world_step::step;
-
-// What a step over lent slots tells: the next slots stand in the slice.
-#[derive(Clone, Copy)]
-pub struct Records {
-    pub records: [Published; SEATS],
-    pub removed: Removed,
-}
 
 fn load(slots: &[Slot], tunings: [i32; TUNINGS]) -> World
     requires { length slots.now ≡ seats }

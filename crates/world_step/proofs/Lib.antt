@@ -1,1 +1,2 @@
+mod Kept
 pub mod Listed

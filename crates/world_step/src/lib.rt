@@ -6,6 +6,5 @@ mod moving;
 mod removing;
 mod steps;
 
-pub use calling::{run_call, world_after};
+pub use calling::{change, make_call, run_call, step};
 pub use moving::unpublished;
-pub use steps::step;

@@ -9,13 +9,6 @@ use map_tiles::{Sides, on_deadly};
 use world::{Removed, World};
 use world_calls::vacate;
 
-// The world without those who are removed, and who they are.
-#[derive(Clone, Copy)]
-pub struct Removals {
-    pub world: World,
-    pub removed: Removed,
-}
-
 pub fn nobody() -> Removed
     ensures { result ≡ listed seats [] }
 {
@@ -25,13 +18,12 @@ pub fn nobody() -> Removed
     }
 }
 
-// Where somebody stands is not changed by who was removed before.
-pub fn remove_dying(world: World, sides: Sides, tiles: &[u8]) -> Removals
+// The world is left without those who are removed. Where somebody stands is not changed by who was removed before.
+pub fn remove_dying(world: &mut World, sides: Sides, tiles: &[u8]) -> Removed
     requires { T (is_map sides tiles.now) }
-    ensures { (result.world ≡ remove_all world (dying seats sides tiles.now world.slots)) × (result.removed ≡ listed seats (dying seats sides tiles.now world.slots)) }
+    ensures { (world.new ≡ remove_all world.old (dying seats sides tiles.now world.old.slots)) × (result ≡ listed seats (dying seats sides tiles.now world.old.slots)) }
 {
     let slots = world.slots;
-    let mut next = world;
     let mut ids = [0i32; SEATS];
     let mut count = 0usize;
     for j in 0..SEATS {
@@ -39,15 +31,11 @@ pub fn remove_dying(world: World, sides: Sides, tiles: &[u8]) -> Removals
         if slot.present {
             let me = slot.character;
             if on_deadly(sides, tiles, me.pos) {
-                next = vacate(next, j);
+                vacate(world, j);
                 ids[count] = j as i32;
                 count += 1;
             }
         }
     }
-    let removed = Removed { count, ids };
-    Removals {
-        world: next,
-        removed,
-    }
+    Removed { count, ids }
 }

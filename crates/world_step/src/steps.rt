@@ -2,7 +2,7 @@
 ghost use Rattle.std.specs.Prelude.{◌≡◌, T, replicate};
 ghost use Rattle.map_tiles.specs.Map.{is_map};
 ghost use Rattle.character.specs.Tick.{seats};
-ghost use Rattle.world.specs.Step.{unpublished, tick_all, move_all, turned, stepped, step_on, step};
+ghost use Rattle.world.specs.Step.{unpublished, tick_all, move_all, turned, stepped_in, step_on, step};
 ghost use Rattle.base_turns.specs.Turns.{next};
 ghost use Rattle.world_step.specs.Moves.{moving_of};
 
@@ -12,11 +12,11 @@ use character::{SEATS, Slot};
 use game_refusals::Refusal;
 use game_tuning::{Tuning, tuning_of};
 use map_tiles::{Sides, is_map};
-use world::{AfterStep, Published, World};
+use world::{Published, Records, World};
 use world_ticks::tick_all;
 
-pub fn step(world: World, sides: Sides, tiles: &[u8]) -> Result<AfterStep, Refusal>
-    ensures { stepped seats world result ≡ step seats world sides tiles.now }
+pub fn make_step(world: &mut World, sides: Sides, tiles: &[u8]) -> Result<Records, Refusal>
+    ensures { stepped_in seats world.new result ≡ step seats world.old sides tiles.now }
 {
     if is_map(sides, tiles) {
         return step_on(world, sides, tiles);
@@ -31,23 +31,16 @@ pub fn no_records() -> [Published; SEATS]
 }
 
 // The same for a map that is one.
-fn step_on(world: World, sides: Sides, tiles: &[u8]) -> Result<AfterStep, Refusal>
+fn step_on(world: &mut World, sides: Sides, tiles: &[u8]) -> Result<Records, Refusal>
     requires { T (is_map sides tiles.now) }
-    ensures { stepped seats world result ≡ step_on seats world sides tiles.now }
+    ensures { stepped_in seats world.new result ≡ step_on seats world.old sides tiles.now }
 {
-    let tunings = world.tunings;
-    let before = world.slots;
-    let moved = move_ticked(before, sides, tiles, tuning_of(tunings))?;
+    let moved = move_ticked(world.slots, sides, tiles, tuning_of(world.tunings))?;
     let slots = moved.slots;
     let records = moved.records;
-    let left = remove_dying(World { slots, tunings }, sides, tiles);
-    let next = left.world;
-    let removed = left.removed;
-    Ok(AfterStep {
-        world: next,
-        records,
-        removed,
-    })
+    world.slots = slots;
+    let removed = remove_dying(world, sides, tiles);
+    Ok(Records { records, removed })
 }
 
 // All tick, then all move.

@@ -3,8 +3,7 @@ use mathlib.Core.Path.{◌≡◌, refl, sym, ap, ◌∙◌}
 use Prim.Native.Nat.{ℕ}
 use borrow.Author.Rules.{rules}
 use Rattle.character.specs.Tick.{seats}
-use Rattle.world.specs.Step.{stepped}
-use Rattle.world_numbers.specs.Decoding.{decoding}
+use Rattle.world.specs.Step.{stepped_in}
 use Rattle.send_calls.specs.Sending.{sent_in}
 use Rattle.send_buffers.specs.Sends.{passes, keep_sent}
 use Rattle.send_buffers.proofs.Kept.{count_fits, number_same, no_world, no_sender, no_room, all_room, none_passed, all_passed}
@@ -33,4 +32,4 @@ returns c =
     let s = c.send-called in
     let a = c.args in
     let e = all_room a.world.now (record { sender = a.sender.now; passed = a.passed.now; count = a.count.now }) c.if-world-ne-WORLD.false c.if-sender-ne-SENDER.false c.if-passed-ne-PASSED.false in
-    (rw (sym e) refl, all_passed a.call a.world.now (record { sender = a.sender.now; passed = a.passed.now; count = a.count.now }) (stepped seats (decoding seats a.world.now) s.result.answer) s.result.sending _ e (rw c.decode.ensures at s.ensures.0) (rw (c.decode.ensures, c.decode_copies.ensures) at s.ensures.1) (ap (λ (k : ℕ). keep_sent (record { sender = a.sender.now; passed = a.passed.now; count = a.count.now }) k (sent_in s.result.sending)) (sym (number_same (decoding seats a.world.now) s.result.answer)) ∙ t.ensures))
+    (rw (sym e) refl, all_passed a.call a.world.now (record { sender = a.sender.now; passed = a.passed.now; count = a.count.now }) (stepped_in seats s.new.world s.result.answer) s.result.sending _ e (rw c.decode-next.ensures at s.ensures.0) (rw (c.decode-next.ensures, c.decode_copies.ensures) at s.ensures.1) (ap (λ (k : ℕ). keep_sent (record { sender = a.sender.now; passed = a.passed.now; count = a.count.now }) k (sent_in s.result.sending)) (sym (number_same s.new.world s.result.answer)) ∙ t.ensures))

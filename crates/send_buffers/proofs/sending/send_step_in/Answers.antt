@@ -3,8 +3,7 @@ use borrow.Author.Rules.{rules}
 use Rattle.std.specs.Prelude.{Ok, Err}
 use Rattle.std.proofs.lemmas.Result.{err_from_is_err_and}
 use Rattle.character.specs.Tick.{seats}
-use Rattle.world.specs.Step.{stepped}
-use Rattle.world_numbers.specs.Decoding.{decoding}
+use Rattle.world.specs.Step.{stepped_in}
 use Rattle.world.specs.Answered.{Stepped}
 use Rattle.world_buffers.specs.Leaving.{ListsSeats}
 use Rattle.world_buffers.proofs.Listed.{step_lists}
@@ -32,21 +31,21 @@ keep_sent-requires c =
 
 pub write_step-requires : goal.write_step-requires
 write_step-requires c =
-    let e = rw c.in_ok-after.was at c.send-called.ensures.0 in
+    let e = rw c.in_ok-told.was at c.send-called.ensures.0 in
     (c.if-world-ne-WORLD.false, c.if-records-ne-RECORDS.false, c.if-removed-ne-SEATS.false, subst (λ (a : Stepped). ListsSeats a.removed) (sym e) (step_lists _ _ _))
 
-pub returns-in_err-after : goal.returns-in_err-after
-returns-in_err-after c n =
+pub returns-in_err-told : goal.returns-in_err-told
+returns-in_err-told c n =
     let a = c.args in
     let s = c.send-called in
-    let w = decoding seats a.world.now in
-    let e = c.in_err-after.field-0.0 in
+    let w = s.new.world in
+    let e = c.in_err-told.field-0.0 in
     let p = err_from_is_err_and c.from_residual.result c.from_residual.ensures.1 in
-    rw (p.1, p.2) (step_right a.sides a.tiles.now a.world.now (record { records = a.records.now; removed = a.removed.now; count = n }) (record { sender = a.sender.now; passed = a.passed.now; count = a.count.now }) c.if-world-ne-WORLD.false c.if-records-ne-RECORDS.false c.if-removed-ne-SEATS.false (stepped seats w (Err e)) s.result.sending _ _ c.if-sender-ne-SENDER.false c.if-passed-ne-PASSED.false (rw (c.decode.ensures, c.in_err-after.was) at s.ensures.0) (rw (c.decode.ensures, c.decode_copies.ensures) at s.ensures.1) (step-refused a.world.now (record { records = a.records.now; removed = a.removed.now; count = n }) (stepped seats w (Err e)) (numbered e)) (rw c.in_err-after.was at c.keep_sent.ensures))
+    rw (p.1, p.2) (step_right a.sides a.tiles.now a.world.now (record { records = a.records.now; removed = a.removed.now; count = n }) (record { sender = a.sender.now; passed = a.passed.now; count = a.count.now }) c.if-world-ne-WORLD.false c.if-records-ne-RECORDS.false c.if-removed-ne-SEATS.false (stepped_in seats w (Err e)) s.result.sending _ _ c.if-sender-ne-SENDER.false c.if-passed-ne-PASSED.false (rw (c.decode-next.ensures, c.in_err-told.was) at s.ensures.0) (rw (c.decode-next.ensures, c.decode_copies.ensures) at s.ensures.1) (step-refused a.world.now (record { records = a.records.now; removed = a.removed.now; count = n }) (stepped_in seats w (Err e)) (numbered e)) (rw c.in_err-told.was at c.keep_sent.ensures))
 
 pub returns : goal.returns
 returns c n =
     let a = c.args in
     let s = c.send-called in
-    let w = decoding seats a.world.now in
-    step_right a.sides a.tiles.now a.world.now (record { records = a.records.now; removed = a.removed.now; count = n }) (record { sender = a.sender.now; passed = a.passed.now; count = a.count.now }) c.if-world-ne-WORLD.false c.if-records-ne-RECORDS.false c.if-removed-ne-SEATS.false (stepped seats w (Ok c.in_ok-after.after)) s.result.sending _ _ c.if-sender-ne-SENDER.false c.if-passed-ne-PASSED.false (rw (c.decode.ensures, c.in_ok-after.was) at s.ensures.0) (rw (c.decode.ensures, c.decode_copies.ensures) at s.ensures.1) (c.write_step.ensures n) (rw c.in_ok-after.was at c.keep_sent.ensures)
+    let w = s.new.world in
+    step_right a.sides a.tiles.now a.world.now (record { records = a.records.now; removed = a.removed.now; count = n }) (record { sender = a.sender.now; passed = a.passed.now; count = a.count.now }) c.if-world-ne-WORLD.false c.if-records-ne-RECORDS.false c.if-removed-ne-SEATS.false (stepped_in seats w (Ok c.in_ok-told.told)) s.result.sending _ _ c.if-sender-ne-SENDER.false c.if-passed-ne-PASSED.false (rw (c.decode-next.ensures, c.in_ok-told.was) at s.ensures.0) (rw (c.decode-next.ensures, c.decode_copies.ensures) at s.ensures.1) (c.write_step.ensures n) (rw c.in_ok-told.was at c.keep_sent.ensures)

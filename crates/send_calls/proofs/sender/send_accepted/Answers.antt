@@ -1,5 +1,8 @@
 use native.Mathlib.Omega.{arith}
+use Rattle.std.specs.Prelude.{Ok}
 use Rattle.num_convert.proofs.Signed.{read}
+use Rattle.character.specs.Tick.{seats}
+use Rattle.world.specs.Step.{stepped_in}
 use Rattle.send_calls.proofs.Accepted.{place_fits, sent_whole, lists-seats, step_sent}
 use Rattle.send_calls.proofs.sender.send_accepted.Goals as goal
 
@@ -9,7 +12,7 @@ overflow_cast-left c = let b = place_fits _ _ _ c.place_of-at.ensures in omega (
 pub send_removals-requires : goal.send_removals-requires
 send_removals-requires c =
     let m = c.send_messages.ensures in
-    (sent_whole _ _ m.0, m.1, lists-seats _ _ _ _ c.in-Step.is _ c.requires)
+    (sent_whole _ _ m.0, m.1, lists-seats _ _ _ _ c.in-Step.is (stepped_in seats c.args.world (Ok c.args.told)) c.requires.0 c.requires.1)
 
 pub overflow_cast-at : goal.overflow_cast-at
 overflow_cast-at c = let b = place_fits _ _ _ c.place_of-at-in-Tune.ensures in omega (arith, b)
@@ -25,7 +28,7 @@ pub returns-in-Input : goal.returns-in-Input
 returns-in-Input c = simp (c.in-Input.is, c.send_nothing-in-Input.ensures)
 
 pub returns-in-Step : goal.returns-in-Step
-returns-in-Step c = step_sent _ _ _ _ c.in-Step.is _ c.requires _ _ _ c.send_messages.ensures.0 c.send_removals.ensures
+returns-in-Step c = step_sent _ _ _ _ c.in-Step.is (stepped_in seats c.args.world (Ok c.args.told)) c.requires.0 c.requires.1 _ _ _ c.send_messages.ensures.0 c.send_removals.ensures
 
 pub returns-in-Tune : goal.returns-in-Tune
 returns-in-Tune c =

@@ -61,5 +61,5 @@ pub returns : goal.returns
 unfolding send_messages
 returns c =
     let a = c.args in
-    let l = sends_last a.world.slots a.after.records _ _ _ _ _ c.loop-k.invariant c.loop-k-test.false in
-    (l.0 ∙ ap (λ (cs : List Copy). sending_of seats (fold (turn a.world.slots a.after.records cs) seats 0 (record { copies = cs; passed = Mark ∷ [] }))) c.step_copies-all.ensures, l.1)
+    let l = sends_last a.world.slots a.told.records _ _ _ _ _ c.loop-k.invariant c.loop-k-test.false in
+    (l.0 ∙ ap (λ (cs : List Copy). sending_of seats (fold (turn a.world.slots a.told.records cs) seats 0 (record { copies = cs; passed = Mark ∷ [] }))) c.step_copies-all.ensures, l.1)

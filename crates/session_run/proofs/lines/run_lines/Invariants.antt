@@ -6,7 +6,7 @@ use Rattle.session_run.proofs.Due.{most_left}
 use Rattle.session_run.proofs.lines.run_lines.Given as goal
 
 abbrev pub invariant-loop-sides : goal.invariant-loop-sides
-invariant-loop-sides l = LinesRan seats l.text l.sides l.tiles l.initial.turned.session l.initial.buf 0 l.turned.session l.buf l.turned.next × (length l.buf ≡ length l.initial.buf)
+invariant-loop-sides l = LinesRan seats l.text l.sides l.tiles l.initial.session l.initial.buf 0 l.session l.buf l.next × (length l.buf ≡ length l.initial.buf)
 
 abbrev pub decreases-loop-sides : goal.decreases-loop-sides
-decreases-loop-sides l = most_left l.turned.session
+decreases-loop-sides l = most_left l.session

@@ -2,10 +2,9 @@ use mir.Facts.{to_z-of_z}
 use mathlib.Core.Bool.{cond}
 use mathlib.Core.List.{List, [], ◌∷◌}
 use mathlib.Core.Path.{◌≡◌, refl, ap, ap₂, ◌∙◌}
-use Rattle.std.specs.Prelude.{replicate, get_or}
-use Rattle.base_turns.proofs.Kept.{fold-kept}
+use Rattle.std.specs.Prelude.{replicate}
 use Rattle.world.specs.Step.{unpublished}
-use Prim.Native.Nat.{ℕ, zero, suc, ◌≤◌}
+use Prim.Native.Nat.{ℕ, ◌≤◌}
 use native.Mathlib.Omega.{arith}
 use lib.Dec.{eqb}
 use lib.IntN.{ℤ, pos}
@@ -17,11 +16,11 @@ use mir.Syntax.{w32}
 use mir.Val.{to_z}
 use Rattle.game_refusals.specs.Refusals.{number_of}
 use Rattle.game_refusals.specs.declared.Refusal.{Refusal}
-use Rattle.game_refusals.specs.declared.Refusal.TheVariants.{BadMap, BadId, BadTuning, OutOfReach, NotClear, BadText, Present, Absent, TooFar, TickTooLarge, BytesEnd, BadBytes, NotAllowed, BadArea, BadTrial, BadHold, BadLength}
 use Rattle.text_writing.specs.Output.{answer_bytes}
 use Rattle.text_writing.specs.Put.{Put}
 use Rattle.text_writing.proofs.Sizes.{put_as, put-after}
-use Rattle.text_writing.specs.Answers.{line_turn, record_lines, told_bytes}
+use Rattle.text_writing.specs.Answers.{record_lines, told_bytes}
+use Rattle.text_writing.proofs.Unrecorded.{no_lines, number_as_signed}
 use Rattle.text_writing.proofs.answers.put_told.Goals as goal
 
 -- no record: the place is as before, and the answer stands there
@@ -32,37 +31,6 @@ none_told (x ∷ l) a h q p r = let z = p.place in absurd (omega arith)
 some_told : {d e : List ℕ} {at end : ℕ} (l a : List ℕ) → (end ≡ at → ⊥) → Put d at l e end → Put d at (cond (eqb (length l) 0) a l) e end
 some_told l a h p = rw (ne_eqb (length l) 0 (λ q. h (p.place ∙ omega arith))) p
 
--- a refusal has no record
-no_record : (n k : ℕ) → get_or (replicate n unpublished) k unpublished ≡ unpublished
-no_record zero k = refl
-no_record (suc n) zero = refl
-no_record (suc n) (suc k) = no_record n k
-
-no_lines : (n : ℕ) (call : ℤ) → record_lines n call (replicate n unpublished) ≡ []
-unfolding record_lines
-no_lines n call = fold-kept (line_turn call (replicate n unpublished)) (λ w. w ≡ []) (λ k w e. rw (no_record n k) e) n 0 [] refl
-
--- the number of a refusal, as it is written
-number_as_signed : (r : Refusal) → to_z w32 (number_of r) ≡ cast_signed (number_of r)
-unfolding cast_signed
-number_as_signed BadMap = refl
-number_as_signed BadId = refl
-number_as_signed BadTuning = refl
-number_as_signed OutOfReach = refl
-number_as_signed NotClear = refl
-number_as_signed BadText = refl
-number_as_signed Present = refl
-number_as_signed Absent = refl
-number_as_signed TooFar = refl
-number_as_signed TickTooLarge = refl
-number_as_signed BytesEnd = refl
-number_as_signed BadBytes = refl
-number_as_signed NotAllowed = refl
-number_as_signed BadArea = refl
-number_as_signed BadTrial = refl
-number_as_signed BadHold = refl
-number_as_signed BadLength = refl
-
 refused_told : (call : ℤ) (r : Refusal) → answer_bytes call (to_z w32 (number_of r)) ≡ told_bytes seats call (record { number = number_of r; records = replicate seats unpublished; removed = [] })
 unfolding told_bytes
 refused_told call r = rw (no_lines seats call, number_as_signed r) refl
@@ -71,7 +39,7 @@ pub returns-then-end-at : goal.returns-then-end-at
 unfolding told_bytes cast_signed
 returns-then-end-at c = λ w.
     let a = c.args in
-    let rs = c.in-Ok.after.records in
+    let rs = c.in-Ok.told.records in
     rw c.in-Ok.is (none_told (record_lines seats a.call rs) (answer_bytes a.call (pos 0)) (omega (arith, c.requires)) c.if-end-at.true
     (put_as (ap (λ (z : ℤ). record_lines seats z rs) (to_z-of_z c.ranges.call)) refl c.put_records-end.ensures)
     (put_as (ap (λ (z : ℤ). answer_bytes z (pos 0)) (to_z-of_z c.ranges.call)) refl c.put_answer.ensures))
@@ -80,7 +48,7 @@ pub returns-else-end-at : goal.returns-else-end-at
 unfolding told_bytes
 returns-else-end-at c = λ w.
     let a = c.args in
-    let rs = c.in-Ok.after.records in
+    let rs = c.in-Ok.told.records in
     rw c.in-Ok.is (some_told (record_lines seats a.call rs) _ c.if-end-at.false (put_as (ap (λ (z : ℤ). record_lines seats z rs) (to_z-of_z c.ranges.call)) refl c.put_records-end.ensures))
 
 pub returns-in-Err : goal.returns-in-Err

@@ -18,7 +18,7 @@ taken_is c = c.may_tune.ensures ∙ ap₂ may_tune (place_is c.before.before) (t
 pub returns-then-may_tune : goal.returns-then-may_tune
 unfolding tune
 returns-then-may_tune c =
-    let m = c.before.before in
+    let m = c.before.before.before in
     simp (sym (taken_is m) ∙ c.if-may_tune.true, ← place_is m.before.before, lt-ltb _ _ m.if-at-lt-TUNINGS.true, c.with_tuning.ensures, to_z-of_z m.ranges.value)
 
 pub returns-then-at-lt-TUNINGS : goal.returns-then-at-lt-TUNINGS

@@ -15,7 +15,7 @@ use Rattle.world.specs.Calls.{vacate}
 use Rattle.world.specs.Removal.{ids_of, dies, dying, remove_all, listed}
 use Rattle.world.specs.declared.World.{World}
 use Rattle.world_step.proofs.Listed.{as_i32, ids_more, ids_same, removed_last, Listing, none_listed, listed_now, listing-fits, listing-more, listing-same}
-use Rattle.world_step.proofs.removing.remove_dying.Goals.{After-vacate-next}
+use Rattle.world_step.proofs.removing.remove_dying.Goals.{After-vacate}
 use Rattle.world_step.proofs.removing.remove_dying.Invariants.{up_to, Removing}
 use Rattle.world_step.proofs.removing.remove_dying.Goals.{then-slot+then-on_deadly, then-slot+else-on_deadly, else-slot}
 use Rattle.world_step.proofs.removing.remove_dying.Goals as goal
@@ -51,10 +51,10 @@ bounds-slots-j c = omega arith
 pub on_deadly-requires : goal.on_deadly-requires
 on_deadly-requires c = c.requires
 
-pub vacate-next-requires : goal.vacate-next-requires
-vacate-next-requires c = c.loop-j-test.true
+pub vacate-requires : goal.vacate-requires
+vacate-requires c = c.loop-j-test.true
 
-below : (c : After-vacate-next) → c.loop-j.count < seats
+below : (c : After-vacate) → c.loop-j.count < seats
 below c = let l = c.loop-j in listing-fits _ seats l.j l.ids l.count l.invariant.list c.loop-j-test.true
 
 pub offset_bounds-ids-count : goal.offset_bounds-ids-count
@@ -77,13 +77,13 @@ loop-j-preserved c =
     let a = c.args in
     let l = c.loop-j in
     let h = c.loop-j-test.true in
-    let n = c.if-slot.next in
+    let n = c.if-slot.world in
     let is = c.if-slot.ids in
     let k = c.if-slot.count in
     elim c.if-slot.branch [
-      | then-slot+then-on_deadly w ↦ dead a.sides a.tiles.now a.world.slots a.world l.j l.next l.ids l.count l.invariant h n is k (on_spikes a.sides a.tiles.now a.world.slots a.world l.j l.next l.ids l.count l.invariant h true w.on_deadly.result w.if-slot.true w.on_deadly.ensures w.if-on_deadly.true) (w.next-is ∙ w.vacate-next.ensures) (w.ids-is ∙ ap (λ (z : ℤ). set l.ids l.count z) (as_i32 l.j h)) w.count-is
-      | then-slot+else-on_deadly w ↦ alive a.sides a.tiles.now a.world.slots a.world l.j l.next l.ids l.count l.invariant h n is k (on_spikes a.sides a.tiles.now a.world.slots a.world l.j l.next l.ids l.count l.invariant h false w.on_deadly.result w.if-slot.true w.on_deadly.ensures w.if-on_deadly.false) w.next-is w.ids-is w.count-is
-      | else-slot w ↦ alive a.sides a.tiles.now a.world.slots a.world l.j l.next l.ids l.count l.invariant h n is k (nobody a.sides a.tiles.now a.world.slots a.world l.j l.next l.ids l.count l.invariant h w.if-slot.false) w.next-is w.ids-is w.count-is
+      | then-slot+then-on_deadly w ↦ dead a.sides a.tiles.now a.world.now.slots a.world.now l.j l.world l.ids l.count l.invariant h n is k (on_spikes a.sides a.tiles.now a.world.now.slots a.world.now l.j l.world l.ids l.count l.invariant h true w.on_deadly.result w.if-slot.true w.on_deadly.ensures w.if-on_deadly.true) (w.world-is ∙ w.vacate.ensures) (w.ids-is ∙ ap (λ (z : ℤ). set l.ids l.count z) (as_i32 l.j h)) w.count-is
+      | then-slot+else-on_deadly w ↦ alive a.sides a.tiles.now a.world.now.slots a.world.now l.j l.world l.ids l.count l.invariant h n is k (on_spikes a.sides a.tiles.now a.world.now.slots a.world.now l.j l.world l.ids l.count l.invariant h false w.on_deadly.result w.if-slot.true w.on_deadly.ensures w.if-on_deadly.false) w.world-is w.ids-is w.count-is
+      | else-slot w ↦ alive a.sides a.tiles.now a.world.now.slots a.world.now l.j l.world l.ids l.count l.invariant h n is k (nobody a.sides a.tiles.now a.world.now.slots a.world.now l.j l.world l.ids l.count l.invariant h w.if-slot.false) w.world-is w.ids-is w.count-is
     ]
 
 pub returns : goal.returns
@@ -92,4 +92,4 @@ returns c =
     let i = c.loop-j.invariant in
     let e : c.loop-j.j ≡ seats = (let h = c.loop-j-test.false in let g = i.list.within in omega arith) in
     let s = c.args in
-    (i.world_is ∙ ap (λ (j : ℕ). remove_all s.world (up_to s.sides s.tiles.now s.world.slots s.world j)) e, listed_now _ seats _ _ _ i.list ∙ ap (λ (j : ℕ). listed seats (up_to s.sides s.tiles.now s.world.slots s.world j)) e)
+    (i.world_is ∙ ap (λ (j : ℕ). remove_all s.world.now (up_to s.sides s.tiles.now s.world.now.slots s.world.now j)) e, listed_now _ seats _ _ _ i.list ∙ ap (λ (j : ℕ). listed seats (up_to s.sides s.tiles.now s.world.now.slots s.world.now j)) e)

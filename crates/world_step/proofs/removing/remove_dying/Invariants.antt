@@ -28,7 +28,7 @@ module _ (s : Sides) (ts : List ℕ) (ss : List Slot) (w : World) where
     pub world_is : next ≡ remove_all w (up_to j)
 
 abbrev pub invariant-loop-j : goal.invariant-loop-j
-invariant-loop-j l = Removing l.sides l.tiles l.slots l.initial.next l.j l.next l.ids l.count
+invariant-loop-j l = Removing l.sides l.tiles l.slots l.initial.world l.j l.world l.ids l.count
 
 abbrev pub decreases-loop-j : goal.decreases-loop-j
 decreases-loop-j l = seats - l.j

@@ -11,5 +11,5 @@ returns-in_err-moved c =
 pub returns : goal.returns
 unfolding step_on
 returns c =
-    let d = c.remove_dying-left.ensures in
+    let d = c.remove_dying-removed.ensures in
     simp (← c.tuning_of.ensures, c.move_ticked.ensures, c.in_ok-moved.was, d.0, d.1)

@@ -1,7 +1,7 @@
 use mathlib.Core.Path.{sym, ◌∙◌, subst}
 use lib.Dec.{T}
 use Rattle.world.specs.Step.{step}
-use Rattle.world_step.proofs.steps.step.Goals as goal
+use Rattle.world_step.proofs.steps.make_step.Goals as goal
 
 pub step_on-requires : goal.step_on-requires
 step_on-requires c = subst T (sym c.if-is_map.true ∙ c.is_map.ensures) tt
