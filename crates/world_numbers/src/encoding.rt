@@ -88,6 +88,8 @@ fn seat_numbers(slot: Slot) -> [i32; SEAT]
     [0i32; SEAT]
 }
 
+// Inlined, so that a world that is made for it is not copied for the call.
+#[inline(always)]
 pub fn encode(world: World, numbers: &mut [i32])
     requires { length numbers.old ≡ world_count }
     ensures { numbers.new ≡ encoding world }
