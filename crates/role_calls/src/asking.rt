@@ -30,7 +30,7 @@ pub fn call_as(
     Err(Refusal::NotAllowed)
 }
 
-// The same in place: a refusal leaves the world as it was.
+// A call in place, by a role. A refusal leaves the world as it was.
 pub fn make_call_as(
     role: Role,
     world: &mut World,
@@ -46,7 +46,7 @@ pub fn make_call_as(
     Err(Refusal::NotAllowed)
 }
 
-// The same for any call but a step.
+// A join, leave, input or tune in place, by a role. A refusal leaves the world as it was.
 pub fn change_as(
     role: Role,
     world: &mut World,

@@ -48,7 +48,7 @@ number_as_signed BadTrial = refl
 number_as_signed BadHold = refl
 number_as_signed BadLength = refl
 
--- the same of an answer
+-- the number of an answer, as it is written
 pub answer_as_signed : {A : Type 0} (r : Result A Refusal) → to_z w32 (number_of_answer r) ≡ cast_signed (number_of_answer r)
 unfolding cast_signed
 answer_as_signed (Ok a) = refl

@@ -18,6 +18,6 @@ pub record Stepped : Type 0 where
   pub records : List Published
   pub removed : Removed
 
--- the same of a call on a world that it is lent: w is what it leaves there
+-- the Answer of a call made in place, where w is the world after it
 abbrev pub answered : {A : Type 0} → World → Result A Refusal → Answer
 answered w r = record { number = number_of_answer r; world = w }

@@ -95,12 +95,12 @@ turned f (Err e) = stop (number_of e)
 abbrev pub step_refused : ℕ → World → ℕ → Stepped
 step_refused n w k = record { number = k; world = w; records = replicate n unpublished; removed = listed n [] }
 
--- the same of a call that answers what it leaves or a refusal
+-- the Stepped of a call by value, where w is the world before it
 abbrev pub stepped : ℕ → World → Result AfterStep Refusal → Stepped
 stepped n w (Ok a) = record { number = 0; world = a.world; records = a.records; removed = a.removed }
 stepped n w (Err refusal) = step_refused n w (number_of refusal)
 
--- the same of a call on a world that it is lent: w is what it leaves there
+-- the Stepped of a call made in place, where w is the world after it
 abbrev pub stepped_in : ℕ → World → Result Records Refusal → Stepped
 stepped_in n w (Ok a) = record { number = 0; world = w; records = a.records; removed = a.removed }
 stepped_in n w (Err refusal) = step_refused n w (number_of refusal)

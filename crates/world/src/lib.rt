@@ -32,14 +32,14 @@ pub struct Removed {
     pub ids: [i32; SEATS],
 }
 
-// What a step tells besides the world that it leaves: the records, and who is removed after they are taken.
+// The records of a step, and who is removed after they are taken.
 #[derive(Clone, Copy)]
 pub struct Records {
     pub records: [Published; SEATS],
     pub removed: Removed,
 }
 
-// The same with the world after the step.
+// The world after a step, the records, and who is removed after they are taken.
 #[derive(Clone, Copy)]
 pub struct AfterStep {
     pub world: World,

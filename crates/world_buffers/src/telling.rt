@@ -65,7 +65,7 @@ fn marks_of(slots: [Slot; SEATS]) -> [bool; SEATS]
     marks
 }
 
-// The same for the world that a step leaves outside the buffers, and what it tells.
+// Writes a step into the buffers that was made on a `World` outside them.
 pub fn write_step(
     next: World,
     told: Records,

@@ -27,7 +27,7 @@ pub record Told : Type 0 where
   pub records : List Published
   pub removed : Removed
 
--- the same of a step that tells its records or a refusal
+-- the Told of a step in the code
 abbrev pub told : Result Records Refusal → Told
 told (Ok r) = record { number = 0; records = r.records; removed = r.removed }
 told (Err refusal) = record { number = number_of refusal; records = replicate seats unpublished; removed = listed seats [] }

@@ -16,7 +16,7 @@ use world::{AfterStep, Call, Records, World};
 use world_calls::{input, leave, tune};
 use world_joins::join;
 
-// Makes a call on the world that it is lent. A refusal leaves that as it was.
+// A call in place. A refusal leaves the world as it was.
 pub fn make_call(
     world: &mut World,
     sides: Sides,
@@ -34,7 +34,7 @@ pub fn make_call(
     }
 }
 
-// The same for any call but a step: nothing is recorded, and nobody removed.
+// A join, leave, input or tune in place: nothing is recorded, and nobody removed.
 pub fn change(world: &mut World, sides: Sides, tiles: &[u8], call: Call) -> Result<(), Refusal>
     requires { IsChange call }
     ensures { without_records seats (answered world.new result) ≡ ran seats sides tiles.now world.old call }

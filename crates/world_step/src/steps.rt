@@ -15,6 +15,7 @@ use map_tiles::{Sides, is_map};
 use world::{Published, Records, World};
 use world_ticks::tick_all;
 
+// A step in place. A refusal leaves the world as it was.
 pub fn make_step(world: &mut World, sides: Sides, tiles: &[u8]) -> Result<Records, Refusal>
     ensures { stepped_in seats world.new result ≡ step seats world.old sides tiles.now }
 {
@@ -30,7 +31,7 @@ pub fn no_records() -> [Published; SEATS]
     [unpublished(); SEATS]
 }
 
-// The same for a map that is one.
+// A step on a valid map.
 fn step_on(world: &mut World, sides: Sides, tiles: &[u8]) -> Result<Records, Refusal>
     requires { T (is_map sides tiles.now) }
     ensures { stepped_in seats world.new result ≡ step_on seats world.old sides tiles.now }
