@@ -13,7 +13,7 @@ use map_tiles::Sides;
 use role_rule::{Ask, Role};
 use world::{AfterStep, Call, Query, Reading, Records, World};
 use world_calls::read;
-use world_step::{change, make_call, run_call};
+use world_step::{make_call, make_change, run_call};
 
 pub fn call_as(
     role: Role,
@@ -47,7 +47,7 @@ pub fn make_call_as(
 }
 
 // A join, leave, input or tune in place, by a role. A refusal leaves the world as it was.
-pub fn change_as(
+pub fn make_change_as(
     role: Role,
     world: &mut World,
     sides: Sides,
@@ -58,7 +58,7 @@ pub fn change_as(
     ensures { without_records seats (answered world.new result) ≡ called_as seats role sides tiles.now world.old call }
 {
     if allowed(role, Ask::Call(call)) {
-        return change(world, sides, tiles, call);
+        return make_change(world, sides, tiles, call);
     }
     Err(Refusal::NotAllowed)
 }

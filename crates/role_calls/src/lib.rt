@@ -4,5 +4,5 @@
 mod asking;
 mod numbers;
 
-pub use asking::{call_as, change_as, make_call_as, read_as};
+pub use asking::{call_as, make_call_as, make_change_as, read_as};
 pub use numbers::may_ask;

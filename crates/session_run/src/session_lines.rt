@@ -10,7 +10,7 @@ ghost use Rattle.session_run.specs.Session.{most_calls};
 
 use game_refusals::{Refusal, number_of_answer};
 use map_tiles::Sides;
-use role_calls::{change_as, make_call_as};
+use role_calls::{make_call_as, make_change_as};
 use role_rule::Role;
 use text_reading::next_call;
 use text_writing::{put_answer, put_told};
@@ -83,7 +83,7 @@ fn put_call(
             put_told(buf, at, call, answer)
         }
         _ => {
-            let number = number_of_answer(change_as(Role::Referee, world, sides, tiles, line));
+            let number = number_of_answer(make_change_as(Role::Referee, world, sides, tiles, line));
             put_answer(buf, at, call, number as i32)
         }
     }

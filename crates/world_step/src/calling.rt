@@ -28,14 +28,14 @@ pub fn make_call(
     match call {
         Call::Step => make_step(world, sides, tiles),
         _ => {
-            change(world, sides, tiles, call)?;
+            make_change(world, sides, tiles, call)?;
             Ok(nothing_told())
         }
     }
 }
 
 // A join, leave, input or tune in place: nothing is recorded, and nobody removed.
-pub fn change(world: &mut World, sides: Sides, tiles: &[u8], call: Call) -> Result<(), Refusal>
+pub fn make_change(world: &mut World, sides: Sides, tiles: &[u8], call: Call) -> Result<(), Refusal>
     requires { IsChange call }
     ensures { without_records seats (answered world.new result) ≡ ran seats sides tiles.now world.old call }
 {

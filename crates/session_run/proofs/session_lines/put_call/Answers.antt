@@ -13,7 +13,7 @@ use Rattle.session_run.proofs.session_lines.put_call.Goals as goal
 
 pub returns-in_default : goal.returns-in_default
 returns-in_default c =
-    let r = c.change_as in
+    let r = c.make_change_as in
     let number = ap (to_z w32) c.number_of_answer-number.ensures ∙ answer_as_signed r.result in
     let told = sym (unrecorded_told seats c.args.call (answered r.new.world r.result)) ∙ ap (λ (a : Stepped). told_bytes seats c.args.call (told_by a)) r.ensures in
     (ap (λ (a : Stepped). a.world) r.ensures, put_as (ap₂ answer_bytes (to_z-of_z c.ranges.call) number ∙ told) refl c.put_answer.ensures)

@@ -1,1 +1,0 @@
-use Rattle.world_step.proofs.calling.change.Goals as goal

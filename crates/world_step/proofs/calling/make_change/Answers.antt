@@ -1,0 +1,1 @@
+use Rattle.world_step.proofs.calling.make_change.Goals as goal
