@@ -9,7 +9,7 @@
  * A call reads and writes what it is lent and keeps nothing, so any thread may make any call
  * at any time, as long as no two at once are lent what one of them writes. It allocates nothing.
  * Of the stack a step needs 14 KB at most, a receive 43 KB, a search and a trial 37 KB, a call
- * through a sender 220 KB, every other call 12 KB.
+ * through a sender 165 KB, every other call 12 KB.
  *
  * Time, measured before the compiler changed: a step of 64 players takes 30 microseconds in play.
  * The slowest found by legal calls, which is no bound, takes 12 to 17 ms, also through a sender, a

@@ -30,7 +30,7 @@
 //!   built, else in `lib` beside the manifest, as in a package.
 //! - **`no_std`**, with `alloc` for [`Totals`], [`Trial`] and [`Passed::numbers`].
 //! - **Stack**: a step needs 14 KB at most, [`Screen::receive`] 43 KB, a search and a trial 37 KB, a
-//!   call through a [`Sender`] 220 KB, every other call 12 KB; beside them what the types here are
+//!   call through a [`Sender`] 165 KB, every other call 12 KB; beside them what the types here are
 //!   themselves: a [`World`] 6 KB, [`Records`] 4.5 KB, a [`Sender`] and a [`Screen`] 6 KB each,
 //!   [`PassedAlong`] 11 KB.
 //! - **Time**, measured before the compiler changed: a step of 64 players takes 30 µs in play.
