@@ -33,7 +33,8 @@ use Rattle.world_buffers.specs.Stepping.{StepBuffers, LeftByStep, left_by_step}
 use Rattle.world_buffers.proofs.StepAnswers.{right_lengths}
 use Rattle.send_buffers.specs.Sends.{fresh_buffer, SenderBuffers, keep_sent, passes, room_in, passed_in, send_in, send_step_in}
 use Rattle.game_refusals.specs.Refusals.{number_of_answer}
-use Rattle.world.specs.Step.{stepped_in}
+use Rattle.world.specs.Step.{stepped, stepped_in}
+use Rattle.world.specs.declared.AfterStep.{AfterStep}
 use Rattle.world.specs.declared.Records.{Records}
 use Rattle.world.specs.declared.World.{World}
 
@@ -57,10 +58,14 @@ module _ (b : SenderBuffers) (number : ℕ) (m : Sent) where
   unfolding keep_sent
   sent_left z = rw (ne_eqb number 0 z)
 
--- the number of a call's answer
-pub number_same : (w : World) (r : Result Records Refusal) → number_of_answer r ≡ (stepped_in seats w r).number
+-- the number of a call's answer, by value and in place
+pub number_same : (w : World) (r : Result AfterStep Refusal) → number_of_answer r ≡ (stepped seats w r).number
 number_same w (Ok a) = refl
 number_same w (Err e) = refl
+
+pub number_same_in : (w : World) (r : Result Records Refusal) → number_of_answer r ≡ (stepped_in seats w r).number
+number_same_in w (Ok a) = refl
+number_same_in w (Err e) = refl
 
 -- what finds room in an array is no more than that
 pub count_fits : (m : Sent) (x : Sending) → x ≡ sending_of seats m → length x.items ≡ most_passed seats → x.count ≤ most_passed seats

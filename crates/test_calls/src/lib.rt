@@ -1,6 +1,9 @@
 // Recorded calls on a world: a line is n or c, the map's sides and 64 tiles, then twelve words, of which the first ten say what is called and answered.
 #![tactic(auto)]
 
+#[cfg(test)]
+mod tests;
+
 use character::SEATS;
 use game_refusals::Refusal;
 use map_tiles::Sides;

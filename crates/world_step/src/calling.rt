@@ -92,6 +92,16 @@ pub fn run_call(
     })
 }
 
+// The world after a call by value. A refused call leaves it as it was.
+pub fn world_after(world: World, answer: Result<AfterStep, Refusal>) -> World
+    ensures { result ≡ (stepped seats world answer).world }
+{
+    match answer {
+        Ok(after) => after.world,
+        Err(_) => world,
+    }
+}
+
 pub fn step(world: World, sides: Sides, tiles: &[u8]) -> Result<AfterStep, Refusal>
     ensures { stepped seats world result ≡ step seats world sides tiles.now }
 {

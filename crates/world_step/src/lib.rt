@@ -6,5 +6,5 @@ mod moving;
 mod removing;
 mod steps;
 
-pub use calling::{make_call, make_change, run_call, step};
+pub use calling::{make_call, make_change, run_call, step, world_after};
 pub use moving::unpublished;
